@@ -1,0 +1,5 @@
+pub mod Back
+pub mod Ids
+pub mod Message
+pub mod Pieces
+pub mod Shown
