@@ -1,0 +1,15 @@
+pub mod Sections
+pub mod LineSteady
+pub mod ItemsByLine
+pub mod CallLists
+pub mod LengthParse
+pub mod HeaderByHeader
+pub mod FirstPlace
+pub mod TypeParts
+pub mod RestLast
+pub mod ToldGrows
+pub mod LineMoves
+pub mod Searched
+pub mod WhatIsLeft
+pub mod DecimalText
+pub mod FramesRead

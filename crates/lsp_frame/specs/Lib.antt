@@ -1,0 +1,11 @@
+pub mod Faults
+pub mod Blocks
+pub mod NoSpan
+pub mod Headers
+pub mod Lines
+pub mod Items
+pub mod Frames
+pub mod Shown
+pub mod Calls
+pub mod Laws
+pub mod Codec

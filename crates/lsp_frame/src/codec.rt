@@ -1,0 +1,134 @@
+// The codec.
+ghost use Rattle.std.specs.Prelude.{◌≡◌, ◌↔◌, ◌++◌, [], ◌∷◌, ℕ, List, IfOk, IfSome, OnOk, OnErr, None, option_map, false};
+ghost use Rattle.lsp_rpc.specs.Back.{IsReadable};
+ghost use Rattle.lsp_rpc.specs.Message.{message_has_float};
+ghost use Rattle.lsp_rpc.specs.Shown.{show_message};
+ghost use Rattle.lsp_frame.specs.Lines.{fault, message as message_item};
+ghost use Rattle.lsp_frame.specs.Items.{start, more, items, items_at, told_at, with_item};
+ghost use Rattle.lsp_frame.specs.Frames.{frame_text};
+ghost use Rattle.lsp_frame.specs.Shown.{shown, show_found, IsFloatFree, IsFoundFloatFree};
+
+use crate::body::Found;
+use crate::encode::push_frame;
+use crate::kind::Kind;
+use crate::next::find_next;
+use crate::parse_error::ParseError;
+use bytes::BytesMut;
+use lsp_rpc::Message;
+use no_memory::NoMemory;
+use std::alloc::Global;
+use std::marker::Model;
+
+/// What the bytes fed tell next.
+#[derive(Drop)]
+pub enum Decoded {
+    /// A message.
+    Item(Message),
+    /// A stretch that gives no message.
+    Fault(ParseError),
+    /// All is told that the bytes fed tell.
+    More,
+}
+
+// What is answered where this item comes next.
+fn answer_of(item: Option<Found>) -> Decoded
+    ensures value { shown result ≡ option_map show_found item }
+    ensures floats { IsFoundFloatFree item → IsFloatFree result }
+{
+    match item {
+        Some(Found::Message(message)) => Decoded::Item(message),
+        Some(Found::Fault(fault)) => Decoded::Fault(fault),
+        None => Decoded::More,
+    }
+}
+
+/// Reads messages from bytes that come in pieces, and writes messages, each in its frame.
+///
+/// A contract sees the bytes held and the kind of line that comes next. After `NoMemory` nothing
+/// has changed, and the call may be made again.
+#[derive(Drop)]
+pub struct LanguageServerCodec {
+    bytes: BytesMut,
+    kind: Kind,
+    alloc: Global,
+}
+
+impl Model for LanguageServerCodec {
+    ghost use Rattle.lsp_frame.specs.Items.{At};
+
+    ghost Value = { At };
+
+    ghost view = { λ s. record { kind = s.kind; held = s.bytes.items } };
+}
+
+impl LanguageServerCodec {
+    /// A codec that was fed nothing.
+    pub fn default(alloc: Global) -> LanguageServerCodec
+        ensures { result ≡ start }
+    {
+        LanguageServerCodec {
+            bytes: BytesMut::new(alloc),
+            kind: Kind::Frame,
+            alloc,
+        }
+    }
+
+    /// Appends a piece, which may be empty, to the bytes fed.
+    pub fn feed(&mut self, piece: &[u8]) -> Result<(), NoMemory>
+        ensures ok { OnOk result (self.new ≡ more self.old piece.now) }
+        ensures err { OnErr result (self.new ≡ self.old) }
+    {
+        self.bytes.extend_from_slice(piece)?;
+        Ok(())
+    }
+
+    /// The next item that the bytes fed tell, or `More` where all of them are given.
+    pub fn decode(&mut self) -> Result<Decoded, NoMemory>
+        // The item is the first of those that are left, whatever bytes may follow.
+        ensures items { IfOk result (λ d. (c : List ℕ)
+            → items_at (more self.old c) ≡ with_item (shown d) (items_at (more self.new c))) }
+        ensures told { IfOk result (λ d. (c : List ℕ)
+            → told_at (more self.old c) ≡ with_item (shown d) (told_at (more self.new c))) }
+        // `More` comes exactly where nothing is told, and then nothing is told until more is fed.
+        ensures more { IfOk result (λ d. (shown d ≡ None) ↔ (told_at self.old ≡ [])) }
+        ensures waits { IfOk result (λ d. shown d ≡ None → told_at self.new ≡ []) }
+        ensures floats { IfOk result (λ d. IsFloatFree d) }
+        ensures err { OnErr result (self.new ≡ self.old) }
+    {
+        let next = find_next(self.alloc, self.kind, self.bytes.as_slice())?;
+        self.bytes.advance(next.place);
+        self.kind = next.kind;
+        Ok(answer_of(next.item))
+    }
+
+    /// The fault of an input that ends here: `Rest` where it ends inside a frame.
+    pub fn finish(&mut self) -> Result<Option<ParseError>, NoMemory>
+        requires { told_at self.old ≡ [] }
+        ensures items { IfOk result (λ r. items_at self.old ≡ with_item (option_map fault r) []) }
+        ensures rest { IfOk result (λ r. IfSome r (λ e. e ≡ ParseError.Rest)) }
+        ensures same { self.new ≡ self.old }
+    {
+        let next = find_next(self.alloc, self.kind, self.bytes.as_slice())?;
+        if next.unfinished {
+            Ok(Some(ParseError::Rest))
+        } else {
+            Ok(None)
+        }
+    }
+
+    /// Appends the frame of the message, whose values hold no float.
+    pub fn encode(&mut self, message: &Message, out: &mut BytesMut) -> Result<(), NoMemory>
+        requires { message_has_float (show_message message.now) ≡ false }
+        ensures ok { OnOk result (out.new.items ≡ out.old.items ++ frame_text (show_message message.now)) }
+        ensures err { OnErr result (out.new.items ≡ out.old.items) }
+        ensures same { self.new ≡ self.old }
+        // What is written is read as the message alone, where the message can be read back from its
+        // text: it nests at most 127 deep, an error's data isn't null, and a code that a variant
+        // names is that variant.
+        ensures reads_back { OnOk result (IsReadable (show_message message.now)
+            → items (frame_text (show_message message.now)) ≡ message_item (show_message message.now) ∷ []) }
+    {
+        let body = message.to_text(self.alloc)?;
+        push_frame(self.alloc, body.as_str(), out)
+    }
+}
