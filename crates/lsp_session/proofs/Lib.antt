@@ -1,0 +1,3 @@
+pub mod SessionLemmas
+pub mod RunLemmas
+pub mod CountLemmas

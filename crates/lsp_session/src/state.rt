@@ -1,0 +1,28 @@
+// How far a session has come.
+use std::error::Error;
+use std::fmt;
+
+/// How far a session has come in its life cycle (LSP 3.17, "Server lifecycle").
+#[derive(Clone, Copy, Debug, PartialEq, Eq)]
+pub enum Life {
+    /// No `initialize` request has been answered with a result.
+    Uninitialized,
+    /// `initialize` was answered with a result.
+    Initialized,
+    /// A `shutdown` request was admitted.
+    ShutDown,
+    /// An `exit` notification was admitted: nothing is admitted any more.
+    Exited,
+}
+
+/// The session has ended: `exit` was admitted.
+#[derive(Clone, Copy, Debug, PartialEq, Eq)]
+pub struct ExitedError;
+
+impl fmt::Display for ExitedError {
+    fn fmt<W: fmt::Write>(&self, f: &mut fmt::Formatter<W>) -> fmt::Result {
+        f.write_str("language server has exited")
+    }
+}
+
+impl Error for ExitedError {}
