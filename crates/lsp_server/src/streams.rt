@@ -1,0 +1,77 @@
+// A reader and a writer of std as a source and a sink: the edge of what is proved.
+use crate::{Failed, Refused, Sink, Source};
+use std::io::{Read, Write};
+
+/// Reads from a reader, one call for each read.
+#[derive(Drop)]
+pub struct ReadSource<R> {
+    reader: R,
+    faults: u64,
+}
+
+impl<R: Read> ReadSource<R> {
+    /// A source whose reads have not failed.
+    pub fn new(reader: R) -> ReadSource<R> {
+        ReadSource { reader, faults: 0 }
+    }
+}
+
+impl<R: Read> Source for ReadSource<R> {
+    ghost left = { λ s. R.remaining s.reader };
+
+    ghost faults = { λ s. s.faults };
+
+    fn read(&mut self, piece: &mut [u8]) -> Result<usize, Failed> {
+        match self.reader.read(piece) {
+            Ok(n) => Ok(n),
+            Err(_) => {
+                self.faults = self.faults.saturating_add(1);
+                Err(Failed)
+            }
+        }
+    }
+}
+
+/// Writes to a writer, one call for each write and each flush. A write that takes nothing fails.
+#[derive(Drop)]
+pub struct WriteSink<W> {
+    writer: W,
+    faults: u64,
+}
+
+impl<W: Write> WriteSink<W> {
+    /// A sink whose writes have not failed.
+    pub fn new(writer: W) -> WriteSink<W> {
+        WriteSink { writer, faults: 0 }
+    }
+}
+
+impl<W: Write> Sink for WriteSink<W> {
+    ghost use Rattle.std.specs.Prelude.{None};
+
+    ghost taken = { λ s. W.contents s.writer };
+
+    ghost flushed = { λ _. None };
+
+    ghost faults = { λ s. s.faults };
+
+    fn write(&mut self, piece: &[u8]) -> Result<usize, Refused> {
+        match self.writer.write(piece) {
+            Ok(n) if n > 0 => Ok(n),
+            _ => {
+                self.faults = self.faults.saturating_add(1);
+                Err(Refused::Failed)
+            }
+        }
+    }
+
+    fn flush(&mut self) -> Result<(), Refused> {
+        match self.writer.flush() {
+            Ok(()) => Ok(()),
+            Err(_) => {
+                self.faults = self.faults.saturating_add(1);
+                Err(Refused::Failed)
+            }
+        }
+    }
+}

@@ -1,0 +1,65 @@
+// Whole frames into a sink.
+ghost use Rattle.std.specs.Prelude.{◌≡◌, ◌≤◌, ◌++◌, false, ℕ, List, map, OnOk, OnErr, IsErrOf, IfOk};
+ghost use Rattle.std.specs.Io.KnownBytes.{Appends};
+ghost use Rattle.lsp_rpc.specs.Shown.{show_message};
+ghost use Rattle.lsp_frame.specs.Codec.{frames};
+ghost use Rattle.lsp_session.specs.Session.{have_float};
+ghost use Rattle.lsp_server.specs.Outside.{Rose, IsFlushed};
+ghost use Rattle.lsp_server.specs.Written.{IsPrefixOf};
+
+use crate::{Refused, Sink};
+use bytes::BytesMut;
+use lsp_frame::LanguageServerCodec;
+use lsp_rpc::{Message, NoMemory};
+use std::alloc::Global;
+
+/// Writes and flushes the frames of the messages; where there is none, nothing is written.
+pub(crate) fn put<O: Sink>(
+    alloc: Global,
+    sink: &mut O,
+    messages: &Vec<Message>,
+) -> Result<(), Refused>
+    requires { have_float (map show_message messages.now.items) ≡ false }
+    ensures ok { OnOk result (Appends (O.taken sink.old) (O.taken sink.new) (frames (map show_message messages.now.items))) }
+    ensures part { OnErr result ((written : List ℕ) × IsPrefixOf written (frames (map show_message messages.now.items))
+        × Appends (O.taken sink.old) (O.taken sink.new) written) }
+    ensures flushed { OnOk result (IsFlushed (O.taken sink.old) (O.flushed sink.old) → IsFlushed (O.taken sink.new) (O.flushed sink.new)) }
+    ensures count { O.faults sink.old ≤ O.faults sink.new }
+    ensures cause { IsErrOf result Refused.Failed → Rose (O.faults sink.old) (O.faults sink.new) }
+{
+    if messages.is_empty() {
+        return Ok(());
+    }
+    let bytes = match encode_all(alloc, messages) {
+        Ok(bytes) => bytes,
+        Err(NoMemory) => return Err(Refused::NoMemory),
+    };
+    write_all(sink, bytes.as_slice())?;
+    sink.flush()
+}
+
+fn encode_all(alloc: Global, messages: &Vec<Message>) -> Result<BytesMut, NoMemory>
+    requires { have_float (map show_message messages.now.items) ≡ false }
+    ensures { IfOk result (λ bytes. bytes.items ≡ frames (map show_message messages.now.items)) }
+{
+    let mut codec = LanguageServerCodec::default(alloc);
+    let mut bytes = BytesMut::new(alloc);
+    for message in messages {
+        codec.encode(message, &mut bytes)?;
+    }
+    Ok(bytes)
+}
+
+fn write_all<O: Sink>(sink: &mut O, bytes: &[u8]) -> Result<(), Refused>
+    ensures ok { OnOk result (Appends (O.taken sink.old) (O.taken sink.new) bytes.now) }
+    ensures part { OnErr result ((written : List ℕ) × IsPrefixOf written bytes.now × Appends (O.taken sink.old) (O.taken sink.new) written) }
+    ensures flushed { O.flushed sink.new ≡ O.flushed sink.old }
+    ensures count { O.faults sink.old ≤ O.faults sink.new }
+    ensures cause { IsErrOf result Refused.Failed → Rose (O.faults sink.old) (O.faults sink.new) }
+{
+    let mut at = 0;
+    while at < bytes.len() {
+        at += sink.write(&bytes[at..])?;
+    }
+    Ok(())
+}
