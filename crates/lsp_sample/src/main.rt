@@ -1,6 +1,8 @@
 //! A small language server: it answers `initialize` and `shutdown`, and ends at `exit`.
 #![tactic(auto)]
 
+#[cfg(test)]
+mod round_trips;
 mod run;
 mod sample;
 #[cfg(test)]

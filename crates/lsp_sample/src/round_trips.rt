@@ -1,0 +1,130 @@
+// Messages of every kind, encoded and decoded.
+ghost use Rattle.std.specs.Prelude.{◌≡◌, IfOk, false};
+ghost use Rattle.lsp_rpc.specs.Message.{message_has_float};
+ghost use Rattle.lsp_rpc.specs.Shown.{show_message};
+
+use bytes::BytesMut;
+use lsp_frame::{Decoded, LanguageServerCodec};
+use lsp_rpc::{Message, read_message};
+use serde_json::Value;
+use std::alloc::Global;
+use std::process::Abort;
+use std::test::Fail;
+
+/// Texts of messages, as they are written.
+const TEXTS: [&str; 41] = [
+    "{\"jsonrpc\":\"2.0\",\"method\":\"exit\"}",
+    "{\"jsonrpc\":\"2.0\",\"method\":\"a\",\"id\":0}",
+    "{\"jsonrpc\":\"2.0\",\"method\":\"a\",\"id\":-1}",
+    "{\"jsonrpc\":\"2.0\",\"method\":\"a\",\"id\":9223372036854775807}",
+    "{\"jsonrpc\":\"2.0\",\"method\":\"a\",\"id\":-9223372036854775808}",
+    "{\"jsonrpc\":\"2.0\",\"method\":\"a\",\"id\":\"\"}",
+    "{\"jsonrpc\":\"2.0\",\"method\":\"a\",\"id\":\"b\"}",
+    "{\"jsonrpc\":\"2.0\",\"method\":\"a\",\"id\":\"é\"}",
+    "{\"jsonrpc\":\"2.0\",\"method\":\"a\",\"id\":\"\\\"\\\\\"}",
+    "{\"jsonrpc\":\"2.0\",\"method\":\"a\",\"id\":null}",
+    "{\"jsonrpc\":\"2.0\",\"method\":\"\"}",
+    "{\"jsonrpc\":\"2.0\",\"method\":\"é\"}",
+    "{\"jsonrpc\":\"2.0\",\"method\":\"a\\nb\"}",
+    "{\"jsonrpc\":\"2.0\",\"method\":\"a\",\"params\":null}",
+    "{\"jsonrpc\":\"2.0\",\"method\":\"a\",\"params\":true}",
+    "{\"jsonrpc\":\"2.0\",\"method\":\"a\",\"params\":false}",
+    "{\"jsonrpc\":\"2.0\",\"method\":\"a\",\"params\":0}",
+    "{\"jsonrpc\":\"2.0\",\"method\":\"a\",\"params\":18446744073709551615}",
+    "{\"jsonrpc\":\"2.0\",\"method\":\"a\",\"params\":-9223372036854775808}",
+    "{\"jsonrpc\":\"2.0\",\"method\":\"a\",\"params\":\"\"}",
+    "{\"jsonrpc\":\"2.0\",\"method\":\"a\",\"params\":\"ü€😀\"}",
+    "{\"jsonrpc\":\"2.0\",\"method\":\"a\",\"params\":\"\\\"\\\\\\b\\f\\n\\r\\t\\u0001/\"}",
+    "{\"jsonrpc\":\"2.0\",\"method\":\"a\",\"params\":[]}",
+    "{\"jsonrpc\":\"2.0\",\"method\":\"a\",\"params\":[1,[2,[]],{}]}",
+    "{\"jsonrpc\":\"2.0\",\"method\":\"a\",\"params\":{}}",
+    "{\"jsonrpc\":\"2.0\",\"method\":\"a\",\"params\":{\"a\":{\"b\":[null]},\"é\":\"x\"},\"id\":1}",
+    "{\"jsonrpc\":\"2.0\",\"result\":null,\"id\":1}",
+    "{\"jsonrpc\":\"2.0\",\"result\":true,\"id\":\"x\"}",
+    "{\"jsonrpc\":\"2.0\",\"result\":0,\"id\":null}",
+    "{\"jsonrpc\":\"2.0\",\"result\":-5,\"id\":-5}",
+    "{\"jsonrpc\":\"2.0\",\"result\":\"text\",\"id\":2}",
+    "{\"jsonrpc\":\"2.0\",\"result\":[],\"id\":3}",
+    "{\"jsonrpc\":\"2.0\",\"result\":[{\"a\":1},null],\"id\":4}",
+    "{\"jsonrpc\":\"2.0\",\"result\":{\"capabilities\":{}},\"id\":5}",
+    "{\"jsonrpc\":\"2.0\",\"result\":\"\\u0000\",\"id\":6}",
+    "{\"jsonrpc\":\"2.0\",\"error\":{\"code\":-32700,\"message\":\"Parse error\"},\"id\":null}",
+    "{\"jsonrpc\":\"2.0\",\"error\":{\"code\":-32601,\"message\":\"Method not found\",\"data\":\"foo\"},\"id\":0}",
+    "{\"jsonrpc\":\"2.0\",\"error\":{\"code\":-32002,\"message\":\"Server not initialized\"},\"id\":1}",
+    "{\"jsonrpc\":\"2.0\",\"error\":{\"code\":0,\"message\":\"\",\"data\":false},\"id\":\"x\"}",
+    "{\"jsonrpc\":\"2.0\",\"error\":{\"code\":9223372036854775807,\"message\":\"a\\\"b\",\"data\":[1,2]},\"id\":7}",
+    "{\"jsonrpc\":\"2.0\",\"error\":{\"code\":-32800,\"message\":\"Canceled\",\"data\":{\"a\":null}},\"id\":3}",
+];
+
+fn message(rt: &impl Abort, alloc: Global, text: &str) -> Result<Message, Fail>
+    ensures { IfOk result (λ m. message_has_float (show_message m) ≡ false) }
+{
+    let value = match Value::from_str(alloc, text) {
+        Ok(value) => value,
+        Err(_) => rt.panic("no JSON"),
+    };
+    match read_message(alloc, value) {
+        Ok(message) => Ok(message),
+        Err(_) => rt.panic("no message"),
+    }
+}
+
+/// The message of this text is encoded as the frame of the text, and that decodes to it alone.
+fn expect_back(rt: &impl Abort, alloc: Global, text: &str) -> Result<(), Fail> {
+    let mut codec = LanguageServerCodec::default(alloc);
+    let mut frame = BytesMut::new(alloc);
+    codec.encode(&message(rt, alloc, text)?, &mut frame)?;
+    let length = text.len();
+    let head = format!(in alloc; "Content-Length: {length}\r\n\r\n")?;
+    let mut want = head;
+    want.push_str(text)?;
+    assert!(rt; frame.as_slice() == want.as_str().as_bytes());
+    codec.feed(frame.as_slice())?;
+    match codec.decode()? {
+        Decoded::Item(back) => {
+            let written = back.to_text(alloc)?;
+            assert!(rt; written.as_str() == text);
+        }
+        _ => assert!(rt; false, "a message"),
+    }
+    match codec.decode()? {
+        Decoded::More => {}
+        _ => assert!(rt; false, "nothing more"),
+    }
+    Ok(())
+}
+
+#[test]
+fn each_message_comes_back(rt: HostRuntime) -> Result<(), Fail> {
+    for text in TEXTS {
+        expect_back(&rt, rt.alloc(), text)?;
+    }
+    Ok(())
+}
+
+/// Params that are so many lists, one inside the other.
+fn nested(alloc: Global, levels: usize) -> Result<String, Fail> {
+    let mut text = String::from_str(alloc, "{\"jsonrpc\":\"2.0\",\"method\":\"a\",\"params\":")?;
+    for _ in 0..levels {
+        text.push_str("[")?;
+    }
+    for _ in 0..levels {
+        text.push_str("]")?;
+    }
+    text.push_str("}")?;
+    Ok(text)
+}
+
+#[test]
+fn deep_messages_come_back(rt: HostRuntime) -> Result<(), Fail> {
+    let alloc = rt.alloc();
+    for levels in [125, 126] {
+        let text = nested(alloc, levels)?;
+        expect_back(&rt, alloc, text.as_str())?;
+    }
+
+    // One level more is no JSON to this reader.
+    let text = nested(alloc, 127)?;
+    assert!(rt; Value::from_str(alloc, text.as_str()).is_err());
+    Ok(())
+}
