@@ -1,0 +1,22 @@
+//! What JSON values a type is read from, and what is written for it.
+#![tactic(auto)]
+
+mod among;
+mod basic;
+mod law;
+mod map;
+mod member;
+#[cfg(test)]
+mod tests;
+mod wire;
+
+pub use among::{attempt, members_written, put_flat, put_tag, tag};
+pub use basic::token_numbers;
+pub use law::{read_value, reads_back, trimmed, write_value};
+pub use map::{Key, rest};
+pub use member::{
+    field, find, list_or_empty, optional, put, put_nullable, put_optional, put_unless_empty,
+    put_unless_false, put_value, supported, truth_or_false,
+};
+pub use no_memory::NoMemory;
+pub use wire::{Misfit, Wire};

@@ -1,0 +1,206 @@
+// Members of an object, read and written.
+ghost use Rattle.std.specs.Prelude.{◌≡◌, IfOk, OnOk, OnErr, true, IsErrOf, Some, None, option_map};
+ghost use Rattle.serde_json.specs.Data.{put as with_member};
+ghost use Rattle.serde_json.specs.Find.{get_member};
+ghost use Rattle.serde_json.specs.View.{view, members_view};
+ghost use Rattle.lsp_shape.specs.Plain.{maybe_of};
+ghost use Rattle.lsp_shape.specs.Shape.{required, omitted, or_empty, or_false, list, truth};
+ghost use Rattle.lsp_shape.specs.Shown.{show_list, show_bool};
+ghost use Rattle.lsp_shape.specs.Read.{read, read_member, read_supported, empty_set};
+ghost use Rattle.lsp_shape.specs.Write.{write, write_member, write_maybe, put_present};
+ghost use Rattle.lsp_shape.specs.Shape.{unless_empty, unless_false};
+ghost use Rattle.lsp_shape.specs.Values.{is_of, is_maybe};
+
+use crate::wire::{Misfit, Wire};
+use no_memory::NoMemory;
+use serde_json::{Map, Value};
+use std::alloc::Global;
+
+/// The member of that name.
+pub fn find<'v>(object: &'v Map<String, Value>, name: &str) -> Option<&'v Value>
+    ensures { option_map (λ v. view v.now) result ≡ get_member name.now (members_view object.now.entries) }
+{
+    object.get(name)
+}
+
+/// What the member of that name is read as.
+pub fn field<T: Wire>(alloc: Global, object: &Map<String, Value>, name: &str) -> Result<T, Misfit>
+    ensures read { IfOk result (λ x. read_member required (read T.shape) (get_member name.now (members_view object.now.entries)) ≡ Some (T.shown x)) }
+    ensures unfit { IsErrOf result Misfit.Unfit → read_member required (read T.shape) (get_member name.now (members_view object.now.entries)) ≡ None }
+{
+    match find(object, name) {
+        Some(value) => T::from_value(alloc, value),
+        None => Err(Misfit::Unfit),
+    }
+}
+
+/// What the member of that name is read as, where it is there and not null.
+pub fn optional<T: Wire>(
+    alloc: Global,
+    object: &Map<String, Value>,
+    name: &str,
+) -> Result<Option<T>, Misfit>
+    ensures read { IfOk result (λ o. read_member omitted (read T.shape) (get_member name.now (members_view object.now.entries)) ≡ Some (maybe_of (option_map T.shown o))) }
+    ensures unfit { IsErrOf result Misfit.Unfit → read_member omitted (read T.shape) (get_member name.now (members_view object.now.entries)) ≡ None }
+{
+    match find(object, name) {
+        Some(value) => Option::<T>::from_value(alloc, value),
+        None => Ok(None),
+    }
+}
+
+/// What the member of that name is read as, where it is there, and not null or false. True is read as `{"valueSet": []}` is.
+pub fn supported<T: Wire>(
+    alloc: Global,
+    object: &Map<String, Value>,
+    name: &str,
+) -> Result<Option<T>, Misfit>
+    ensures read { IfOk result (λ o. read_supported (read T.shape) (get_member name.now (members_view object.now.entries)) ≡ Some (maybe_of (option_map T.shown o))) }
+    ensures unfit { IsErrOf result Misfit.Unfit → read_supported (read T.shape) (get_member name.now (members_view object.now.entries)) ≡ None }
+{
+    match find(object, name) {
+        None => Ok(None),
+        Some(Value::Null) => Ok(None),
+        Some(Value::Bool(false)) => Ok(None),
+        Some(Value::Bool(true)) => Ok(Some(T::from_value(alloc, &empty_value_set(alloc)?)?)),
+        Some(value) => Ok(Some(T::from_value(alloc, value)?)),
+    }
+}
+
+fn empty_value_set(alloc: Global) -> Result<Value, NoMemory>
+    ensures { IfOk result (λ v. view v ≡ empty_set) }
+{
+    let mut object = Map::new(alloc);
+    put_value(
+        alloc,
+        &mut object,
+        "valueSet",
+        Value::Array(Vec::new(alloc)),
+    )?;
+    Ok(Value::Object(object))
+}
+
+/// What the member of that name is read as, and an empty list where it is missing.
+pub fn list_or_empty<T: Wire>(
+    alloc: Global,
+    object: &Map<String, Value>,
+    name: &str,
+) -> Result<Vec<T>, Misfit>
+    ensures read { IfOk result (λ x. read_member or_empty (read (list T.shape)) (get_member name.now (members_view object.now.entries)) ≡ Some (show_list T.shown x)) }
+    ensures unfit { IsErrOf result Misfit.Unfit → read_member or_empty (read (list T.shape)) (get_member name.now (members_view object.now.entries)) ≡ None }
+{
+    match find(object, name) {
+        Some(value) => Vec::<T>::from_value(alloc, value),
+        None => Ok(Vec::new(alloc)),
+    }
+}
+
+/// What the member of that name is read as, and false where it is missing.
+pub fn truth_or_false(
+    alloc: Global,
+    object: &Map<String, Value>,
+    name: &str,
+) -> Result<bool, Misfit>
+    ensures read { IfOk result (λ b. read_member or_false (read truth) (get_member name.now (members_view object.now.entries)) ≡ Some (show_bool b)) }
+    ensures unfit { IsErrOf result Misfit.Unfit → read_member or_false (read truth) (get_member name.now (members_view object.now.entries)) ≡ None }
+{
+    match find(object, name) {
+        Some(value) => bool::from_value(alloc, value),
+        None => Ok(false),
+    }
+}
+
+/// Makes the member of that name the value.
+pub fn put_value(
+    alloc: Global,
+    object: &mut Map<String, Value>,
+    name: &str,
+    value: Value,
+) -> Result<(), NoMemory>
+    ensures ok { OnOk result (members_view object.new.entries ≡ with_member name.now (view value) (members_view object.old.entries)) }
+    ensures err { OnErr result (object.new.entries ≡ object.old.entries) }
+{
+    Ok(serde_json::put(object, alloc, name, value)?)
+}
+
+/// Makes the member of that name what is written for the value.
+pub fn put<T: Wire>(
+    alloc: Global,
+    object: &mut Map<String, Value>,
+    name: &str,
+    value: &T,
+) -> Result<(), NoMemory>
+    ensures ok { OnOk result (members_view object.new.entries ≡ with_member name.now (write T.shape (T.shown value.now)) (members_view object.old.entries)) }
+    ensures of_shape { OnOk result (is_of T.shape (T.shown value.now) ≡ true) }
+    ensures err { OnErr result (object.new.entries ≡ object.old.entries) }
+{
+    let member = value.to_value(alloc)?;
+    put_value(alloc, object, name, member)
+}
+
+/// The same for Some. None leaves the object as it was.
+pub fn put_optional<T: Wire>(
+    alloc: Global,
+    object: &mut Map<String, Value>,
+    name: &str,
+    value: &Option<T>,
+) -> Result<(), NoMemory>
+    ensures ok { OnOk result (members_view object.new.entries ≡ put_present name.now (write T.shape) (maybe_of (option_map T.shown value.now)) (members_view object.old.entries)) }
+    ensures of_shape { OnOk result (is_maybe (is_of T.shape) (maybe_of (option_map T.shown value.now)) ≡ true) }
+    ensures err { OnErr result (object.new.entries ≡ object.old.entries) }
+{
+    match value {
+        Some(x) => put(alloc, object, name, x),
+        None => Ok(()),
+    }
+}
+
+/// The same for Some. None makes the member null.
+pub fn put_nullable<T: Wire>(
+    alloc: Global,
+    object: &mut Map<String, Value>,
+    name: &str,
+    value: &Option<T>,
+) -> Result<(), NoMemory>
+    ensures ok { OnOk result (members_view object.new.entries ≡ with_member name.now (write_maybe (write T.shape) (maybe_of (option_map T.shown value.now))) (members_view object.old.entries)) }
+    ensures of_shape { OnOk result (is_maybe (is_of T.shape) (maybe_of (option_map T.shown value.now)) ≡ true) }
+    ensures err { OnErr result (object.new.entries ≡ object.old.entries) }
+{
+    let member = value.to_value(alloc)?;
+    put_value(alloc, object, name, member)
+}
+
+/// The same, but an empty list leaves the object as it was.
+pub fn put_unless_empty<T: Wire>(
+    alloc: Global,
+    object: &mut Map<String, Value>,
+    name: &str,
+    value: &Vec<T>,
+) -> Result<(), NoMemory>
+    ensures ok { OnOk result (members_view object.new.entries ≡ write_member name.now unless_empty (write (list T.shape)) (show_list T.shown value.now) (members_view object.old.entries)) }
+    ensures of_shape { OnOk result (is_of (list T.shape) (show_list T.shown value.now) ≡ true) }
+    ensures err { OnErr result (object.new.entries ≡ object.old.entries) }
+{
+    if value.is_empty() {
+        Ok(())
+    } else {
+        put(alloc, object, name, value)
+    }
+}
+
+/// Makes the member of that name true, or leaves the object as it was.
+pub fn put_unless_false(
+    alloc: Global,
+    object: &mut Map<String, Value>,
+    name: &str,
+    value: bool,
+) -> Result<(), NoMemory>
+    ensures ok { OnOk result (members_view object.new.entries ≡ write_member name.now unless_false (write truth) (show_bool value) (members_view object.old.entries)) }
+    ensures err { OnErr result (object.new.entries ≡ object.old.entries) }
+{
+    if value {
+        put(alloc, object, name, &value)
+    } else {
+        Ok(())
+    }
+}

@@ -1,0 +1,65 @@
+ghost use Rattle.std.specs.Prelude.{◌≡◌, IfOk, OnOk, true, IsErrOf, Some, None};
+ghost use Rattle.serde_json.specs.View.{view};
+ghost use Rattle.lsp_shape.specs.Plain.{Plain};
+ghost use Rattle.lsp_shape.specs.Shape.{Shape};
+ghost use Rattle.lsp_shape.specs.Read.{read};
+ghost use Rattle.lsp_shape.specs.Write.{write};
+ghost use Rattle.lsp_shape.specs.Values.{is_of};
+ghost use Rattle.lsp_shape.specs.declared.wire.Misfit.TheVariants as misfits;
+
+use no_memory::NoMemory;
+use serde_json::Value;
+use std::alloc::{AllocError, AllocFailed, Global};
+
+/// Why a value is not read.
+#[derive(Clone, Copy, Debug, PartialEq, Eq)]
+pub enum Misfit {
+    /// The value does not fit the shape of the type.
+    Unfit,
+    NoMemory,
+}
+
+impl From<AllocError> for Misfit {
+    ghost from_gives = { λ _ m. m ≡ misfits.NoMemory };
+
+    fn from(_error: AllocError) -> Misfit {
+        Misfit::NoMemory
+    }
+}
+
+impl From<NoMemory> for Misfit {
+    ghost from_gives = { λ _ m. m ≡ misfits.NoMemory };
+
+    fn from(_error: NoMemory) -> Misfit {
+        Misfit::NoMemory
+    }
+}
+
+impl<T: Drop> From<AllocFailed<T>> for Misfit {
+    ghost from_gives = { λ _ m. m ≡ misfits.NoMemory };
+
+    fn from(_error: AllocFailed<T>) -> Misfit {
+        Misfit::NoMemory
+    }
+}
+
+/// A type that is read from a JSON value, and written as one.
+///
+/// A shape says which values fit the type, what they are read as, and what is written. Plain data says what a value of
+/// the type is, so that one definition of reading serves every type.
+pub trait Wire: Drop {
+    /// What a value must be to be read.
+    ghost shape: { Shape };
+
+    /// What a value of the type is, as plain data.
+    ghost shown: { Self → Plain };
+
+    /// `Unfit` comes exactly where the value does not fit.
+    fn from_value(alloc: Global, value: &Value) -> Result<Self, Misfit>
+        ensures read { IfOk result (λ x. read shape (view value.now) ≡ Some (shown x)) }
+        ensures unfit { IsErrOf result Misfit.Unfit → read shape (view value.now) ≡ None };
+
+    fn to_value(&self, alloc: Global) -> Result<Value, NoMemory>
+        ensures written { IfOk result (λ v. view v ≡ write shape (shown self.now)) }
+        ensures of_shape { OnOk result (is_of shape (shown self.now) ≡ true) };
+}
