@@ -1,0 +1,5 @@
+pub mod CutLemmas
+pub mod Segments
+pub mod Groups
+pub mod Addresses
+pub mod Recomposed

@@ -1,0 +1,174 @@
+ghost use Rattle.std.specs.Prelude.{◌≡◌, ◌↔◌, true, false, option_map, string_bytes, IfOk, OnOk, IsErrOf};
+ghost use Rattle.lsp_uri.specs.Grammar.{is_uri_reference};
+ghost use Rattle.lsp_uri.specs.declared.uri.UriError.TheVariants as errors;
+
+use crate::parts::{is_uri_reference, split};
+use lsp_shape::{Key, Misfit, Wire};
+use no_memory::NoMemory;
+use serde_json::Value;
+use std::alloc::{AllocError, AllocFailed, Global};
+use std::error::Error;
+use std::fmt;
+
+/// Why a text is not parsed.
+#[derive(Clone, Copy, Debug, PartialEq, Eq)]
+pub enum UriError {
+    /// The text is outside the grammar of URI references, RFC 3986, appendix A.
+    NotUri,
+    NoMemory,
+}
+
+impl From<AllocError> for UriError {
+    ghost from_gives = { λ _ e. e ≡ errors.NoMemory };
+
+    fn from(_error: AllocError) -> UriError {
+        UriError::NoMemory
+    }
+}
+
+impl<T: Drop> From<AllocFailed<T>> for UriError {
+    ghost from_gives = { λ _ e. e ≡ errors.NoMemory };
+
+    fn from(_error: AllocFailed<T>) -> UriError {
+        UriError::NoMemory
+    }
+}
+
+impl fmt::Display for UriError {
+    fn fmt<W: fmt::Write>(&self, f: &mut fmt::Formatter<W>) -> fmt::Result {
+        match self {
+            UriError::NotUri => f.write_str("not a URI reference"),
+            UriError::NoMemory => f.write_str("out of memory"),
+        }
+    }
+}
+
+impl Error for UriError {}
+
+/// A URI reference: RFC 3986, section 4.1. Two are compared and hashed as their texts are.
+#[derive(Debug, PartialEq, Eq, PartialOrd, Ord, Hash, Drop)]
+pub struct Uri {
+    text: String,
+    ghost is_reference: { is_uri_reference (string_bytes text) ≡ true },
+}
+
+impl Uri {
+    ghost use Rattle.lsp_uri.specs.Grammar.{scheme_of, authority_of, path_of, query_of, fragment_of};
+    ghost use Rattle.lsp_uri.specs.Uri.{uri_text};
+    ghost use Rattle.lsp_uri.specs.Whole.{recomposed};
+
+    /// Reads a URI reference, by the grammar of RFC 3986, appendix A. The text is kept as it is.
+    pub fn parse(alloc: Global, text: &str) -> Result<Uri, UriError>
+        ensures kept { IfOk result (λ u. uri_text u ≡ text.now) }
+        ensures fits { OnOk result (is_uri_reference text.now ≡ true) }
+        ensures not_uri { IsErrOf result UriError.NotUri ↔ (is_uri_reference text.now ≡ false) }
+    {
+        if !is_uri_reference(text) {
+            return Err(UriError::NotUri);
+        }
+        Ok(Uri {
+            text: String::from_str(alloc, text)?,
+        })
+    }
+
+    /// The text that was parsed. Its parts, put together as in RFC 3986, section 5.3, are the text.
+    pub fn as_str(&self) -> &str
+        ensures text { result.now ≡ uri_text self.now }
+        ensures fits { is_uri_reference (uri_text self.now) ≡ true }
+        ensures whole { let s = uri_text self.now in recomposed (scheme_of s) (authority_of s) (path_of s) (query_of s) (fragment_of s) ≡ s }
+    {
+        self.text.as_str()
+    }
+
+    /// What stands before the first `:`, if it is a scheme: RFC 3986, section 3.1.
+    pub fn scheme(&self) -> Option<&str>
+        ensures { option_map (λ s. s.now) result ≡ scheme_of (uri_text self.now) }
+    {
+        split(self.text.as_str()).scheme
+    }
+
+    /// What follows `//`, up to a `/`, a `?` or a `#`: RFC 3986, section 3.2.
+    pub fn authority(&self) -> Option<&str>
+        ensures { option_map (λ s. s.now) result ≡ authority_of (uri_text self.now) }
+    {
+        split(self.text.as_str()).authority
+    }
+
+    /// What follows the scheme and the authority, up to a `?` or a `#`: RFC 3986, section 3.3.
+    pub fn path(&self) -> &str
+        ensures { result.now ≡ path_of (uri_text self.now) }
+    {
+        split(self.text.as_str()).path
+    }
+
+    /// What follows the first `?`, up to a `#`: RFC 3986, section 3.4.
+    pub fn query(&self) -> Option<&str>
+        ensures { option_map (λ s. s.now) result ≡ query_of (uri_text self.now) }
+    {
+        split(self.text.as_str()).query
+    }
+
+    /// What follows the first `#`: RFC 3986, section 3.5.
+    pub fn fragment(&self) -> Option<&str>
+        ensures { option_map (λ s. s.now) result ≡ fragment_of (uri_text self.now) }
+    {
+        split(self.text.as_str()).fragment
+    }
+
+    /// An equal URI reference.
+    pub fn clone(&self, _alloc: Global) -> Result<Uri, NoMemory>
+        ensures { IfOk result (λ u. uri_text u ≡ uri_text self.now) }
+    {
+        Ok(Uri {
+            text: self.text.clone()?,
+        })
+    }
+}
+
+impl fmt::Display for Uri {
+    fn fmt<W: fmt::Write>(&self, f: &mut fmt::Formatter<W>) -> fmt::Result {
+        f.write_str(self.text.as_str())
+    }
+}
+
+impl Wire for Uri {
+    ghost use Rattle.lsp_uri.specs.Uri.{uri_shape, show_uri};
+
+    ghost shape = { uri_shape };
+
+    ghost shown = { show_uri };
+
+    fn from_value(alloc: Global, value: &Value) -> Result<Uri, Misfit> {
+        match value {
+            Value::String(text) => Uri::from_text(alloc, text.as_str()),
+            _ => Err(Misfit::Unfit),
+        }
+    }
+
+    fn to_value(&self, _alloc: Global) -> Result<Value, NoMemory> {
+        Ok(Value::String(self.text.clone()?))
+    }
+}
+
+impl Key for Uri {
+    ghost use Rattle.std.proofs.Common.{rules};
+    ghost use Rattle.lsp_uri.specs.Uri.{uri_text};
+
+    ghost key_text = { uri_text };
+
+    ghost is_key = { is_uri_reference };
+
+    ghost told_by_text = { Prim.search rules };
+
+    fn from_text(alloc: Global, text: &str) -> Result<Uri, Misfit> {
+        match Uri::parse(alloc, text) {
+            Ok(uri) => Ok(uri),
+            Err(UriError::NotUri) => Err(Misfit::Unfit),
+            Err(UriError::NoMemory) => Err(Misfit::NoMemory),
+        }
+    }
+
+    fn as_text(&self) -> &str {
+        self.as_str()
+    }
+}
