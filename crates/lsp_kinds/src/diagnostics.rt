@@ -1,0 +1,153 @@
+// Kinds of section "Diagnostic".
+ghost use Rattle.std.specs.Prelude.{◌≡◌, option_map, ℤ};
+ghost use Rattle.lsp_shape.specs.Shape.{i32_shape};
+ghost use Rattle.lsp_shape.specs.Shown.{show_signed};
+ghost use Rattle.lsp_kinds.specs.Named.{IsReadBy, name_in};
+ghost use Rattle.lsp_kinds.specs.Tables.{diagnostic_severities, diagnostic_tags};
+
+use crate::named::{UNKNOWN, name_of, number_of, write_kind};
+use lsp_shape::{Misfit, NoMemory, Wire};
+use serde_json::Value;
+use std::alloc::Global;
+use std::fmt;
+use std::marker::Model;
+
+/// How severe a diagnostic is: section "Diagnostic" of LSP 3.17.
+///
+/// The smaller number is the more severe.
+#[derive(Clone, Copy, PartialEq, Eq, PartialOrd, Ord)]
+pub struct DiagnosticSeverity(i32);
+
+impl Model for DiagnosticSeverity {
+    ghost Value = { ℤ };
+
+    ghost view = { λ k. k.0 };
+
+    ghost inverse = { λ n. record { 0 = n } };
+}
+
+#[tactic(auto, unfolding(crate::specs::Tables::diagnostic_severities))]
+impl DiagnosticSeverity {
+    /// An error.
+    pub const ERROR: DiagnosticSeverity = DiagnosticSeverity(1);
+    /// A warning.
+    pub const WARNING: DiagnosticSeverity = DiagnosticSeverity(2);
+    /// Something to know.
+    pub const INFORMATION: DiagnosticSeverity = DiagnosticSeverity(3);
+    /// A hint, which an editor may show less than the others.
+    pub const HINT: DiagnosticSeverity = DiagnosticSeverity(4);
+
+    const NAMES: [(&'static str, i32); 4] = [
+        ("Error", Self::ERROR.0),
+        ("Warning", Self::WARNING.0),
+        ("Information", Self::INFORMATION.0),
+        ("Hint", Self::HINT.0),
+    ];
+
+    /// The name of the number, where it has one.
+    pub fn name(&self) -> Option<&'static str>
+        ensures { option_map (λ s. s.now) result ≡ name_in diagnostic_severities self.now }
+    {
+        name_of(&Self::NAMES, self.0)
+    }
+}
+
+#[tactic(auto, unfolding(crate::specs::Tables::diagnostic_severities))]
+impl TryFrom<&str> for DiagnosticSeverity {
+    type Error = &'static str;
+
+    ghost try_from_gives = { λ name r. IsReadBy diagnostic_severities name.now (λ e. e.now) r };
+
+    fn try_from(name: &str) -> Result<DiagnosticSeverity, &'static str> {
+        match number_of(&Self::NAMES, name) {
+            Some(number) => Ok(DiagnosticSeverity(number)),
+            None => Err(UNKNOWN),
+        }
+    }
+}
+
+impl fmt::Debug for DiagnosticSeverity {
+    fn fmt<W: fmt::Write>(&self, f: &mut fmt::Formatter<W>) -> fmt::Result {
+        write_kind(f, "DiagnosticSeverity", self.name(), self.0)
+    }
+}
+
+impl Wire for DiagnosticSeverity {
+    ghost shape = { i32_shape };
+
+    ghost shown = { show_signed };
+
+    fn from_value(alloc: Global, value: &Value) -> Result<DiagnosticSeverity, Misfit> {
+        Ok(DiagnosticSeverity(i32::from_value(alloc, value)?))
+    }
+
+    fn to_value(&self, alloc: Global) -> Result<Value, NoMemory> {
+        self.0.to_value(alloc)
+    }
+}
+
+/// What more is known of a diagnostic: section "Diagnostic" of LSP 3.17.
+#[derive(Clone, Drop, PartialEq, Eq)]
+pub struct DiagnosticTag(i32);
+
+impl Model for DiagnosticTag {
+    ghost Value = { ℤ };
+
+    ghost view = { λ k. k.0 };
+
+    ghost inverse = { λ n. record { 0 = n } };
+}
+
+#[tactic(auto, unfolding(crate::specs::Tables::diagnostic_tags))]
+impl DiagnosticTag {
+    /// The code has no use. An editor may fade it out rather than underline it.
+    pub const UNNECESSARY: DiagnosticTag = DiagnosticTag(1);
+    /// The code is deprecated. An editor may strike it through.
+    pub const DEPRECATED: DiagnosticTag = DiagnosticTag(2);
+
+    const NAMES: [(&'static str, i32); 2] = [
+        ("Unnecessary", Self::UNNECESSARY.0),
+        ("Deprecated", Self::DEPRECATED.0),
+    ];
+
+    /// The name of the number, where it has one.
+    pub fn name(&self) -> Option<&'static str>
+        ensures { option_map (λ s. s.now) result ≡ name_in diagnostic_tags self.now }
+    {
+        name_of(&Self::NAMES, self.0)
+    }
+}
+
+#[tactic(auto, unfolding(crate::specs::Tables::diagnostic_tags))]
+impl TryFrom<&str> for DiagnosticTag {
+    type Error = &'static str;
+
+    ghost try_from_gives = { λ name r. IsReadBy diagnostic_tags name.now (λ e. e.now) r };
+
+    fn try_from(name: &str) -> Result<DiagnosticTag, &'static str> {
+        match number_of(&Self::NAMES, name) {
+            Some(number) => Ok(DiagnosticTag(number)),
+            None => Err(UNKNOWN),
+        }
+    }
+}
+
+impl fmt::Debug for DiagnosticTag {
+    fn fmt<W: fmt::Write>(&self, f: &mut fmt::Formatter<W>) -> fmt::Result {
+        write_kind(f, "DiagnosticTag", self.name(), self.0)
+    }
+}
+
+impl Wire for DiagnosticTag {
+    ghost shape = { i32_shape };
+
+    ghost shown = { show_signed };
+
+    fn from_value(alloc: Global, value: &Value) -> Result<DiagnosticTag, Misfit> {
+        Ok(DiagnosticTag(i32::from_value(alloc, value)?))
+    }
+
+    fn to_value(&self, alloc: Global) -> Result<Value, NoMemory> {
+        self.0.to_value(alloc)
+    }
+}

@@ -1,0 +1,45 @@
+// The numbers that have a name, as pairs of both.
+ghost use Rattle.std.specs.Prelude.{◌≡◌, map, option_map};
+ghost use Rattle.lsp_kinds.specs.Named.{number_in, name_in};
+
+use std::fmt;
+
+// Why a text is not read as a kind.
+pub(crate) const UNKNOWN: &str = "unknown enum variant";
+
+pub(crate) fn number_of(mut names: &[(&'static str, i32)], name: &str) -> Option<i32>
+    ensures { result ≡ number_in (map (λ e. (e.0.now, e.1)) names.entry.now) name.now }
+{
+    while let [entry, rest @ ..] = names {
+        if entry.0 == name {
+            return Some(entry.1);
+        }
+        names = rest;
+    }
+    None
+}
+
+pub(crate) fn name_of(mut names: &[(&'static str, i32)], number: i32) -> Option<&'static str>
+    ensures { option_map (λ s. s.now) result ≡ name_in (map (λ e. (e.0.now, e.1)) names.entry.now) number }
+{
+    while let [entry, rest @ ..] = names {
+        if entry.1 == number {
+            return Some(entry.0);
+        }
+        names = rest;
+    }
+    None
+}
+
+// The name of the number, or the number with its type.
+pub(crate) fn write_kind<W: fmt::Write>(
+    f: &mut fmt::Formatter<W>,
+    type_name: &str,
+    name: Option<&'static str>,
+    number: i32,
+) -> fmt::Result {
+    match name {
+        Some(name) => f.write_str(name),
+        None => write!(f, "{type_name}({number})"),
+    }
+}
