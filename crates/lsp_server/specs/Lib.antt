@@ -2,6 +2,7 @@ pub mod Outside
 pub mod Memory
 pub mod MemorySource
 pub mod MemorySink
+pub mod Streams
 pub mod Stream
 pub mod Written
 pub mod Served

@@ -1,4 +1,6 @@
 // A reader and a writer of std as a source and a sink: the edge of what is proved.
+ghost use Rattle.std.specs.Prelude.{◌≡◌};
+
 use crate::{Failed, Refused, Sink, Source};
 use std::io::{Read, Write};
 
@@ -10,16 +12,23 @@ pub struct ReadSource<R> {
 }
 
 impl<R: Read> ReadSource<R> {
+    ghost use Rattle.lsp_server.specs.Streams.{reader_of, failed_reads};
+
     /// A source whose reads have not failed.
-    pub fn new(reader: R) -> ReadSource<R> {
+    pub fn new(reader: R) -> ReadSource<R>
+        ensures reader { reader_of result ≡ reader }
+        ensures faults { failed_reads result ≡ 0 }
+    {
         ReadSource { reader, faults: 0 }
     }
 }
 
 impl<R: Read> Source for ReadSource<R> {
-    ghost left = { λ s. R.remaining s.reader };
+    ghost use Rattle.lsp_server.specs.Streams.{reader_of, failed_reads};
 
-    ghost faults = { λ s. s.faults };
+    ghost left = { λ s. R.remaining (reader_of s) };
+
+    ghost faults = { failed_reads };
 
     fn read(&mut self, piece: &mut [u8]) -> Result<usize, Failed> {
         match self.reader.read(piece) {
@@ -40,20 +49,26 @@ pub struct WriteSink<W> {
 }
 
 impl<W: Write> WriteSink<W> {
+    ghost use Rattle.lsp_server.specs.Streams.{writer_of, failed_writes};
+
     /// A sink whose writes have not failed.
-    pub fn new(writer: W) -> WriteSink<W> {
+    pub fn new(writer: W) -> WriteSink<W>
+        ensures writer { writer_of result ≡ writer }
+        ensures faults { failed_writes result ≡ 0 }
+    {
         WriteSink { writer, faults: 0 }
     }
 }
 
 impl<W: Write> Sink for WriteSink<W> {
     ghost use Rattle.std.specs.Prelude.{None};
+    ghost use Rattle.lsp_server.specs.Streams.{writer_of, failed_writes};
 
-    ghost taken = { λ s. W.contents s.writer };
+    ghost taken = { λ s. W.contents (writer_of s) };
 
     ghost flushed = { λ _. None };
 
-    ghost faults = { λ s. s.faults };
+    ghost faults = { failed_writes };
 
     fn write(&mut self, piece: &[u8]) -> Result<usize, Refused> {
         match self.writer.write(piece) {
