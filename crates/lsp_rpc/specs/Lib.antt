@@ -1,4 +1,5 @@
 pub mod Back
+pub mod Faults
 pub mod Ids
 pub mod Message
 pub mod Pieces

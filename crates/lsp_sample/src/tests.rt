@@ -2,7 +2,7 @@
 use crate::{Sample, run};
 use lsp_rpc::{ErrorCode, Message};
 use lsp_server::{MemorySink, MemorySource, NeverSink, NeverSource, ServeError, Server};
-use lsp_session::{ExitedError, Item, Life, Session};
+use lsp_session::{Item, Life, Session};
 use std::alloc::{AllocError, Global};
 use std::test::Fail;
 
@@ -330,8 +330,6 @@ fn texts_of_errors(rt: HostRuntime) -> Result<(), Fail> {
     ] {
         assert!(rt; error.to_string(rt.alloc())?.as_str() == want);
     }
-    let exited = ExitedError.to_string(rt.alloc())?;
-    assert!(rt; exited.as_str() == "language server has exited");
     Ok(())
 }
 

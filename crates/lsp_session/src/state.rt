@@ -1,4 +1,6 @@
 // How far a session has come.
+ghost use Rattle.std.specs.Prelude.{Some, codes};
+
 use std::error::Error;
 use std::fmt;
 
@@ -20,6 +22,8 @@ pub enum Life {
 pub struct ExitedError;
 
 impl fmt::Display for ExitedError {
+    ghost output = { λ _. Some (codes "language server has exited") };
+
     fn fmt<W: fmt::Write>(&self, f: &mut fmt::Formatter<W>) -> fmt::Result {
         f.write_str("language server has exited")
     }

@@ -1,6 +1,8 @@
 //! The answer of a call for which there was no memory.
 #![tactic(auto)]
 
+ghost use Rattle.std.specs.Prelude.{Some, codes};
+
 use std::alloc::{AllocError, AllocFailed};
 use std::convert::From;
 use std::error::Error;
@@ -23,6 +25,8 @@ impl<T: Drop> From<AllocFailed<T>> for NoMemory {
 }
 
 impl fmt::Display for NoMemory {
+    ghost output = { λ _. Some (codes "out of memory") };
+
     fn fmt<W: fmt::Write>(&self, f: &mut fmt::Formatter<W>) -> fmt::Result {
         f.write_str("out of memory")
     }
