@@ -1,3 +1,4 @@
+pub mod OutboxLemmas
 pub mod SessionLemmas
 pub mod RunLemmas
 pub mod CountLemmas

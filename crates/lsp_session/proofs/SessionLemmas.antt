@@ -1,25 +1,10 @@
 -- How a session goes on.
-use Rattle.std.proofs.Common.{◌≡◌, refl, sym, subst, List, [], ◌∷◌, ◌++◌, false, Bool, true}
+use Rattle.std.proofs.Common.{◌≡◌, refl, sym, subst, List, ◌++◌, false}
 use Rattle.std.proofs.lemmas.List.{append-nil}
-use Rattle.std.specs.Prelude.{◌||◌, Result, Ok, Err, OnOk}
-use Rattle.serde_json.specs.Data.{Data}
-use Rattle.lsp_rpc.specs.Message.{IdData, ErrorData, MessageData, message_has_float, body_has_float}
-use Rattle.lsp_session.specs.Run.{State, Effect, nothing, answer}
-use Rattle.lsp_session.specs.Session.{SessionView, Does, have_float}
-
--- an answer without a float behind messages without one
-pub have_float-answer : (out : List MessageData) (i : IdData) (outcome : Result Data ErrorData)
-    → have_float out ≡ false → body_has_float outcome ≡ false → have_float (out ++ answer i outcome ∷ []) ≡ false
-have_float-answer [] i outcome p q = rw q refl
-have_float-answer (m ∷ ms) i outcome p q = either_false (message_has_float m) _ _ p (have_float-answer ms i outcome (right_false (message_has_float m) (have_float ms) p) q)
-  where
-    right_false : (a b : Bool) → (a || b) ≡ false → b ≡ false
-    right_false false b h = h
-    right_false true b h = cc
-
-    either_false : (a b c : Bool) → (a || b) ≡ false → c ≡ false → (a || c) ≡ false
-    either_false false b c h k = k
-    either_false true b c h k = h
+use Rattle.std.specs.Prelude.{Result, Ok, Err, OnOk}
+use Rattle.lsp_rpc.specs.Message.{MessageData}
+use Rattle.lsp_session.specs.Run.{State, Effect, nothing}
+use Rattle.lsp_session.specs.Session.{SessionView, Does}
 
 module _ {H : Type 0} where
   -- nothing is put out

@@ -7,6 +7,6 @@ use Rattle.lsp_session.specs.Session.{SessionView}
 abbrev pub session_view : {H C : Type 0} → Session H C → SessionView H
 session_view s = record {
   state = record { service = s.handlers; life = s.life; exited = s.exited };
-  out = map show_message s.out.items;
+  out = map show_message s.out.messages.items;
   stopped = s.stopped;
 }

@@ -5,6 +5,7 @@ mod admission;
 mod gate;
 mod handlers;
 mod item;
+mod outbox;
 mod session;
 mod state;
 mod table;

@@ -8,11 +8,11 @@ ghost use Rattle.lsp_session.specs.Verdict.{show_verdict, IsSound};
 ghost use Rattle.lsp_session.specs.Run.{answer, life_after as life_after_lem};
 
 use crate::admission::{Verdict, admit};
+use crate::outbox::Outbox;
 use crate::{Entry, ExitedError, Handlers, Item, Layer, Life};
 use lsp_rpc::{Error, Id, Message, NoMemory, Response};
 use serde_json::Value;
 use std::alloc::Global;
-use std::mem;
 
 /// Why an item was not admitted to its end.
 #[derive(Clone, Copy, Debug, PartialEq, Eq)]
@@ -30,7 +30,7 @@ pub struct Session<H: Handlers> {
     handlers: H,
     life: Life,
     exited: Option<Life>,
-    out: Vec<Message>,
+    out: Outbox,
     stopped: bool,
 }
 
@@ -47,7 +47,7 @@ impl<H: Handlers> Session<H> {
             handlers,
             life: Life::Uninitialized,
             exited: None,
-            out: Vec::new(alloc),
+            out: Outbox::new(alloc),
             stopped: false,
         }
     }
@@ -84,8 +84,9 @@ impl<H: Handlers> Session<H> {
     pub fn take_out(&mut self) -> Vec<Message>
         ensures taken { map show_message result.items ≡ (session_view self.old).out }
         ensures rest { session_view self.new ≡ record (session_view self.old) { out = [] } }
+        ensures float_free { have_float (map show_message result.items) ≡ false }
     {
-        mem::replace(&mut self.out, Vec::new(self.alloc))
+        self.out.take(self.alloc)
     }
 
     /// Admits an item, and runs the call that it begins to its end. After want of memory the session is stopped.
@@ -96,7 +97,6 @@ impl<H: Handlers> Session<H> {
         ensures exited { IsErrOf result (SessionFault.Exited (record {})) ↔ ((session_view self.old).state.life ≡ Life.Exited) }
         ensures same { IsErrOf result (SessionFault.Exited (record {})) → session_view self.new ≡ session_view self.old }
         ensures stopped { IsErrOf result SessionFault.NoMemory → (session_view self.new).stopped ≡ true }
-        ensures out_float_free { have_float (session_view self.old).out ≡ false → have_float (session_view self.new).out ≡ false }
     {
         if self.life == Life::Exited {
             return Err(SessionFault::Exited(ExitedError));
@@ -114,7 +114,6 @@ impl<H: Handlers> Session<H> {
         requires running { (session_view self.old).stopped ≡ false }
         requires float_free { item_has_float (show_item item) ≡ false }
         ensures ok { OnOk result (Steps H.rules (session_view self.old) (show_item item) (session_view self.new)) }
-        ensures out_float_free { have_float (session_view self.old).out ≡ false → have_float (session_view self.new).out ≡ false }
     {
         let admission = admit(self.alloc, &self.handlers, self.life, item)?;
         self.life = admission.life;
@@ -125,7 +124,6 @@ impl<H: Handlers> Session<H> {
         requires running { (session_view self.old).stopped ≡ false }
         requires sound { IsSound H.rules verdict }
         ensures ok { OnOk result (Obeyed H.rules (session_view self.old) (show_verdict H.rules verdict) (session_view self.new)) }
-        ensures out_float_free { have_float (session_view self.old).out ≡ false → have_float (session_view self.new).out ≡ false }
     {
         match verdict {
             Verdict::Silence => Ok(()),
@@ -145,7 +143,6 @@ impl<H: Handlers> Session<H> {
         requires sound { H.rules.is_sound (H.rules.show_call call) ≡ true }
         ensures ok { OnOk result (Obeyed H.rules (session_view self.old)
             (Starts (option_map show_id id) entry (H.rules.show_call call)) (session_view self.new)) }
-        ensures out_float_free { have_float (session_view self.old).out ≡ false → have_float (session_view self.new).out ≡ false }
     {
         let outcome = self.handlers.begin(self.alloc, call)?;
         self.life = life_after(self.life, entry.layer, &outcome);
@@ -161,11 +158,9 @@ impl<H: Handlers> Session<H> {
         ensures ok { OnOk result (session_view self.new
             ≡ record (session_view self.old) { out = (session_view self.old).out ++ answer (show_id id) (show_body body) ∷ [] }) }
         ensures err { OnErr result (session_view self.new ≡ session_view self.old) }
-        ensures out_float_free { have_float (session_view self.old).out ≡ false → have_float (session_view self.new).out ≡ false }
     {
         self.out
-            .push(Message::Response(Response::from_parts(id, body)))?;
-        Ok(())
+            .push(Message::Response(Response::from_parts(id, body)))
     }
 }
 

@@ -8,16 +8,20 @@ use Rattle.lsp_session.specs.View.{session_view}
 use Rattle.lsp_session.proofs.SessionLemmas.{does_silently, does_saying, does_as, on_ok}
 use Rattle.lsp_session.proofs.session.Session.start.Goals as goal
 
-pub returns-in-Some-clause-ok : goal.returns-in-Some-clause-ok
-returns-in-Some-clause-ok g c =
+pub returns-in-Some : goal.returns-in-Some
+returns-in-Some g c =
     let P = λ (s : State g.row.H.Denot) (e : Effect) (s2 : State g.row.H.Denot). Obeys g.H.Handlers.rules s (Starts (option_map show_id c.args.id) c.args.entry (g.H.Handlers.rules.show_call c.args.call)) e s2 in
-    on_ok c.put.result (λ is. does_as (session_view c.args.self.now) P _ (session_view c.put.new.self) is
-    (does_saying (session_view c.args.self.now) P _ _ c.requires.running
-    (record { outcome = show_body c.in_ok-outcome.outcome; begins = search rules; life = search rules; exited = refl; out = search rules })))
-    c.put.ensures.ok
+    record {
+      ok = on_ok c.put.result (λ is. does_as (session_view c.args.self.now) P _ (session_view c.put.new.self) is
+          (does_saying (session_view c.args.self.now) P _ _ c.requires.running
+          (record { outcome = show_body c.in_ok-outcome.outcome; begins = search rules; life = search rules; exited = refl; out = search rules })))
+          c.put.ensures.ok;
+    }
 
-pub returns-in-None-clause-ok : goal.returns-in-None-clause-ok
-returns-in-None-clause-ok g c =
+pub returns-in-None : goal.returns-in-None
+returns-in-None g c =
     let P = λ (s : State g.row.H.Denot) (e : Effect) (s2 : State g.row.H.Denot). Obeys g.H.Handlers.rules s (Starts (option_map show_id c.args.id) c.args.entry (g.H.Handlers.rules.show_call c.args.call)) e s2 in
-    does_silently (session_view c.args.self.now) P _ c.requires.running
-    (record { outcome = show_body c.in_ok-outcome.outcome; begins = search rules; life = search rules; exited = refl; out = search rules })
+    record {
+      ok = does_silently (session_view c.args.self.now) P _ c.requires.running
+          (record { outcome = show_body c.in_ok-outcome.outcome; begins = search rules; life = search rules; exited = refl; out = search rules });
+    }
