@@ -210,7 +210,7 @@ fn compared_and_printed_by_the_text(rt: HostRuntime) -> Result<(), Fail> {
     let lower = Uri::parse(alloc, "http://a/")?;
     assert!(rt; upper != lower);
     assert!(rt; upper < lower);
-    assert!(rt; lower == lower.clone(alloc)?);
+    assert!(rt; lower == lower.clone()?);
     assert_eq!(rt; format!(in alloc; "{lower}")?.as_str(), "http://a/");
     assert_eq!(rt;
         format!(in alloc; "{lower:?}")?.as_str(),

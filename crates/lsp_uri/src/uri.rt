@@ -1,4 +1,10 @@
-ghost use Rattle.std.specs.Prelude.{◌≡◌, ◌↔◌, true, false, option_map, string_bytes, IfOk, OnOk, IsErrOf};
+ghost use Rattle.std.specs.Prelude.{◌≡◌, ◌↔◌, true, false, Some, option_map, string_bytes, bytes_eq, IfOk, OnOk, IsErrOf, refl};
+ghost use Rattle.std.specs.Cmp.{on_equiv, on_per, on_po, on_total, partial_equiv_from_equiv};
+ghost use Rattle.std.specs.Cmp.Lexicographic.{slice_cmp, nat_list_eq_equiv, nat_list_cmp_total, texts_po, texts_ties};
+ghost use Rattle.std.specs.Cmp.Rules.{hashing};
+ghost use Rattle.std.specs.Hash as fed;
+ghost use Rattle.std.specs.Ordering.{nat_cmp};
+ghost use Rattle.std.proofs.Common.{rules};
 ghost use Rattle.lsp_uri.specs.Grammar.{is_uri_reference};
 ghost use Rattle.lsp_uri.specs.declared.uri.UriError.TheVariants as errors;
 
@@ -7,8 +13,10 @@ use lsp_shape::{Key, Misfit, Wire};
 use no_memory::NoMemory;
 use serde_json::Value;
 use std::alloc::{AllocError, AllocFailed, Global};
+use std::cmp::Ordering;
 use std::error::Error;
 use std::fmt;
+use std::hash::{Hash, Hasher};
 
 /// Why a text is not parsed.
 #[derive(Clone, Copy, Debug, PartialEq, Eq)]
@@ -35,6 +43,10 @@ impl<T: Drop> From<AllocFailed<T>> for UriError {
 }
 
 impl fmt::Display for UriError {
+    ghost use Rattle.lsp_uri.specs.Uri.{text_of_error};
+
+    ghost output = { λ e. Some (text_of_error e) };
+
     fn fmt<W: fmt::Write>(&self, f: &mut fmt::Formatter<W>) -> fmt::Result {
         match self {
             UriError::NotUri => f.write_str("not a URI reference"),
@@ -45,8 +57,8 @@ impl fmt::Display for UriError {
 
 impl Error for UriError {}
 
-/// A URI reference: RFC 3986, section 4.1. Two are compared and hashed as their texts are.
-#[derive(Debug, PartialEq, Eq, PartialOrd, Ord, Hash, Drop)]
+/// A URI reference: RFC 3986, section 4.1. Two are compared and hashed as their texts are, byte by byte.
+#[derive(Debug, Drop)]
 pub struct Uri {
     text: String,
     ghost is_reference: { is_uri_reference (string_bytes text) ≡ true },
@@ -114,18 +126,83 @@ impl Uri {
     {
         split(self.text.as_str()).fragment
     }
+}
 
-    /// An equal URI reference.
-    pub fn clone(&self, _alloc: Global) -> Result<Uri, NoMemory>
-        ensures { IfOk result (λ u. uri_text u ≡ uri_text self.now) }
-    {
+impl Clone for Uri {
+    ghost use Rattle.lsp_uri.specs.Uri.{uri_text};
+
+    ghost is_clone = { λ u v. uri_text v ≡ uri_text u };
+
+    fn clone(&self) -> Result<Uri, AllocError> {
         Ok(Uri {
             text: self.text.clone()?,
         })
     }
 }
 
+impl PartialEq for Uri {
+    ghost use Rattle.lsp_uri.specs.Uri.{uri_text};
+
+    ghost eq = { λ u v. bytes_eq (uri_text u) (uri_text v) };
+
+    ghost laws = { on_per uri_text (partial_equiv_from_equiv nat_list_eq_equiv) };
+
+    fn eq(&self, other: &Uri) -> bool {
+        self.text == other.text
+    }
+}
+
+impl Eq for Uri {
+    ghost use Rattle.lsp_uri.specs.Uri.{uri_text};
+
+    ghost laws = { on_equiv uri_text nat_list_eq_equiv };
+}
+
+impl PartialOrd for Uri {
+    ghost use Rattle.lsp_uri.specs.Uri.{uri_text};
+
+    ghost partial_cmp = { λ u v. Some (slice_cmp nat_cmp (uri_text u) (uri_text v)) };
+
+    ghost laws = { on_po uri_text texts_po };
+
+    fn partial_cmp(&self, other: &Uri) -> Option<Ordering> {
+        Some(self.cmp(other))
+    }
+}
+
+impl Ord for Uri {
+    ghost use Rattle.lsp_uri.specs.Uri.{uri_text};
+
+    ghost cmp = { λ u v. slice_cmp nat_cmp (uri_text u) (uri_text v) };
+
+    ghost total = { on_total uri_text nat_list_cmp_total };
+
+    ghost matches_partial_cmp = { λ u v. refl };
+
+    ghost matches_eq = { λ u v. texts_ties (uri_text u) (uri_text v) };
+
+    fn cmp(&self, other: &Uri) -> Ordering {
+        self.text.cmp(&other.text)
+    }
+}
+
+impl Hash for Uri {
+    ghost use Rattle.lsp_uri.specs.Uri.{uri_text};
+
+    ghost hash_input = { λ u. fed.str (uri_text u) };
+
+    ghost respects_eq = { Prim.search (hashing, rules) };
+
+    fn hash<H: Hasher>(&self, state: &mut H) {
+        self.text.hash(state);
+    }
+}
+
 impl fmt::Display for Uri {
+    ghost use Rattle.lsp_uri.specs.Uri.{uri_text};
+
+    ghost output = { λ u. Some (uri_text u) };
+
     fn fmt<W: fmt::Write>(&self, f: &mut fmt::Formatter<W>) -> fmt::Result {
         f.write_str(self.text.as_str())
     }
@@ -151,7 +228,6 @@ impl Wire for Uri {
 }
 
 impl Key for Uri {
-    ghost use Rattle.std.proofs.Common.{rules};
     ghost use Rattle.lsp_uri.specs.Uri.{uri_text};
 
     ghost key_text = { uri_text };
