@@ -1,8 +1,8 @@
 // Kinds of section "Completion Request".
-ghost use Rattle.std.specs.Prelude.{◌≡◌, option_map, ℤ};
+ghost use Rattle.std.specs.Prelude.{◌≡◌, codes, option_map, Some, ℤ};
 ghost use Rattle.lsp_shape.specs.Shape.{i32_shape};
 ghost use Rattle.lsp_shape.specs.Shown.{show_signed};
-ghost use Rattle.lsp_kinds.specs.Named.{IsReadBy, name_in};
+ghost use Rattle.lsp_kinds.specs.Named.{IsReadBy, kind_text, name_in, numbers_of};
 ghost use Rattle.lsp_kinds.specs.Tables.{insert_text_formats, insert_text_modes, completion_item_kinds, completion_item_tags, completion_trigger_kinds};
 
 use crate::named::{UNKNOWN, name_of, number_of, write_kind};
@@ -36,6 +36,13 @@ impl InsertTextFormat {
         ("Snippet", Self::SNIPPET.0),
     ];
 
+    /// Each constant, in the order of LSP 3.17: what `try_from` gives for the names in that order.
+    pub fn constants() -> [InsertTextFormat; 2]
+        ensures { result ≡ numbers_of insert_text_formats }
+    {
+        [Self::PLAIN_TEXT, Self::SNIPPET]
+    }
+
     /// The name of the number, where it has one.
     pub fn name(&self) -> Option<&'static str>
         ensures { option_map (λ s. s.now) result ≡ name_in insert_text_formats self.now }
@@ -59,6 +66,8 @@ impl TryFrom<&str> for InsertTextFormat {
 }
 
 impl fmt::Debug for InsertTextFormat {
+    ghost debug_output = { λ k. Some (kind_text insert_text_formats (codes "InsertTextFormat") k) };
+
     fn fmt<W: fmt::Write>(&self, f: &mut fmt::Formatter<W>) -> fmt::Result {
         write_kind(f, "InsertTextFormat", self.name(), self.0)
     }
@@ -94,13 +103,20 @@ impl Model for InsertTextMode {
 impl InsertTextMode {
     /// The text is inserted as it is.
     pub const AS_IS: InsertTextMode = InsertTextMode(1);
-    /// Each further line is indented as the line of the cursor is.
+    /// Each further line is indented as the line of the cursor is up to the cursor.
     pub const ADJUST_INDENTATION: InsertTextMode = InsertTextMode(2);
 
     const NAMES: [(&'static str, i32); 2] = [
         ("AsIs", Self::AS_IS.0),
         ("AdjustIndentation", Self::ADJUST_INDENTATION.0),
     ];
+
+    /// Each constant, in the order of LSP 3.17: what `try_from` gives for the names in that order.
+    pub fn constants() -> [InsertTextMode; 2]
+        ensures { result ≡ numbers_of insert_text_modes }
+    {
+        [Self::AS_IS, Self::ADJUST_INDENTATION]
+    }
 
     /// The name of the number, where it has one.
     pub fn name(&self) -> Option<&'static str>
@@ -125,6 +141,8 @@ impl TryFrom<&str> for InsertTextMode {
 }
 
 impl fmt::Debug for InsertTextMode {
+    ghost debug_output = { λ k. Some (kind_text insert_text_modes (codes "InsertTextMode") k) };
+
     fn fmt<W: fmt::Write>(&self, f: &mut fmt::Formatter<W>) -> fmt::Result {
         write_kind(f, "InsertTextMode", self.name(), self.0)
     }
@@ -237,6 +255,39 @@ impl CompletionItemKind {
         ("TypeParameter", Self::TYPE_PARAMETER.0),
     ];
 
+    /// Each constant, in the order of LSP 3.17: what `try_from` gives for the names in that order.
+    pub fn constants() -> [CompletionItemKind; 25]
+        ensures { result ≡ numbers_of completion_item_kinds }
+    {
+        [
+            Self::TEXT,
+            Self::METHOD,
+            Self::FUNCTION,
+            Self::CONSTRUCTOR,
+            Self::FIELD,
+            Self::VARIABLE,
+            Self::CLASS,
+            Self::INTERFACE,
+            Self::MODULE,
+            Self::PROPERTY,
+            Self::UNIT,
+            Self::VALUE,
+            Self::ENUM,
+            Self::KEYWORD,
+            Self::SNIPPET,
+            Self::COLOR,
+            Self::FILE,
+            Self::REFERENCE,
+            Self::FOLDER,
+            Self::ENUM_MEMBER,
+            Self::CONSTANT,
+            Self::STRUCT,
+            Self::EVENT,
+            Self::OPERATOR,
+            Self::TYPE_PARAMETER,
+        ]
+    }
+
     /// The name of the number, where it has one.
     pub fn name(&self) -> Option<&'static str>
         ensures { option_map (λ s. s.now) result ≡ name_in completion_item_kinds self.now }
@@ -260,6 +311,8 @@ impl TryFrom<&str> for CompletionItemKind {
 }
 
 impl fmt::Debug for CompletionItemKind {
+    ghost debug_output = { λ k. Some (kind_text completion_item_kinds (codes "CompletionItemKind") k) };
+
     fn fmt<W: fmt::Write>(&self, f: &mut fmt::Formatter<W>) -> fmt::Result {
         write_kind(f, "CompletionItemKind", self.name(), self.0)
     }
@@ -298,6 +351,13 @@ impl CompletionItemTag {
 
     const NAMES: [(&'static str, i32); 1] = [("Deprecated", Self::DEPRECATED.0)];
 
+    /// Each constant, in the order of LSP 3.17: what `try_from` gives for the names in that order.
+    pub fn constants() -> [CompletionItemTag; 1]
+        ensures { result ≡ numbers_of completion_item_tags }
+    {
+        [Self::DEPRECATED]
+    }
+
     /// The name of the number, where it has one.
     pub fn name(&self) -> Option<&'static str>
         ensures { option_map (λ s. s.now) result ≡ name_in completion_item_tags self.now }
@@ -321,6 +381,8 @@ impl TryFrom<&str> for CompletionItemTag {
 }
 
 impl fmt::Debug for CompletionItemTag {
+    ghost debug_output = { λ k. Some (kind_text completion_item_tags (codes "CompletionItemTag") k) };
+
     fn fmt<W: fmt::Write>(&self, f: &mut fmt::Formatter<W>) -> fmt::Result {
         write_kind(f, "CompletionItemTag", self.name(), self.0)
     }
@@ -370,6 +432,17 @@ impl CompletionTriggerKind {
         ),
     ];
 
+    /// Each constant, in the order of LSP 3.17: what `try_from` gives for the names in that order.
+    pub fn constants() -> [CompletionTriggerKind; 3]
+        ensures { result ≡ numbers_of completion_trigger_kinds }
+    {
+        [
+            Self::INVOKED,
+            Self::TRIGGER_CHARACTER,
+            Self::TRIGGER_FOR_INCOMPLETE_COMPLETIONS,
+        ]
+    }
+
     /// The name of the number, where it has one.
     pub fn name(&self) -> Option<&'static str>
         ensures { option_map (λ s. s.now) result ≡ name_in completion_trigger_kinds self.now }
@@ -393,6 +466,8 @@ impl TryFrom<&str> for CompletionTriggerKind {
 }
 
 impl fmt::Debug for CompletionTriggerKind {
+    ghost debug_output = { λ k. Some (kind_text completion_trigger_kinds (codes "CompletionTriggerKind") k) };
+
     fn fmt<W: fmt::Write>(&self, f: &mut fmt::Formatter<W>) -> fmt::Result {
         write_kind(f, "CompletionTriggerKind", self.name(), self.0)
     }

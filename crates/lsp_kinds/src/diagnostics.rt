@@ -1,8 +1,8 @@
 // Kinds of section "Diagnostic".
-ghost use Rattle.std.specs.Prelude.{◌≡◌, option_map, ℤ};
+ghost use Rattle.std.specs.Prelude.{◌≡◌, codes, option_map, Some, ℤ};
 ghost use Rattle.lsp_shape.specs.Shape.{i32_shape};
 ghost use Rattle.lsp_shape.specs.Shown.{show_signed};
-ghost use Rattle.lsp_kinds.specs.Named.{IsReadBy, name_in};
+ghost use Rattle.lsp_kinds.specs.Named.{IsReadBy, kind_text, name_in, numbers_of};
 ghost use Rattle.lsp_kinds.specs.Tables.{diagnostic_severities, diagnostic_tags};
 
 use crate::named::{UNKNOWN, name_of, number_of, write_kind};
@@ -44,6 +44,13 @@ impl DiagnosticSeverity {
         ("Hint", Self::HINT.0),
     ];
 
+    /// Each constant, in the order of LSP 3.17: what `try_from` gives for the names in that order.
+    pub fn constants() -> [DiagnosticSeverity; 4]
+        ensures { result ≡ numbers_of diagnostic_severities }
+    {
+        [Self::ERROR, Self::WARNING, Self::INFORMATION, Self::HINT]
+    }
+
     /// The name of the number, where it has one.
     pub fn name(&self) -> Option<&'static str>
         ensures { option_map (λ s. s.now) result ≡ name_in diagnostic_severities self.now }
@@ -67,6 +74,8 @@ impl TryFrom<&str> for DiagnosticSeverity {
 }
 
 impl fmt::Debug for DiagnosticSeverity {
+    ghost debug_output = { λ k. Some (kind_text diagnostic_severities (codes "DiagnosticSeverity") k) };
+
     fn fmt<W: fmt::Write>(&self, f: &mut fmt::Formatter<W>) -> fmt::Result {
         write_kind(f, "DiagnosticSeverity", self.name(), self.0)
     }
@@ -110,6 +119,13 @@ impl DiagnosticTag {
         ("Deprecated", Self::DEPRECATED.0),
     ];
 
+    /// Each constant, in the order of LSP 3.17: what `try_from` gives for the names in that order.
+    pub fn constants() -> [DiagnosticTag; 2]
+        ensures { result ≡ numbers_of diagnostic_tags }
+    {
+        [Self::UNNECESSARY, Self::DEPRECATED]
+    }
+
     /// The name of the number, where it has one.
     pub fn name(&self) -> Option<&'static str>
         ensures { option_map (λ s. s.now) result ≡ name_in diagnostic_tags self.now }
@@ -133,6 +149,8 @@ impl TryFrom<&str> for DiagnosticTag {
 }
 
 impl fmt::Debug for DiagnosticTag {
+    ghost debug_output = { λ k. Some (kind_text diagnostic_tags (codes "DiagnosticTag") k) };
+
     fn fmt<W: fmt::Write>(&self, f: &mut fmt::Formatter<W>) -> fmt::Result {
         write_kind(f, "DiagnosticTag", self.name(), self.0)
     }

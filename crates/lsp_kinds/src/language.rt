@@ -1,8 +1,8 @@
 // Kinds of the language features: why or how something is asked for or shown.
-ghost use Rattle.std.specs.Prelude.{◌≡◌, option_map, ℤ};
+ghost use Rattle.std.specs.Prelude.{◌≡◌, codes, option_map, Some, ℤ};
 ghost use Rattle.lsp_shape.specs.Shape.{i32_shape};
 ghost use Rattle.lsp_shape.specs.Shown.{show_signed};
-ghost use Rattle.lsp_kinds.specs.Named.{IsReadBy, name_in};
+ghost use Rattle.lsp_kinds.specs.Named.{IsReadBy, kind_text, name_in, numbers_of};
 ghost use Rattle.lsp_kinds.specs.Tables.{code_action_trigger_kinds, document_highlight_kinds, inlay_hint_kinds, prepare_support_default_behaviors, signature_help_trigger_kinds};
 
 use crate::named::{UNKNOWN, name_of, number_of, write_kind};
@@ -36,6 +36,13 @@ impl CodeActionTriggerKind {
         ("Automatic", Self::AUTOMATIC.0),
     ];
 
+    /// Each constant, in the order of LSP 3.17: what `try_from` gives for the names in that order.
+    pub fn constants() -> [CodeActionTriggerKind; 2]
+        ensures { result ≡ numbers_of code_action_trigger_kinds }
+    {
+        [Self::INVOKED, Self::AUTOMATIC]
+    }
+
     /// The name of the number, where it has one.
     pub fn name(&self) -> Option<&'static str>
         ensures { option_map (λ s. s.now) result ≡ name_in code_action_trigger_kinds self.now }
@@ -59,6 +66,8 @@ impl TryFrom<&str> for CodeActionTriggerKind {
 }
 
 impl fmt::Debug for CodeActionTriggerKind {
+    ghost debug_output = { λ k. Some (kind_text code_action_trigger_kinds (codes "CodeActionTriggerKind") k) };
+
     fn fmt<W: fmt::Write>(&self, f: &mut fmt::Formatter<W>) -> fmt::Result {
         write_kind(f, "CodeActionTriggerKind", self.name(), self.0)
     }
@@ -105,6 +114,13 @@ impl DocumentHighlightKind {
         ("Write", Self::WRITE.0),
     ];
 
+    /// Each constant, in the order of LSP 3.17: what `try_from` gives for the names in that order.
+    pub fn constants() -> [DocumentHighlightKind; 3]
+        ensures { result ≡ numbers_of document_highlight_kinds }
+    {
+        [Self::TEXT, Self::READ, Self::WRITE]
+    }
+
     /// The name of the number, where it has one.
     pub fn name(&self) -> Option<&'static str>
         ensures { option_map (λ s. s.now) result ≡ name_in document_highlight_kinds self.now }
@@ -128,6 +144,8 @@ impl TryFrom<&str> for DocumentHighlightKind {
 }
 
 impl fmt::Debug for DocumentHighlightKind {
+    ghost debug_output = { λ k. Some (kind_text document_highlight_kinds (codes "DocumentHighlightKind") k) };
+
     fn fmt<W: fmt::Write>(&self, f: &mut fmt::Formatter<W>) -> fmt::Result {
         write_kind(f, "DocumentHighlightKind", self.name(), self.0)
     }
@@ -171,6 +189,13 @@ impl InlayHintKind {
         ("Parameter", Self::PARAMETER.0),
     ];
 
+    /// Each constant, in the order of LSP 3.17: what `try_from` gives for the names in that order.
+    pub fn constants() -> [InlayHintKind; 2]
+        ensures { result ≡ numbers_of inlay_hint_kinds }
+    {
+        [Self::TYPE, Self::PARAMETER]
+    }
+
     /// The name of the number, where it has one.
     pub fn name(&self) -> Option<&'static str>
         ensures { option_map (λ s. s.now) result ≡ name_in inlay_hint_kinds self.now }
@@ -194,6 +219,8 @@ impl TryFrom<&str> for InlayHintKind {
 }
 
 impl fmt::Debug for InlayHintKind {
+    ghost debug_output = { λ k. Some (kind_text inlay_hint_kinds (codes "InlayHintKind") k) };
+
     fn fmt<W: fmt::Write>(&self, f: &mut fmt::Formatter<W>) -> fmt::Result {
         write_kind(f, "InlayHintKind", self.name(), self.0)
     }
@@ -232,6 +259,13 @@ impl PrepareSupportDefaultBehavior {
 
     const NAMES: [(&'static str, i32); 1] = [("Identifier", Self::IDENTIFIER.0)];
 
+    /// Each constant, in the order of LSP 3.17: what `try_from` gives for the names in that order.
+    pub fn constants() -> [PrepareSupportDefaultBehavior; 1]
+        ensures { result ≡ numbers_of prepare_support_default_behaviors }
+    {
+        [Self::IDENTIFIER]
+    }
+
     /// The name of the number, where it has one.
     pub fn name(&self) -> Option<&'static str>
         ensures { option_map (λ s. s.now) result ≡ name_in prepare_support_default_behaviors self.now }
@@ -255,6 +289,8 @@ impl TryFrom<&str> for PrepareSupportDefaultBehavior {
 }
 
 impl fmt::Debug for PrepareSupportDefaultBehavior {
+    ghost debug_output = { λ k. Some (kind_text prepare_support_default_behaviors (codes "PrepareSupportDefaultBehavior") k) };
+
     fn fmt<W: fmt::Write>(&self, f: &mut fmt::Formatter<W>) -> fmt::Result {
         write_kind(f, "PrepareSupportDefaultBehavior", self.name(), self.0)
     }
@@ -301,6 +337,13 @@ impl SignatureHelpTriggerKind {
         ("ContentChange", Self::CONTENT_CHANGE.0),
     ];
 
+    /// Each constant, in the order of LSP 3.17: what `try_from` gives for the names in that order.
+    pub fn constants() -> [SignatureHelpTriggerKind; 3]
+        ensures { result ≡ numbers_of signature_help_trigger_kinds }
+    {
+        [Self::INVOKED, Self::TRIGGER_CHARACTER, Self::CONTENT_CHANGE]
+    }
+
     /// The name of the number, where it has one.
     pub fn name(&self) -> Option<&'static str>
         ensures { option_map (λ s. s.now) result ≡ name_in signature_help_trigger_kinds self.now }
@@ -324,6 +367,8 @@ impl TryFrom<&str> for SignatureHelpTriggerKind {
 }
 
 impl fmt::Debug for SignatureHelpTriggerKind {
+    ghost debug_output = { λ k. Some (kind_text signature_help_trigger_kinds (codes "SignatureHelpTriggerKind") k) };
+
     fn fmt<W: fmt::Write>(&self, f: &mut fmt::Formatter<W>) -> fmt::Result {
         write_kind(f, "SignatureHelpTriggerKind", self.name(), self.0)
     }

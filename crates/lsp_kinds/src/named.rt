@@ -1,6 +1,7 @@
 // The numbers that have a name, as pairs of both.
-ghost use Rattle.std.specs.Prelude.{◌≡◌, map, option_map};
-ghost use Rattle.lsp_kinds.specs.Named.{number_in, name_in};
+ghost use Rattle.std.specs.Prelude.{◌≡◌, map, option_map, Some};
+ghost use Rattle.std.specs.Fmt.{DisplaysOnOk};
+ghost use Rattle.lsp_kinds.specs.Named.{number_in, name_in, name_or_number};
 
 use std::fmt;
 
@@ -37,7 +38,10 @@ pub(crate) fn write_kind<W: fmt::Write>(
     type_name: &str,
     name: Option<&'static str>,
     number: i32,
-) -> fmt::Result {
+) -> fmt::Result
+    ensures { DisplaysOnOk W.write_str_gives f.old result
+        (Some (name_or_number type_name.now (option_map (λ s. s.now) name.entry) number)) f.new }
+{
     match name {
         Some(name) => f.write_str(name),
         None => write!(f, "{type_name}({number})"),

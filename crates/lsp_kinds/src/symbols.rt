@@ -1,8 +1,8 @@
 // Kinds of section "Document Symbols Request".
-ghost use Rattle.std.specs.Prelude.{◌≡◌, option_map, ℤ};
+ghost use Rattle.std.specs.Prelude.{◌≡◌, codes, option_map, Some, ℤ};
 ghost use Rattle.lsp_shape.specs.Shape.{i32_shape};
 ghost use Rattle.lsp_shape.specs.Shown.{show_signed};
-ghost use Rattle.lsp_kinds.specs.Named.{IsReadBy, name_in};
+ghost use Rattle.lsp_kinds.specs.Named.{IsReadBy, kind_text, name_in, numbers_of};
 ghost use Rattle.lsp_kinds.specs.Tables.{symbol_kinds, symbol_tags};
 
 use crate::named::{UNKNOWN, name_of, number_of, write_kind};
@@ -108,6 +108,40 @@ impl SymbolKind {
         ("TypeParameter", Self::TYPE_PARAMETER.0),
     ];
 
+    /// Each constant, in the order of LSP 3.17: what `try_from` gives for the names in that order.
+    pub fn constants() -> [SymbolKind; 26]
+        ensures { result ≡ numbers_of symbol_kinds }
+    {
+        [
+            Self::FILE,
+            Self::MODULE,
+            Self::NAMESPACE,
+            Self::PACKAGE,
+            Self::CLASS,
+            Self::METHOD,
+            Self::PROPERTY,
+            Self::FIELD,
+            Self::CONSTRUCTOR,
+            Self::ENUM,
+            Self::INTERFACE,
+            Self::FUNCTION,
+            Self::VARIABLE,
+            Self::CONSTANT,
+            Self::STRING,
+            Self::NUMBER,
+            Self::BOOLEAN,
+            Self::ARRAY,
+            Self::OBJECT,
+            Self::KEY,
+            Self::NULL,
+            Self::ENUM_MEMBER,
+            Self::STRUCT,
+            Self::EVENT,
+            Self::OPERATOR,
+            Self::TYPE_PARAMETER,
+        ]
+    }
+
     /// The name of the number, where it has one.
     pub fn name(&self) -> Option<&'static str>
         ensures { option_map (λ s. s.now) result ≡ name_in symbol_kinds self.now }
@@ -131,6 +165,8 @@ impl TryFrom<&str> for SymbolKind {
 }
 
 impl fmt::Debug for SymbolKind {
+    ghost debug_output = { λ k. Some (kind_text symbol_kinds (codes "SymbolKind") k) };
+
     fn fmt<W: fmt::Write>(&self, f: &mut fmt::Formatter<W>) -> fmt::Result {
         write_kind(f, "SymbolKind", self.name(), self.0)
     }
@@ -169,6 +205,13 @@ impl SymbolTag {
 
     const NAMES: [(&'static str, i32); 1] = [("Deprecated", Self::DEPRECATED.0)];
 
+    /// Each constant, in the order of LSP 3.17: what `try_from` gives for the names in that order.
+    pub fn constants() -> [SymbolTag; 1]
+        ensures { result ≡ numbers_of symbol_tags }
+    {
+        [Self::DEPRECATED]
+    }
+
     /// The name of the number, where it has one.
     pub fn name(&self) -> Option<&'static str>
         ensures { option_map (λ s. s.now) result ≡ name_in symbol_tags self.now }
@@ -192,6 +235,8 @@ impl TryFrom<&str> for SymbolTag {
 }
 
 impl fmt::Debug for SymbolTag {
+    ghost debug_output = { λ k. Some (kind_text symbol_tags (codes "SymbolTag") k) };
+
     fn fmt<W: fmt::Write>(&self, f: &mut fmt::Formatter<W>) -> fmt::Result {
         write_kind(f, "SymbolTag", self.name(), self.0)
     }

@@ -1,8 +1,8 @@
 // Kinds of section "Text Document Synchronization".
-ghost use Rattle.std.specs.Prelude.{◌≡◌, option_map, ℤ};
+ghost use Rattle.std.specs.Prelude.{◌≡◌, codes, option_map, Some, ℤ};
 ghost use Rattle.lsp_shape.specs.Shape.{i32_shape};
 ghost use Rattle.lsp_shape.specs.Shown.{show_signed};
-ghost use Rattle.lsp_kinds.specs.Named.{IsReadBy, name_in};
+ghost use Rattle.lsp_kinds.specs.Named.{IsReadBy, kind_text, name_in, numbers_of};
 ghost use Rattle.lsp_kinds.specs.Tables.{text_document_sync_kinds, text_document_save_reasons};
 
 use crate::named::{UNKNOWN, name_of, number_of, write_kind};
@@ -39,6 +39,13 @@ impl TextDocumentSyncKind {
         ("Incremental", Self::INCREMENTAL.0),
     ];
 
+    /// Each constant, in the order of LSP 3.17: what `try_from` gives for the names in that order.
+    pub fn constants() -> [TextDocumentSyncKind; 3]
+        ensures { result ≡ numbers_of text_document_sync_kinds }
+    {
+        [Self::NONE, Self::FULL, Self::INCREMENTAL]
+    }
+
     /// The name of the number, where it has one.
     pub fn name(&self) -> Option<&'static str>
         ensures { option_map (λ s. s.now) result ≡ name_in text_document_sync_kinds self.now }
@@ -62,6 +69,8 @@ impl TryFrom<&str> for TextDocumentSyncKind {
 }
 
 impl fmt::Debug for TextDocumentSyncKind {
+    ghost debug_output = { λ k. Some (kind_text text_document_sync_kinds (codes "TextDocumentSyncKind") k) };
+
     fn fmt<W: fmt::Write>(&self, f: &mut fmt::Formatter<W>) -> fmt::Result {
         write_kind(f, "TextDocumentSyncKind", self.name(), self.0)
     }
@@ -108,6 +117,13 @@ impl TextDocumentSaveReason {
         ("FocusOut", Self::FOCUS_OUT.0),
     ];
 
+    /// Each constant, in the order of LSP 3.17: what `try_from` gives for the names in that order.
+    pub fn constants() -> [TextDocumentSaveReason; 3]
+        ensures { result ≡ numbers_of text_document_save_reasons }
+    {
+        [Self::MANUAL, Self::AFTER_DELAY, Self::FOCUS_OUT]
+    }
+
     /// The name of the number, where it has one.
     pub fn name(&self) -> Option<&'static str>
         ensures { option_map (λ s. s.now) result ≡ name_in text_document_save_reasons self.now }
@@ -131,6 +147,8 @@ impl TryFrom<&str> for TextDocumentSaveReason {
 }
 
 impl fmt::Debug for TextDocumentSaveReason {
+    ghost debug_output = { λ k. Some (kind_text text_document_save_reasons (codes "TextDocumentSaveReason") k) };
+
     fn fmt<W: fmt::Write>(&self, f: &mut fmt::Formatter<W>) -> fmt::Result {
         write_kind(f, "TextDocumentSaveReason", self.name(), self.0)
     }

@@ -1,8 +1,8 @@
 // Kinds of the workspace and the window.
-ghost use Rattle.std.specs.Prelude.{◌≡◌, option_map, ℤ};
+ghost use Rattle.std.specs.Prelude.{◌≡◌, codes, option_map, Some, ℤ};
 ghost use Rattle.lsp_shape.specs.Shape.{i32_shape};
 ghost use Rattle.lsp_shape.specs.Shown.{show_signed};
-ghost use Rattle.lsp_kinds.specs.Named.{IsReadBy, name_in};
+ghost use Rattle.lsp_kinds.specs.Named.{IsReadBy, kind_text, name_in, numbers_of};
 ghost use Rattle.lsp_kinds.specs.Tables.{file_change_types, message_types};
 
 use crate::named::{UNKNOWN, name_of, number_of, write_kind};
@@ -39,6 +39,13 @@ impl FileChangeType {
         ("Deleted", Self::DELETED.0),
     ];
 
+    /// Each constant, in the order of LSP 3.17: what `try_from` gives for the names in that order.
+    pub fn constants() -> [FileChangeType; 3]
+        ensures { result ≡ numbers_of file_change_types }
+    {
+        [Self::CREATED, Self::CHANGED, Self::DELETED]
+    }
+
     /// The name of the number, where it has one.
     pub fn name(&self) -> Option<&'static str>
         ensures { option_map (λ s. s.now) result ≡ name_in file_change_types self.now }
@@ -62,6 +69,8 @@ impl TryFrom<&str> for FileChangeType {
 }
 
 impl fmt::Debug for FileChangeType {
+    ghost debug_output = { λ k. Some (kind_text file_change_types (codes "FileChangeType") k) };
+
     fn fmt<W: fmt::Write>(&self, f: &mut fmt::Formatter<W>) -> fmt::Result {
         write_kind(f, "FileChangeType", self.name(), self.0)
     }
@@ -111,6 +120,13 @@ impl MessageType {
         ("Log", Self::LOG.0),
     ];
 
+    /// Each constant, in the order of LSP 3.17: what `try_from` gives for the names in that order.
+    pub fn constants() -> [MessageType; 4]
+        ensures { result ≡ numbers_of message_types }
+    {
+        [Self::ERROR, Self::WARNING, Self::INFO, Self::LOG]
+    }
+
     /// The name of the number, where it has one.
     pub fn name(&self) -> Option<&'static str>
         ensures { option_map (λ s. s.now) result ≡ name_in message_types self.now }
@@ -134,6 +150,8 @@ impl TryFrom<&str> for MessageType {
 }
 
 impl fmt::Debug for MessageType {
+    ghost debug_output = { λ k. Some (kind_text message_types (codes "MessageType") k) };
+
     fn fmt<W: fmt::Write>(&self, f: &mut fmt::Formatter<W>) -> fmt::Result {
         write_kind(f, "MessageType", self.name(), self.0)
     }
