@@ -1,0 +1,45 @@
+// What is folded, of section "Folding Range Request".
+ghost use Rattle.lsp_names.specs.Folding.{folding_range_kind_shape, show_folding_range_kind};
+
+use lsp_shape::{Misfit, Wire};
+use no_memory::NoMemory;
+use serde_json::Value;
+use std::alloc::Global;
+
+/// What a range of lines that can be folded holds: section "Folding Range Request" of LSP 3.17.
+///
+/// LSP lets a server have kinds of its own; as in `lsp-types`, only the three that it names are read.
+#[derive(Clone, Debug, PartialEq, Eq, Drop)]
+pub enum FoldingRangeKind {
+    /// A comment.
+    Comment,
+    /// Imports or includes.
+    Imports,
+    /// What the code itself marks as a region, as by `#region`.
+    Region,
+}
+
+#[tactic(auto, unfolding(crate::specs::Folding::folding_range_kind_shape, crate::specs::Folding::show_folding_range_kind))]
+impl Wire for FoldingRangeKind {
+    ghost shape = { folding_range_kind_shape };
+
+    ghost shown = { show_folding_range_kind };
+
+    fn from_value(_alloc: Global, value: &Value) -> Result<FoldingRangeKind, Misfit> {
+        match value.as_str() {
+            Some("comment") => Ok(FoldingRangeKind::Comment),
+            Some("imports") => Ok(FoldingRangeKind::Imports),
+            Some("region") => Ok(FoldingRangeKind::Region),
+            _ => Err(Misfit::Unfit),
+        }
+    }
+
+    fn to_value(&self, alloc: Global) -> Result<Value, NoMemory> {
+        let name = match self {
+            FoldingRangeKind::Comment => "comment",
+            FoldingRangeKind::Imports => "imports",
+            FoldingRangeKind::Region => "region",
+        };
+        Ok(Value::try_from_str(alloc, name)?)
+    }
+}

@@ -1,0 +1,54 @@
+// How much a server tells of its own work, of section "TraceValue".
+ghost use Rattle.std.specs.Prelude.{◌≡◌};
+ghost use Rattle.lsp_names.specs.Trace.{trace_value_shape, show_trace_value};
+ghost use Rattle.lsp_names.specs.declared.trace.TraceValue.TheVariants as values;
+
+use lsp_shape::{Misfit, Wire};
+use no_memory::NoMemory;
+use serde_json::Value;
+use std::alloc::Global;
+
+/// How much a server tells of what it does, by `$/logTrace`: section "TraceValue" of LSP 3.17. Until the client asks for
+/// more it is nothing.
+#[derive(Clone, Copy, Debug, PartialEq, Eq)]
+pub enum TraceValue {
+    /// Nothing.
+    Off,
+    /// Messages, each without its further text.
+    Messages,
+    /// Messages, each with its further text.
+    Verbose,
+}
+
+impl Default for TraceValue {
+    ghost is_default = { λ trace. trace ≡ values.Off };
+
+    fn default() -> TraceValue {
+        Self::Off
+    }
+}
+
+#[tactic(auto, unfolding(crate::specs::Trace::trace_value_shape, crate::specs::Trace::show_trace_value))]
+impl Wire for TraceValue {
+    ghost shape = { trace_value_shape };
+
+    ghost shown = { show_trace_value };
+
+    fn from_value(_alloc: Global, value: &Value) -> Result<TraceValue, Misfit> {
+        match value.as_str() {
+            Some("off") => Ok(TraceValue::Off),
+            Some("messages") => Ok(TraceValue::Messages),
+            Some("verbose") => Ok(TraceValue::Verbose),
+            _ => Err(Misfit::Unfit),
+        }
+    }
+
+    fn to_value(&self, alloc: Global) -> Result<Value, NoMemory> {
+        let name = match self {
+            TraceValue::Off => "off",
+            TraceValue::Messages => "messages",
+            TraceValue::Verbose => "verbose",
+        };
+        Ok(Value::try_from_str(alloc, name)?)
+    }
+}
