@@ -1,0 +1,9 @@
+pub mod Basic
+pub mod Command
+pub mod Diagnostic
+pub mod Document
+pub mod Progress
+pub mod Registration
+pub mod Edit
+pub mod Resource
+pub mod WorkspaceEdit

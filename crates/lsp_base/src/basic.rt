@@ -1,0 +1,315 @@
+// Ids, positions and ranges.
+ghost use Rattle.std.specs.Prelude.{◌≡◌, ◌==◌};
+ghost use Rattle.std.specs.Cmp.{partial_order_from_own_ties};
+ghost use Rattle.std.specs.Cmp.Rules.{comparing};
+ghost use Rattle.std.specs.Ordering.{nat_cmp, on, then_cmp, as_partial_cmp, eq_of_both};
+ghost use Rattle.std.proofs.Common.{rules};
+ghost use Rattle.lsp_rpc.specs.Shown.{show_id};
+ghost use Rattle.lsp_base.specs.Basic.{number_or_string_shape, show_number_or_string, id_of, cancel_params_shape, show_cancel_params, position_shape, show_position, range_shape, show_range, location_shape, show_location, location_link_shape, show_location_link};
+
+use lsp_rpc::Id;
+use lsp_shape::{Misfit, NoMemory, Wire, attempt, field, optional, put, put_optional};
+use lsp_uri::Uri;
+use serde_json::{Map, Value};
+use std::alloc::Global;
+use std::cmp::Ordering;
+use std::hash::Hash;
+
+/// A number or a text, as the id of a request or a code: sections "Base Protocol" and "Diagnostic" of LSP 3.17.
+#[derive(Debug, PartialEq, Eq, Hash, Clone, Drop)]
+pub enum NumberOrString {
+    /// A number of 32 bits.
+    Number(i32),
+    /// A text.
+    String(String),
+}
+
+#[tactic(auto, unfolding(crate::specs::Basic::number_or_string_shape, crate::specs::Basic::show_number_or_string))]
+impl Wire for NumberOrString {
+    ghost shape = { number_or_string_shape };
+
+    ghost shown = { show_number_or_string };
+
+    fn from_value(alloc: Global, value: &Value) -> Result<NumberOrString, Misfit> {
+        if let Some(number) = attempt(alloc, value)? {
+            return Ok(NumberOrString::Number(number));
+        }
+        Ok(NumberOrString::String(String::from_value(alloc, value)?))
+    }
+
+    fn to_value(&self, alloc: Global) -> Result<Value, NoMemory> {
+        match self {
+            NumberOrString::Number(number) => number.to_value(alloc),
+            NumberOrString::String(text) => text.to_value(alloc),
+        }
+    }
+}
+
+impl From<NumberOrString> for Id {
+    ghost from_gives = { λ given id. show_id id ≡ id_of given };
+
+    fn from(given: NumberOrString) -> Id {
+        match given {
+            NumberOrString::Number(number) => Id::Number(i64::from(number)),
+            NumberOrString::String(text) => Id::String(text),
+        }
+    }
+}
+
+/// Which request is to be given up: section "Cancellation Support" of LSP 3.17.
+#[derive(Debug, PartialEq, Eq, Clone, Drop)]
+pub struct CancelParams {
+    /// The id of that request.
+    pub id: NumberOrString,
+}
+
+#[tactic(auto, unfolding(crate::specs::Basic::cancel_params_shape, crate::specs::Basic::show_cancel_params))]
+impl Wire for CancelParams {
+    ghost shape = { cancel_params_shape };
+
+    ghost shown = { show_cancel_params };
+
+    fn from_value(alloc: Global, value: &Value) -> Result<CancelParams, Misfit> {
+        let Value::Object(object) = value else {
+            return Err(Misfit::Unfit);
+        };
+        Ok(CancelParams {
+            id: field(alloc, object, "id")?,
+        })
+    }
+
+    fn to_value(&self, alloc: Global) -> Result<Value, NoMemory> {
+        let mut object = Map::new(alloc);
+        put(alloc, &mut object, "id", &self.id)?;
+        Ok(Value::Object(object))
+    }
+}
+
+/// Any JSON value: section "Base Types" of LSP 3.17.
+pub type LSPAny = Value;
+
+/// An object of any members: section "Base Types" of LSP 3.17.
+pub type LSPObject = Map<String, Value>;
+
+/// A list of any values: section "Base Types" of LSP 3.17.
+pub type LSPArray = Vec<Value>;
+
+/// A place between two characters of a document: section "Position" of LSP 3.17.
+///
+/// Positions are ordered by line, and within a line by character.
+#[derive(Debug, Clone, Copy, Hash, Default)]
+pub struct Position {
+    /// The line, counted from 0.
+    pub line: u32,
+    /// How many code units of the line stand before the place: of UTF-16, unless another encoding was agreed on.
+    /// Past the end of the line it means that end.
+    pub character: u32,
+}
+
+impl Position {
+    /// The place before the code unit `character` of the line `line`, both counted from 0.
+    pub fn new(line: u32, character: u32) -> Position
+        ensures { result ≡ record { line = line; character = character } }
+    {
+        Position { line, character }
+    }
+}
+
+impl PartialEq for Position {
+    ghost eq = { eq_of_both (on (λ p. p.line) (◌==◌)) (on (λ p. p.character) (◌==◌)) };
+
+    ghost laws = { Prim.search (comparing, rules) };
+
+    fn eq(&self, other: &Position) -> bool {
+        self.line == other.line && self.character == other.character
+    }
+}
+
+impl Eq for Position {
+    ghost laws = { Prim.search (comparing, rules) };
+}
+
+impl PartialOrd for Position {
+    ghost partial_cmp = { as_partial_cmp (then_cmp (on (λ p. p.line) nat_cmp) (on (λ p. p.character) nat_cmp)) };
+
+    ghost laws = { partial_order_from_own_ties (Prim.search (comparing, rules)) (Prim.search (comparing, rules)) };
+
+    fn partial_cmp(&self, other: &Position) -> Option<Ordering> {
+        Some(self.cmp(other))
+    }
+}
+
+impl Ord for Position {
+    ghost cmp = { then_cmp (on (λ p. p.line) nat_cmp) (on (λ p. p.character) nat_cmp) };
+
+    ghost total = { Prim.search (comparing, rules) };
+
+    ghost matches_partial_cmp = { Prim.search (comparing, rules) };
+
+    ghost matches_eq = { Prim.search (comparing, rules) };
+
+    fn cmp(&self, other: &Position) -> Ordering {
+        self.line
+            .cmp(&other.line)
+            .then(self.character.cmp(&other.character))
+    }
+}
+
+#[tactic(auto, unfolding(crate::specs::Basic::position_shape, crate::specs::Basic::show_position))]
+impl Wire for Position {
+    ghost shape = { position_shape };
+
+    ghost shown = { show_position };
+
+    fn from_value(alloc: Global, value: &Value) -> Result<Position, Misfit> {
+        let Value::Object(object) = value else {
+            return Err(Misfit::Unfit);
+        };
+        Ok(Position {
+            line: field(alloc, object, "line")?,
+            character: field(alloc, object, "character")?,
+        })
+    }
+
+    fn to_value(&self, alloc: Global) -> Result<Value, NoMemory> {
+        let mut object = Map::new(alloc);
+        put(alloc, &mut object, "line", &self.line)?;
+        put(alloc, &mut object, "character", &self.character)?;
+        Ok(Value::Object(object))
+    }
+}
+
+/// What stands from one place of a document up to another: section "Range" of LSP 3.17.
+#[derive(Debug, Clone, Copy, PartialEq, Eq, Hash, Default)]
+pub struct Range {
+    /// Where it begins.
+    pub start: Position,
+    /// Where it ends. What stands behind this place is outside.
+    pub end: Position,
+}
+
+impl Range {
+    /// What stands from `start` up to `end`.
+    pub fn new(start: Position, end: Position) -> Range
+        ensures { result ≡ record { start = start; end = end } }
+    {
+        Range { start, end }
+    }
+}
+
+#[tactic(auto, unfolding(crate::specs::Basic::range_shape, crate::specs::Basic::show_range))]
+impl Wire for Range {
+    ghost shape = { range_shape };
+
+    ghost shown = { show_range };
+
+    fn from_value(alloc: Global, value: &Value) -> Result<Range, Misfit> {
+        let Value::Object(object) = value else {
+            return Err(Misfit::Unfit);
+        };
+        Ok(Range {
+            start: field(alloc, object, "start")?,
+            end: field(alloc, object, "end")?,
+        })
+    }
+
+    fn to_value(&self, alloc: Global) -> Result<Value, NoMemory> {
+        let mut object = Map::new(alloc);
+        put(alloc, &mut object, "start", &self.start)?;
+        put(alloc, &mut object, "end", &self.end)?;
+        Ok(Value::Object(object))
+    }
+}
+
+/// A range of a document: section "Location" of LSP 3.17.
+#[derive(Debug, PartialEq, Eq, Hash, Clone, Drop)]
+pub struct Location {
+    /// The document.
+    pub uri: Uri,
+    /// The range in it.
+    pub range: Range,
+}
+
+impl Location {
+    /// That range of the document.
+    pub fn new(uri: Uri, range: Range) -> Location
+        ensures { result ≡ record { uri = uri; range = range } }
+    {
+        Location { uri, range }
+    }
+}
+
+#[tactic(auto, unfolding(crate::specs::Basic::location_shape, crate::specs::Basic::show_location))]
+impl Wire for Location {
+    ghost shape = { location_shape };
+
+    ghost shown = { show_location };
+
+    fn from_value(alloc: Global, value: &Value) -> Result<Location, Misfit> {
+        let Value::Object(object) = value else {
+            return Err(Misfit::Unfit);
+        };
+        Ok(Location {
+            uri: field(alloc, object, "uri")?,
+            range: field(alloc, object, "range")?,
+        })
+    }
+
+    fn to_value(&self, alloc: Global) -> Result<Value, NoMemory> {
+        let mut object = Map::new(alloc);
+        put(alloc, &mut object, "uri", &self.uri)?;
+        put(alloc, &mut object, "range", &self.range)?;
+        Ok(Value::Object(object))
+    }
+}
+
+/// A link from a range of one document to a range of another: section "LocationLink" of LSP 3.17.
+#[derive(Debug, PartialEq, Eq, Clone, Drop)]
+pub struct LocationLink {
+    /// What is underlined as the link. Where it is absent, the word at the place that was asked for.
+    pub origin_selection_range: Option<Range>,
+    /// The document that the link leads to.
+    pub target_uri: Uri,
+    /// The whole of what the link leads to, with comments and the like.
+    pub target_range: Range,
+    /// What is selected when the link is followed, as the name of a function. It lies within `target_range`.
+    pub target_selection_range: Range,
+}
+
+#[tactic(auto, unfolding(crate::specs::Basic::location_link_shape, crate::specs::Basic::show_location_link))]
+impl Wire for LocationLink {
+    ghost shape = { location_link_shape };
+
+    ghost shown = { show_location_link };
+
+    fn from_value(alloc: Global, value: &Value) -> Result<LocationLink, Misfit> {
+        let Value::Object(object) = value else {
+            return Err(Misfit::Unfit);
+        };
+        Ok(LocationLink {
+            origin_selection_range: optional(alloc, object, "originSelectionRange")?,
+            target_uri: field(alloc, object, "targetUri")?,
+            target_range: field(alloc, object, "targetRange")?,
+            target_selection_range: field(alloc, object, "targetSelectionRange")?,
+        })
+    }
+
+    fn to_value(&self, alloc: Global) -> Result<Value, NoMemory> {
+        let mut object = Map::new(alloc);
+        put_optional(
+            alloc,
+            &mut object,
+            "originSelectionRange",
+            &self.origin_selection_range,
+        )?;
+        put(alloc, &mut object, "targetUri", &self.target_uri)?;
+        put(alloc, &mut object, "targetRange", &self.target_range)?;
+        put(
+            alloc,
+            &mut object,
+            "targetSelectionRange",
+            &self.target_selection_range,
+        )?;
+        Ok(Value::Object(object))
+    }
+}

@@ -1,0 +1,66 @@
+// Commands.
+ghost use Rattle.std.specs.Prelude.{◌≡◌, [], string_bytes};
+ghost use Rattle.lsp_base.specs.Command.{command_shape, show_command};
+
+use lsp_shape::{Misfit, NoMemory, Wire, field, optional, put, put_optional};
+use serde_json::{Map, Value};
+use std::alloc::Global;
+
+/// A command that an editor offers to the user: section "Command" of LSP 3.17.
+#[derive(Debug, Clone, Drop)]
+pub struct Command {
+    /// What the user sees, as `save`.
+    pub title: String,
+    /// What the command is called where it is carried out.
+    pub command: String,
+    /// What it is carried out with.
+    pub arguments: Option<Vec<Value>>,
+}
+
+impl Command {
+    /// The command of that title, with these arguments.
+    pub fn new(title: String, command: String, arguments: Option<Vec<Value>>) -> Command
+        ensures { result ≡ record { title = title; command = command; arguments = arguments } }
+    {
+        Command {
+            title,
+            command,
+            arguments,
+        }
+    }
+
+    /// A command whose texts are empty, with no arguments.
+    pub fn default(alloc: Global) -> Command
+        ensures title { string_bytes result.title ≡ [] }
+        ensures command { string_bytes result.command ≡ [] }
+        ensures arguments { result.arguments ≡ None }
+    {
+        Command::new(String::new(alloc), String::new(alloc), None)
+    }
+}
+
+#[tactic(auto, unfolding(crate::specs::Command::command_shape, crate::specs::Command::show_command))]
+impl Wire for Command {
+    ghost shape = { command_shape };
+
+    ghost shown = { show_command };
+
+    fn from_value(alloc: Global, value: &Value) -> Result<Command, Misfit> {
+        let Value::Object(object) = value else {
+            return Err(Misfit::Unfit);
+        };
+        Ok(Command {
+            title: field(alloc, object, "title")?,
+            command: field(alloc, object, "command")?,
+            arguments: optional(alloc, object, "arguments")?,
+        })
+    }
+
+    fn to_value(&self, alloc: Global) -> Result<Value, NoMemory> {
+        let mut object = Map::new(alloc);
+        put(alloc, &mut object, "title", &self.title)?;
+        put(alloc, &mut object, "command", &self.command)?;
+        put_optional(alloc, &mut object, "arguments", &self.arguments)?;
+        Ok(Value::Object(object))
+    }
+}

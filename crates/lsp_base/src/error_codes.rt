@@ -1,0 +1,26 @@
+//! Codes of errors that LSP adds to those of JSON-RPC: section "Response Message" of LSP 3.17.
+
+/// The message came before `initialize`.
+pub const SERVER_NOT_INITIALIZED: i64 = -32002;
+
+/// An error that no other code fits.
+pub const UNKNOWN_ERROR_CODE: i64 = -32001;
+
+/// The least of the numbers that LSP keeps for codes of its own. It is itself no code.
+pub const LSP_RESERVED_ERROR_RANGE_START: i64 = -32899;
+
+/// The request is well formed, and still could not be carried out.
+pub const REQUEST_FAILED: i64 = -32803;
+
+/// The server gave up the request, which was one that a server may give up.
+pub const SERVER_CANCELLED: i64 = -32802;
+
+/// The document changed in a way that the server had no reason to expect. A change that is only waiting to be
+/// handled is none.
+pub const CONTENT_MODIFIED: i64 = -32801;
+
+/// The editor gave up the request.
+pub const REQUEST_CANCELLED: i64 = -32800;
+
+/// The greatest of the numbers that LSP keeps for codes of its own.
+pub const LSP_RESERVED_ERROR_RANGE_END: i64 = -32800;

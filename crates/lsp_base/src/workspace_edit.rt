@@ -1,0 +1,132 @@
+// Edits of a workspace.
+ghost use Rattle.std.specs.Prelude.{◌≡◌, Some, None};
+ghost use Rattle.lsp_base.specs.WorkspaceEdit.{document_change_operation_shape, show_document_change_operation, document_changes_shape, show_document_changes, workspace_edit_shape, show_workspace_edit};
+
+use crate::edit::{ChangeAnnotation, ChangeAnnotationIdentifier, TextDocumentEdit, TextEdit};
+use crate::resource::ResourceOp;
+use lsp_shape::{Misfit, NoMemory, Wire, attempt, optional, put_optional};
+use lsp_uri::Uri;
+use serde_json::{Map, Value};
+use std::alloc::Global;
+use std::collections::HashMap;
+
+/// Changes of any number of documents and files: section "WorkspaceEdit" of LSP 3.17.
+///
+/// It has `changes` or `document_changes`; where it has both, an editor that knows `document_changes` takes these.
+#[derive(Debug, Clone, Default, Drop)]
+pub struct WorkspaceEdit {
+    /// The edits of each document.
+    pub changes: Option<HashMap<Uri, Vec<TextEdit>>>,
+    /// Edits of versions of documents, and changes of files.
+    pub document_changes: Option<DocumentChanges>,
+    /// The annotations that the changes name.
+    pub change_annotations: Option<HashMap<ChangeAnnotationIdentifier, ChangeAnnotation>>,
+}
+
+impl WorkspaceEdit {
+    /// Those edits of each document.
+    pub fn new(changes: HashMap<Uri, Vec<TextEdit>>) -> WorkspaceEdit
+        ensures { result ≡ record { changes = Some changes; document_changes = None; change_annotations = None } }
+    {
+        WorkspaceEdit {
+            changes: Some(changes),
+            ..Default::default()
+        }
+    }
+}
+
+#[tactic(auto, unfolding(crate::specs::WorkspaceEdit::workspace_edit_shape, crate::specs::WorkspaceEdit::show_workspace_edit))]
+impl Wire for WorkspaceEdit {
+    ghost shape = { workspace_edit_shape };
+
+    ghost shown = { show_workspace_edit };
+
+    fn from_value(alloc: Global, value: &Value) -> Result<WorkspaceEdit, Misfit> {
+        let Value::Object(object) = value else {
+            return Err(Misfit::Unfit);
+        };
+        Ok(WorkspaceEdit {
+            changes: optional(alloc, object, "changes")?,
+            document_changes: optional(alloc, object, "documentChanges")?,
+            change_annotations: optional(alloc, object, "changeAnnotations")?,
+        })
+    }
+
+    fn to_value(&self, alloc: Global) -> Result<Value, NoMemory> {
+        let mut object = Map::new(alloc);
+        put_optional(alloc, &mut object, "changes", &self.changes)?;
+        put_optional(
+            alloc,
+            &mut object,
+            "documentChanges",
+            &self.document_changes,
+        )?;
+        put_optional(
+            alloc,
+            &mut object,
+            "changeAnnotations",
+            &self.change_annotations,
+        )?;
+        Ok(Value::Object(object))
+    }
+}
+
+/// Edits of documents alone, or with changes of files among them: section "WorkspaceEdit" of LSP 3.17.
+#[derive(Debug, PartialEq, Eq, Clone, Drop)]
+pub enum DocumentChanges {
+    /// Edits of documents alone. Each list that holds nothing else is read as these, an empty one too.
+    Edits(Vec<TextDocumentEdit>),
+    /// Edits of documents and changes of files, made in their order.
+    Operations(Vec<DocumentChangeOperation>),
+}
+
+#[tactic(auto, unfolding(crate::specs::WorkspaceEdit::document_changes_shape, crate::specs::WorkspaceEdit::show_document_changes))]
+impl Wire for DocumentChanges {
+    ghost shape = { document_changes_shape };
+
+    ghost shown = { show_document_changes };
+
+    fn from_value(alloc: Global, value: &Value) -> Result<DocumentChanges, Misfit> {
+        if let Some(edits) = attempt(alloc, value)? {
+            return Ok(DocumentChanges::Edits(edits));
+        }
+        Ok(DocumentChanges::Operations(Vec::from_value(alloc, value)?))
+    }
+
+    fn to_value(&self, alloc: Global) -> Result<Value, NoMemory> {
+        match self {
+            DocumentChanges::Edits(edits) => edits.to_value(alloc),
+            DocumentChanges::Operations(operations) => operations.to_value(alloc),
+        }
+    }
+}
+
+/// A change of a file or folder, or edits of a document: section "WorkspaceEdit" of LSP 3.17.
+#[derive(Debug, PartialEq, Eq, Clone, Drop)]
+pub enum DocumentChangeOperation {
+    /// A change of a file or folder.
+    Op(ResourceOp),
+    /// Edits of a document.
+    Edit(TextDocumentEdit),
+}
+
+#[tactic(auto, unfolding(crate::specs::WorkspaceEdit::document_change_operation_shape, crate::specs::WorkspaceEdit::show_document_change_operation))]
+impl Wire for DocumentChangeOperation {
+    ghost shape = { document_change_operation_shape };
+
+    ghost shown = { show_document_change_operation };
+
+    fn from_value(alloc: Global, value: &Value) -> Result<DocumentChangeOperation, Misfit> {
+        if let Some(change) = attempt(alloc, value)? {
+            return Ok(DocumentChangeOperation::Op(change));
+        }
+        Ok(DocumentChangeOperation::Edit(TextDocumentEdit::from_value(alloc, value)?))
+    }
+
+    fn to_value(&self, alloc: Global) -> Result<Value, NoMemory> {
+        match self {
+            DocumentChangeOperation::Op(change) => change.to_value(alloc),
+            DocumentChangeOperation::Edit(edit) => edit.to_value(alloc),
+        }
+    }
+}
