@@ -77,6 +77,6 @@ show_location_link x = parts (
     part (show_range x.target_range) (
     part (show_range x.target_selection_range) no_parts))))
 
--- the first place of a document
+-- the empty range at the start of a document
 abbrev pub first_range : Range
 first_range = record { start = record { line = 0; character = 0 }; end = record { line = 0; character = 0 } }

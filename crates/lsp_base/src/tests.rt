@@ -1,5 +1,5 @@
-// What no clause says: that the rows are those of the protocol, on texts as LSP 3.17 gives them and editors send them, and
-// that reading and writing succeed.
+// What no clause says: that the rows are those of the protocol, on texts that Neovim and clangd sent, where they send the type,
+// and on others written after LSP 3.17, some of them its examples; and that reading and writing succeed.
 use crate::{
     AnnotatedTextEdit, CancelParams, ChangeAnnotation, CodeDescription, Command, CreateFile,
     CreateFileOptions, DeleteFile, DeleteFileOptions, Diagnostic, DiagnosticRelatedInformation,
@@ -53,14 +53,21 @@ const NUMBER_OR_STRING: [Row; 4] = [
     ("null", None),
 ];
 
-const CANCEL_PARAMS: [Row; 4] = [
+const CANCEL_PARAMS: [Row; 5] = [
+    // Neovim 0.7.2 sends this.
+    (r#"{"id":2}"#, Some(r#"{"id":2}"#)),
     (r#"{"id":3}"#, Some(r#"{"id":3}"#)),
     (r#"{"id":"a","reason":"late"}"#, Some(r#"{"id":"a"}"#)),
     (r#"{"id":null}"#, None),
     ("[3]", None),
 ];
 
-const POSITION: [Row; 5] = [
+const POSITION: [Row; 6] = [
+    // Neovim 0.7.2 sends this.
+    (
+        r#"{"line":0,"character":3}"#,
+        Some(r#"{"character":3,"line":0}"#),
+    ),
     (
         r#"{"line":3,"character":12}"#,
         Some(r#"{"character":12,"line":3}"#),
@@ -75,7 +82,12 @@ const POSITION: [Row; 5] = [
 ];
 
 // The example of section "Range".
-const RANGE: [Row; 2] = [
+const RANGE: [Row; 3] = [
+    // Neovim 0.7.2 sends this.
+    (
+        r#"{"end":{"line":0,"character":5},"start":{"line":0,"character":0}}"#,
+        Some(r#"{"end":{"character":5,"line":0},"start":{"character":0,"line":0}}"#),
+    ),
     (
         r#"{"start":{"line":5,"character":23},"end":{"line":6,"character":0}}"#,
         Some(r#"{"end":{"character":0,"line":6},"start":{"character":23,"line":5}}"#),
@@ -86,7 +98,14 @@ const RANGE: [Row; 2] = [
     ),
 ];
 
-const LOCATION: [Row; 2] = [
+const LOCATION: [Row; 3] = [
+    // clangd 14 sends this.
+    (
+        r#"{"range":{"end":{"character":19,"line":0},"start":{"character":11,"line":0}},"uri":"file:///tmp/rec/c/a.c"}"#,
+        Some(
+            r#"{"range":{"end":{"character":19,"line":0},"start":{"character":11,"line":0}},"uri":"file:///tmp/rec/c/a.c"}"#,
+        ),
+    ),
     (
         r#"{"uri":"file:///a.rs","range":{"start":{"line":0,"character":3},"end":{"line":0,"character":7}}}"#,
         Some(
@@ -137,7 +156,12 @@ fn ids_and_places(rt: HostRuntime) -> Result<(), Fail> {
     Ok(())
 }
 
-const TEXT_DOCUMENT_IDENTIFIER: [Row; 2] = [
+const TEXT_DOCUMENT_IDENTIFIER: [Row; 3] = [
+    // Neovim 0.7.2 sends this.
+    (
+        r#"{"uri":"file:///tmp/rec/w/a.txt"}"#,
+        Some(r#"{"uri":"file:///tmp/rec/w/a.txt"}"#),
+    ),
     (
         r#"{"uri":"untitled:Untitled-1"}"#,
         Some(r#"{"uri":"untitled:Untitled-1"}"#),
@@ -145,7 +169,14 @@ const TEXT_DOCUMENT_IDENTIFIER: [Row; 2] = [
     (r#"{"uri":1}"#, None),
 ];
 
-const TEXT_DOCUMENT_ITEM: [Row; 2] = [
+const TEXT_DOCUMENT_ITEM: [Row; 3] = [
+    // Neovim 0.7.2 sends this.
+    (
+        r#"{"version":0,"text":"hello world\nsecond\n","uri":"file:///tmp/rec/w/a.txt","languageId":"text"}"#,
+        Some(
+            r#"{"languageId":"text","text":"hello world\nsecond\n","uri":"file:///tmp/rec/w/a.txt","version":0}"#,
+        ),
+    ),
     (
         r#"{"uri":"file:///w/main.rs","languageId":"rust","version":1,"text":"fn main() {}\n"}"#,
         Some(
@@ -158,7 +189,12 @@ const TEXT_DOCUMENT_ITEM: [Row; 2] = [
     ),
 ];
 
-const VERSIONED: [Row; 2] = [
+const VERSIONED: [Row; 3] = [
+    // Neovim 0.7.2 sends this.
+    (
+        r#"{"uri":"file:///tmp/rec/w/a.txt","version":5}"#,
+        Some(r#"{"uri":"file:///tmp/rec/w/a.txt","version":5}"#),
+    ),
     (
         r#"{"uri":"file:///a","version":-4}"#,
         Some(r#"{"uri":"file:///a","version":-4}"#),
@@ -179,7 +215,14 @@ const OPTIONAL_VERSIONED: [Row; 4] = [
     (r#"{"uri":"file:///a","version":"7"}"#, None),
 ];
 
-const TEXT_DOCUMENT_POSITION: [Row; 2] = [
+const TEXT_DOCUMENT_POSITION: [Row; 3] = [
+    // Neovim 0.7.2 sends this.
+    (
+        r#"{"textDocument":{"uri":"file:///tmp/rec/w/a.txt"},"position":{"line":0,"character":3}}"#,
+        Some(
+            r#"{"position":{"character":3,"line":0},"textDocument":{"uri":"file:///tmp/rec/w/a.txt"}}"#,
+        ),
+    ),
     (
         r#"{"textDocument":{"uri":"file:///a"},"position":{"line":3,"character":12}}"#,
         Some(r#"{"position":{"character":12,"line":3},"textDocument":{"uri":"file:///a"}}"#),
@@ -204,7 +247,14 @@ const DOCUMENT_FILTER: [Row; 4] = [
     (r#"{"pattern":["*"]}"#, None),
 ];
 
-const CONTENT_CHANGE: [Row; 3] = [
+const CONTENT_CHANGE: [Row; 4] = [
+    // Neovim 0.7.2 sends this.
+    (
+        r#"{"rangeLength":5,"text":"HOWDY","range":{"end":{"line":0,"character":5},"start":{"line":0,"character":0}}}"#,
+        Some(
+            r#"{"range":{"end":{"character":5,"line":0},"start":{"character":0,"line":0}},"rangeLength":5,"text":"HOWDY"}"#,
+        ),
+    ),
     (r#"{"text":"all"}"#, Some(r#"{"text":"all"}"#)),
     (
         r#"{"range":{"start":{"line":0,"character":0},"end":{"line":0,"character":1}},"rangeLength":1,"text":""}"#,
@@ -215,7 +265,12 @@ const CONTENT_CHANGE: [Row; 3] = [
     (r#"{"rangeLength":-1,"text":""}"#, None),
 ];
 
-const WORKSPACE_FOLDER: [Row; 2] = [
+const WORKSPACE_FOLDER: [Row; 3] = [
+    // Neovim 0.7.2 sends this.
+    (
+        r#"{"uri":"file:///tmp/rec/w","name":"/tmp/rec/w"}"#,
+        Some(r#"{"name":"/tmp/rec/w","uri":"file:///tmp/rec/w"}"#),
+    ),
     (
         r#"{"uri":"file:///home/me/project","name":"project"}"#,
         Some(r#"{"name":"project","uri":"file:///home/me/project"}"#),
@@ -237,8 +292,15 @@ fn documents(rt: HostRuntime) -> Result<(), Fail> {
     Ok(())
 }
 
-// As editors get them: one with each member, one with few.
-const DIAGNOSTIC: [Row; 5] = [
+// After the one of clangd: one with each member, and one with few.
+const DIAGNOSTIC: [Row; 6] = [
+    // clangd 14 sends this.
+    (
+        r#"{"code":"expected_semi_declaration","message":"Expected ';' at end of declaration (fix available)","range":{"end":{"character":51,"line":1},"start":{"character":45,"line":1}},"relatedInformation":[],"severity":1,"source":"clang"}"#,
+        Some(
+            r#"{"code":"expected_semi_declaration","message":"Expected ';' at end of declaration (fix available)","range":{"end":{"character":51,"line":1},"start":{"character":45,"line":1}},"relatedInformation":[],"severity":1,"source":"clang"}"#,
+        ),
+    ),
     (
         r#"{"range":{"start":{"line":2,"character":8},"end":{"line":2,"character":9}},"severity":2,"code":"unused_variables","codeDescription":{"href":"https://doc.rust-lang.org/rustc/lints/listing/warn-by-default.html#unused-variables"},"source":"rustc","message":"unused variable: `x`","relatedInformation":[{"location":{"uri":"file:///w/main.rs","range":{"start":{"line":2,"character":8},"end":{"line":2,"character":9}}},"message":"here"}],"tags":[1],"data":{"rendered":null}}"#,
         Some(
@@ -324,12 +386,18 @@ fn diagnostics_and_commands(rt: HostRuntime) -> Result<(), Fail> {
 }
 
 const TAG_SUPPORT: [Row; 3] = [
+    // Neovim 0.7.2 sends this.
     (r#"{"valueSet":[1,2]}"#, Some(r#"{"valueSet":[1,2]}"#)),
     (r#"{"valueSet":[]}"#, Some(r#"{"valueSet":[]}"#)),
     ("true", None),
 ];
 
-const DYNAMIC_REGISTRATION: [Row; 3] = [
+const DYNAMIC_REGISTRATION: [Row; 4] = [
+    // Neovim 0.7.2 sends this.
+    (
+        r#"{"dynamicRegistration":false}"#,
+        Some(r#"{"dynamicRegistration":false}"#),
+    ),
     (
         r#"{"dynamicRegistration":true}"#,
         Some(r#"{"dynamicRegistration":true}"#),
@@ -338,7 +406,9 @@ const DYNAMIC_REGISTRATION: [Row; 3] = [
     (r#"{"dynamicRegistration":0}"#, None),
 ];
 
-const GOTO_CAPABILITY: [Row; 3] = [
+const GOTO_CAPABILITY: [Row; 4] = [
+    // Neovim 0.7.2 sends this.
+    (r#"{"linkSupport":true}"#, Some(r#"{"linkSupport":true}"#)),
     (
         r#"{"dynamicRegistration":false,"linkSupport":true}"#,
         Some(r#"{"dynamicRegistration":false,"linkSupport":true}"#),
@@ -389,7 +459,14 @@ fn registrations(rt: HostRuntime) -> Result<(), Fail> {
     Ok(())
 }
 
-const TEXT_EDIT: [Row; 2] = [
+const TEXT_EDIT: [Row; 3] = [
+    // clangd 14 sends this.
+    (
+        r#"{"newText":"new_name","range":{"end":{"character":19,"line":0},"start":{"character":11,"line":0}}}"#,
+        Some(
+            r#"{"newText":"new_name","range":{"end":{"character":19,"line":0},"start":{"character":11,"line":0}}}"#,
+        ),
+    ),
     (
         r#"{"range":{"start":{"line":0,"character":0},"end":{"line":0,"character":0}},"newText":"use a;\n"}"#,
         Some(
@@ -539,7 +616,14 @@ const DOCUMENT_CHANGES: [Row; 3] = [
     ("{}", None),
 ];
 
-const WORKSPACE_EDIT: [Row; 5] = [
+const WORKSPACE_EDIT: [Row; 6] = [
+    // clangd 14 sends this.
+    (
+        r#"{"changes":{"file:///tmp/rec/c/a.c":[{"newText":"new_name","range":{"end":{"character":19,"line":0},"start":{"character":11,"line":0}}},{"newText":"new_name","range":{"end":{"character":41,"line":1},"start":{"character":33,"line":1}}}]}}"#,
+        Some(
+            r#"{"changes":{"file:///tmp/rec/c/a.c":[{"newText":"new_name","range":{"end":{"character":19,"line":0},"start":{"character":11,"line":0}}},{"newText":"new_name","range":{"end":{"character":41,"line":1},"start":{"character":33,"line":1}}}]}}"#,
+        ),
+    ),
     ("{}", Some("{}")),
     (
         r#"{"changes":{"file://test":[]}}"#,

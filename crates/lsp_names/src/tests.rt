@@ -1,4 +1,5 @@
-// What no clause says: each known name by its text in LSP 3.17, what Debug shows, and that texts of editors are read.
+// What no clause says: each known name by its text in LSP 3.17, what Debug shows, and that texts of editors, of clangd and of
+// the standard are read.
 ghost use Rattle.std.specs.Prelude.{◌≡◌, Some, bytes_eq};
 ghost use Rattle.std.specs.Cmp.Lexicographic.{slice_cmp};
 ghost use Rattle.std.specs.Ordering.{nat_cmp};
@@ -202,8 +203,12 @@ fn assert_refused<T: Wire>(rt: &impl Abort, alloc: Global, texts: &[&str]) -> Re
     Ok(())
 }
 
-// What Visual Studio Code and Neovim say of themselves in `initialize`, and a kind of a server's own.
-const CODE_ACTION_KINDS: [(&str, &str); 2] = [
+// What Neovim 0.7.2 says of itself in `initialize`, the known names, and a kind of a server's own.
+const CODE_ACTION_KINDS: [(&str, &str); 3] = [
+    (
+        r#"["","Empty","QuickFix","Refactor","RefactorExtract","RefactorInline","RefactorRewrite","Source","SourceOrganizeImports","quickfix","refactor","refactor.extract","refactor.inline","refactor.rewrite","source","source.organizeImports"]"#,
+        r#"["","Empty","QuickFix","Refactor","RefactorExtract","RefactorInline","RefactorRewrite","Source","SourceOrganizeImports","quickfix","refactor","refactor.extract","refactor.inline","refactor.rewrite","source","source.organizeImports"]"#,
+    ),
     (
         r#"["","quickfix","refactor","refactor.extract","refactor.inline","refactor.rewrite","source","source.organizeImports"]"#,
         r#"["","quickfix","refactor","refactor.extract","refactor.inline","refactor.rewrite","source","source.organizeImports"]"#,
@@ -241,7 +246,7 @@ const MARKUP_KINDS: [(&str, &str); 1] = [(
 )];
 
 // The example of section "MarkupContent".
-const MARKUP_CONTENTS: [(&str, &str); 2] = [
+const MARKUP_CONTENTS: [(&str, &str); 3] = [
     (
         r##"{"kind":"markdown","value":"# Header\nSome text\n```typescript\nsomeCode();\n```"}"##,
         r##"{"kind":"markdown","value":"# Header\nSome text\n```typescript\nsomeCode();\n```"}"##,
@@ -249,6 +254,11 @@ const MARKUP_CONTENTS: [(&str, &str); 2] = [
     (
         r#"{"value":"a","kind":"plaintext","language":"c"}"#,
         r#"{"kind":"plaintext","value":"a"}"#,
+    ),
+    // clangd 14 sends this.
+    (
+        r#"{"kind":"plaintext","value":"function old_name\n\n→ int\nParameters:\n- int n\n\nstatic int old_name(int n)"}"#,
+        r#"{"kind":"plaintext","value":"function old_name\n\n→ int\nParameters:\n- int n\n\nstatic int old_name(int n)"}"#,
     ),
 ];
 
