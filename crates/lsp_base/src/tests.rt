@@ -1,5 +1,5 @@
-// What no clause says: that the rows are those of the protocol, on texts that Neovim and clangd sent, where they send the type,
-// and on others written after LSP 3.17, some of them its examples; and that reading and writing succeed.
+// What no clause says: that the rows are those of the protocol, on texts that Neovim, clangd and pylsp sent, where they send the
+// type, and on others written after LSP 3.17, some of them its examples; and that reading and writing succeed.
 use crate::{
     AnnotatedTextEdit, CancelParams, ChangeAnnotation, CodeDescription, Command, CreateFile,
     CreateFileOptions, DeleteFile, DeleteFileOptions, Diagnostic, DiagnosticRelatedInformation,
@@ -46,7 +46,12 @@ fn holds<T: Wire>(rt: &impl Abort, alloc: Global, rows: &[Row]) -> Result<(), Fa
     Ok(())
 }
 
-const NUMBER_OR_STRING: [Row; 4] = [
+const NUMBER_OR_STRING: [Row; 5] = [
+    // pylsp 1.7.1 sends this.
+    (
+        r#""e2e50f16-7f3f-476c-a468-dd9e1ea0c549""#,
+        Some(r#""e2e50f16-7f3f-476c-a468-dd9e1ea0c549""#),
+    ),
     ("7", Some("7")),
     (r#""E0308""#, Some(r#""E0308""#)),
     ("2147483648", None),
@@ -202,7 +207,12 @@ const VERSIONED: [Row; 3] = [
     (r#"{"uri":"file:///a","version":null}"#, None),
 ];
 
-const OPTIONAL_VERSIONED: [Row; 4] = [
+const OPTIONAL_VERSIONED: [Row; 5] = [
+    // clangd 19 sends this.
+    (
+        r#"{"uri":"file:///tmp/rec/c/g.c","version":1}"#,
+        Some(r#"{"uri":"file:///tmp/rec/c/g.c","version":1}"#),
+    ),
     (r#"{"uri":""}"#, Some(r#"{"uri":"","version":null}"#)),
     (
         r#"{"uri":"file:///a","version":null}"#,
@@ -292,8 +302,21 @@ fn documents(rt: HostRuntime) -> Result<(), Fail> {
     Ok(())
 }
 
-// After the one of clangd: one with each member, and one with few.
-const DIAGNOSTIC: [Row; 6] = [
+// After those of clangd: one with each member, and one with few.
+const DIAGNOSTIC: [Row; 8] = [
+    // clangd 19 sends these.
+    (
+        r#"{"code":"redefinition_different_type","message":"Redefinition of 'a' with a different type: 'float' vs 'int'","range":{"end":{"character":7,"line":3},"start":{"character":6,"line":3}},"relatedInformation":[{"location":{"range":{"end":{"character":5,"line":2},"start":{"character":4,"line":2}},"uri":"file:///tmp/rec/c/g.c"},"message":"Previous definition is here"}],"severity":1,"source":"clang"}"#,
+        Some(
+            r#"{"code":"redefinition_different_type","message":"Redefinition of 'a' with a different type: 'float' vs 'int'","range":{"end":{"character":7,"line":3},"start":{"character":6,"line":3}},"relatedInformation":[{"location":{"range":{"end":{"character":5,"line":2},"start":{"character":4,"line":2}},"uri":"file:///tmp/rec/c/g.c"},"message":"Previous definition is here"}],"severity":1,"source":"clang"}"#,
+        ),
+    ),
+    (
+        r#"{"code":"unused-includes","codeDescription":{"href":"https://clangd.llvm.org/guides/include-cleaner"},"message":"Included header stdio.h is not used directly (fixes available)","range":{"end":{"character":18,"line":0},"start":{"character":0,"line":0}},"relatedInformation":[],"severity":2,"source":"clangd","tags":[1]}"#,
+        Some(
+            r#"{"code":"unused-includes","codeDescription":{"href":"https://clangd.llvm.org/guides/include-cleaner"},"message":"Included header stdio.h is not used directly (fixes available)","range":{"end":{"character":18,"line":0},"start":{"character":0,"line":0}},"relatedInformation":[],"severity":2,"source":"clangd","tags":[1]}"#,
+        ),
+    ),
     // clangd 14 sends this.
     (
         r#"{"code":"expected_semi_declaration","message":"Expected ';' at end of declaration (fix available)","range":{"end":{"character":51,"line":1},"start":{"character":45,"line":1}},"relatedInformation":[],"severity":1,"source":"clang"}"#,
@@ -324,7 +347,12 @@ const DIAGNOSTIC: [Row; 6] = [
     ),
 ];
 
-const CODE_DESCRIPTION: [Row; 2] = [
+const CODE_DESCRIPTION: [Row; 3] = [
+    // clangd 19 sends this.
+    (
+        r#"{"href":"https://clangd.llvm.org/guides/include-cleaner"}"#,
+        Some(r#"{"href":"https://clangd.llvm.org/guides/include-cleaner"}"#),
+    ),
     (
         r#"{"href":"https://eslint.org/docs/rules/eqeqeq"}"#,
         Some(r#"{"href":"https://eslint.org/docs/rules/eqeqeq"}"#),
@@ -332,9 +360,25 @@ const CODE_DESCRIPTION: [Row; 2] = [
     ("{}", None),
 ];
 
-const RELATED_INFORMATION: [Row; 1] = [(r#"{"message":"here"}"#, None)];
+const RELATED_INFORMATION: [Row; 2] = [
+    // clangd 19 sends this.
+    (
+        r#"{"location":{"range":{"end":{"character":5,"line":2},"start":{"character":4,"line":2}},"uri":"file:///tmp/rec/c/g.c"},"message":"Previous definition is here"}"#,
+        Some(
+            r#"{"location":{"range":{"end":{"character":5,"line":2},"start":{"character":4,"line":2}},"uri":"file:///tmp/rec/c/g.c"},"message":"Previous definition is here"}"#,
+        ),
+    ),
+    (r#"{"message":"here"}"#, None),
+];
 
-const COMMAND: [Row; 4] = [
+const COMMAND: [Row; 5] = [
+    // clangd 19 sends this.
+    (
+        r#"{"arguments":[{"file":"file:///tmp/rec/c/d.c","selection":{"end":{"character":15,"line":2},"start":{"character":10,"line":2}},"tweakID":"ExtractVariable"}],"command":"clangd.applyTweak","title":"Extract subexpression to variable"}"#,
+        Some(
+            r#"{"arguments":[{"file":"file:///tmp/rec/c/d.c","selection":{"end":{"character":15,"line":2},"start":{"character":10,"line":2}},"tweakID":"ExtractVariable"}],"command":"clangd.applyTweak","title":"Extract subexpression to variable"}"#,
+        ),
+    ),
     (
         r#"{"title":"Save","command":"save"}"#,
         Some(r#"{"command":"save","title":"Save"}"#),
@@ -493,7 +537,14 @@ const ANNOTATED_TEXT_EDIT: [Row; 2] = [
 ];
 
 // An annotated edit fits a plain one, which comes first.
-const TEXT_DOCUMENT_EDIT: [Row; 2] = [
+const TEXT_DOCUMENT_EDIT: [Row; 3] = [
+    // pylsp 1.7.1 sends this.
+    (
+        r#"{"textDocument":{"uri":"file:\/\/\/tmp\/rec\/c\/e.py","version":1},"edits":[{"range":{"start":{"line":0,"character":0},"end":{"line":3,"character":0}},"newText":"def new():\n    return 1\nx = new()\n"}]}"#,
+        Some(
+            r#"{"edits":[{"newText":"def new():\n    return 1\nx = new()\n","range":{"end":{"character":0,"line":3},"start":{"character":0,"line":0}}}],"textDocument":{"uri":"file:///tmp/rec/c/e.py","version":1}}"#,
+        ),
+    ),
     (
         r#"{"textDocument":{"uri":"file:///a","version":3},"edits":[{"range":{"start":{"line":0,"character":0},"end":{"line":0,"character":0}},"newText":"b","annotationId":"c"}]}"#,
         Some(
@@ -605,7 +656,14 @@ const DOCUMENT_CHANGE_OPERATION: [Row; 3] = [
     (r#"{"edits":[]}"#, None),
 ];
 
-const DOCUMENT_CHANGES: [Row; 3] = [
+const DOCUMENT_CHANGES: [Row; 4] = [
+    // clangd 19 sends this.
+    (
+        r#"[{"edits":[{"newText":"","range":{"end":{"character":0,"line":1},"start":{"character":0,"line":0}}},{"newText":"","range":{"end":{"character":0,"line":2},"start":{"character":0,"line":1}}}],"textDocument":{"uri":"file:///tmp/rec/c/g.c","version":1}}]"#,
+        Some(
+            r#"[{"edits":[{"newText":"","range":{"end":{"character":0,"line":1},"start":{"character":0,"line":0}}},{"newText":"","range":{"end":{"character":0,"line":2},"start":{"character":0,"line":1}}}],"textDocument":{"uri":"file:///tmp/rec/c/g.c","version":1}}]"#,
+        ),
+    ),
     ("[]", Some("[]")),
     (
         r#"[{"kind":"create","uri":"file:///a"},{"textDocument":{"uri":"file:///a"},"edits":[]}]"#,
@@ -616,7 +674,14 @@ const DOCUMENT_CHANGES: [Row; 3] = [
     ("{}", None),
 ];
 
-const WORKSPACE_EDIT: [Row; 6] = [
+const WORKSPACE_EDIT: [Row; 7] = [
+    // clangd 19 sends this.
+    (
+        r#"{"documentChanges":[{"edits":[{"newText":"","range":{"end":{"character":0,"line":1},"start":{"character":0,"line":0}}},{"newText":"","range":{"end":{"character":0,"line":2},"start":{"character":0,"line":1}}}],"textDocument":{"uri":"file:///tmp/rec/c/g.c","version":1}}]}"#,
+        Some(
+            r#"{"documentChanges":[{"edits":[{"newText":"","range":{"end":{"character":0,"line":1},"start":{"character":0,"line":0}}},{"newText":"","range":{"end":{"character":0,"line":2},"start":{"character":0,"line":1}}}],"textDocument":{"uri":"file:///tmp/rec/c/g.c","version":1}}]}"#,
+        ),
+    ),
     // clangd 14 sends this.
     (
         r#"{"changes":{"file:///tmp/rec/c/a.c":[{"newText":"new_name","range":{"end":{"character":19,"line":0},"start":{"character":11,"line":0}}},{"newText":"new_name","range":{"end":{"character":41,"line":1},"start":{"character":33,"line":1}}}]}}"#,
