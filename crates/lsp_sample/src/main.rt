@@ -8,10 +8,11 @@ mod sample;
 #[cfg(test)]
 mod tests;
 
-use lsp_server::{ReadSource, WriteSink};
+use lsp_server::{ReadSource, Sink, WriteSink};
 pub use run::{Status, run};
 pub use sample::{Sample, SampleCall};
 use std::alloc::Global;
+use std::io::{BufWriter, ErrorKind};
 use std::process::ExitCode;
 use std::rt::Env;
 use std::{env, io};
@@ -26,10 +27,22 @@ fn words(rt: &(impl Env + Alloc<A = Global>)) -> io::Result<Vec<String>> {
 }
 
 fn main(rt: HostRuntime) -> ExitCode {
-    let Ok(words) = words(&rt) else {
+    let words = match words(&rt) {
+        Ok(words) => words,
+        // An argument that isn't UTF-8 is none of the program's.
+        Err(error) if error.kind() == ErrorKind::InvalidData => {
+            return ExitCode::from(Status::Usage as u8);
+        }
+        Err(_) => return ExitCode::from(Status::NoMemory as u8),
+    };
+    let Ok(output) = BufWriter::new(rt.alloc(), rt.stdout()) else {
         return ExitCode::from(Status::NoMemory as u8);
     };
     let mut source = ReadSource::new(rt.stdin());
-    let mut sink = WriteSink::new(rt.stdout());
-    ExitCode::from(run(rt.alloc(), &words, &mut source, &mut sink))
+    let mut sink = WriteSink::new(output);
+    let status = run(rt.alloc(), &words, &mut source, &mut sink);
+
+    // After a failure some of what was written may still wait here; nothing can be told of a second one.
+    let _ = sink.flush();
+    ExitCode::from(status)
 }
