@@ -2,6 +2,7 @@
 use Rattle.std.proofs.Common.{◌≡◌, ℕ, List, [], ◌∷◌, ◌++◌, refl, sym, ◌∙◌, ap, subst, append_assoc, Bool, true, false, cond}
 use Rattle.std.specs.Prelude.{Option, Some, None, is_some, option_map, ◌||◌}
 use Rattle.std.proofs.lemmas.List.{append-nil, map-append}
+use Rattle.std.specs.Io.KnownBytes.{Keeps}
 use Rattle.lsp_frame.specs.Codec.{Item, At, more, with_item, items_at, told_at}
 use Rattle.lsp_session.specs.declared.state.Life.{Life}
 use Rattle.lsp_session.specs.declared.state.Life.TheVariants.{Exited}
@@ -11,11 +12,11 @@ use Rattle.lsp_session.specs.Rules.{Rules, IsLawful}
 use Rattle.lsp_session.specs.Run.{State, nothing, is_exit, has_exit, served}
 use Rattle.lsp_session.specs.Session.{SessionView}
 use Rattle.lsp_session.proofs.RunLemmas.{run_keeps, same_exit, has_exit-append, served-open}
-use Rattle.lsp_server.specs.Stream.{admitted, all_admitted, Decodes, GivesNext}
+use Rattle.lsp_server.specs.Items.{admitted, all_admitted, Decodes, GivesNext}
 use Rattle.lsp_server.specs.Written.{Ran, RanPart}
 use Rattle.lsp_server.specs.Served.{ServedTold}
 use Rattle.lsp_server.proofs.KnownLemmas.{appends_none}
-use Rattle.lsp_server.proofs.RanLemmas.{ran_more, part_after, part_all, part_more, ran_notes, ran_lives}
+use Rattle.lsp_server.proofs.RanLemmas.{ran_kept, ran_more, part_after, part_all, part_more, ran_notes, ran_lives}
 
 -- ---- codecs
 
@@ -103,6 +104,14 @@ module _ {H C : Type 0} (rules : Rules H C) (taken0 : Option (List ℕ)) (old : 
   part_of_none taken1 new codec1 going c =
       subst (λ l. RanPart rules taken0 old l taken1) (going_served taken1 new codec1 going c)
       (part_all rules taken0 taken1 old new (all_admitted going.given) (served (rules.find old.service) (all_admitted (items_at (more codec1 c)))) going.ran)
+
+  pub told_kept : (exits : Bool) (taken1 taken2 : Option (List ℕ)) (new : SessionView H) (codec1 : At) → Keeps taken1 taken2 → ServedTold rules taken0 old codec0 exits taken1 new codec1 → ServedTold rules taken0 old codec0 exits taken2 new codec1
+  told_kept exits taken1 taken2 new codec1 kept t = record {
+    given = t.given;
+    decodes = t.decodes;
+    ran = ran_kept rules taken0 taken1 taken2 old new (all_admitted t.given) kept t.ran;
+    ends = t.ends;
+  }
 
   pub told_all : (taken1 : Option (List ℕ)) (new : SessionView H) (codec1 codec2 : At) → Going taken1 new codec1 → GivesNext codec1 None codec2 → told_at codec2 ≡ []
       → ServedTold rules taken0 old codec0 false taken1 new codec2

@@ -1,7 +1,8 @@
 -- What was run and written, one step after another.
 use Rattle.std.proofs.Common.{◌≡◌, ℕ, List, [], ◌∷◌, ◌++◌, refl, sym, ◌∙◌, ap, subst, append_assoc, Bool, true, false}
 use Rattle.std.specs.Prelude.{Option, None, is_some}
-use Rattle.std.specs.Io.KnownBytes.{Appends}
+use Rattle.std.specs.Io.KnownBytes.{Appends, Keeps}
+use Rattle.std.proofs.lemmas.List.{append-nil}
 use Rattle.lsp_rpc.specs.Message.{MessageData}
 use Rattle.lsp_frame.specs.Codec.{frames}
 use Rattle.lsp_session.specs.declared.state.Life.TheVariants.{Exited}
@@ -11,7 +12,7 @@ use Rattle.lsp_session.specs.Run.{State, nothing, both, Step, is_exit}
 use Rattle.lsp_session.specs.Session.{SessionView, Steps}
 use Rattle.lsp_session.proofs.RunLemmas.{both-nothing, run_on, Notes, step_notes, step_lives, not_exited, alive}
 use Rattle.lsp_server.specs.Written.{IsPrefixOf, Ran, RanPart}
-use Rattle.lsp_server.proofs.KnownLemmas.{appends_none, appends_more, prefix_all}
+use Rattle.lsp_server.proofs.KnownLemmas.{appends_none, appends_more, appends_kept, prefix_all}
 use Rattle.lsp_server.proofs.FramesLemmas.{frames-append}
 
 module _ {H C : Type 0} (rules : Rules H C) where
@@ -110,6 +111,27 @@ module _ {H C : Type 0} (rules : Rules H C) where
     };
     writes = p.writes;
   }
+
+  -- all that was run, as a part
+  pub part_whole : (taken0 taken1 : Option (List ℕ)) (old : State H) (new : SessionView H) (xs : List ItemData) → Ran rules taken0 old xs taken1 new → RanPart rules taken0 old xs taken1
+  part_whole taken0 taken1 old new xs p = record {
+    written = frames p.effect.out;
+    part = record { given = xs; rest = []; split = append-nil xs; effect = p.effect; last = new.state; run = p.run; part = prefix_all (frames p.effect.out) };
+    writes = p.writes;
+  }
+
+  -- what was taken is kept
+  pub ran_kept : (taken0 taken1 taken2 : Option (List ℕ)) (old : State H) (new : SessionView H) (xs : List ItemData) → Keeps taken1 taken2 → Ran rules taken0 old xs taken1 new → Ran rules taken0 old xs taken2 new
+  ran_kept taken0 taken1 taken2 old new xs kept p = record {
+    effect = p.effect;
+    run = p.run;
+    writes = appends_kept taken0 taken1 taken2 (frames p.effect.out) p.writes kept;
+    taken = p.taken;
+    running = p.running;
+  }
+
+  pub part_kept : (taken0 taken1 taken2 : Option (List ℕ)) (old : State H) (xs : List ItemData) → Keeps taken1 taken2 → RanPart rules taken0 old xs taken1 → RanPart rules taken0 old xs taken2
+  part_kept taken0 taken1 taken2 old xs kept p = record { written = p.written; part = p.part; writes = appends_kept taken0 taken1 taken2 p.written p.writes kept }
 
   -- ---- one step and the exit
 

@@ -12,7 +12,7 @@ use Rattle.lsp_session.specs.Run.{Step, Run, opening, is_exit, has_exit, served}
 use Rattle.lsp_session.specs.Session.{SessionView, opening_view}
 use Rattle.lsp_session.proofs.RunLemmas.{run_keeps, same_exit, served_same, has_exit_same, has_exit-append, served-closed}
 use Rattle.lsp_session.proofs.CountLemmas.{run_counts}
-use Rattle.lsp_server.specs.Stream.{admitted, all_admitted, stream_items, stream_told, Decodes}
+use Rattle.lsp_server.specs.Items.{admitted, all_admitted, stream_items, stream_told, Decodes}
 use Rattle.lsp_server.specs.Written.{Ran, RanPart}
 use Rattle.lsp_server.specs.Served.{ServedTold, IsServed, ReadEnough, WroteTold, WrotePart}
 use Rattle.lsp_server.proofs.KnownLemmas.{appends_more, consumes_none, consumes_more, consumes_kept, what_is_left, all_read}
@@ -188,10 +188,13 @@ module _ {H C : Type 0} (rules : Rules H C) (laws : IsLawful rules) (service : H
           counts = run_counts rules laws (opening service) new.state (served table (stream_items bytes)) ran.effect run;
         }
 
-    pub enough_at_exit : ReadEnough table bytes left2
-    enough_at_exit = record {
-      read = serving.fed ++ piece;
+    pub enough_at_exit : (size : ℕ) → length piece ≤ size → ReadEnough table bytes left2 size
+    enough_at_exit size short = record {
+      early = serving.fed;
+      piece = piece;
       gives = all_gives;
+      short = short;
+      none = ap (has_exit table) told_is ∙ serving.going.none;
       enough = inr (ap (λ l. has_exit table (all_admitted l)) (told_now (more start (serving.fed ++ piece)) codec2 given all_decoded)
           ∙ ap (has_exit table) (map-append admitted given (told_at codec2)) ∙ has_exit-append table (all_admitted given) (all_admitted (told_at codec2))
           ∙ ap (λ b. b || has_exit table (all_admitted (told_at codec2)))
@@ -221,6 +224,16 @@ module _ {H C : Type 0} (rules : Rules H C) (laws : IsLawful rules) (service : H
         unanswered_is = refl;
         counts = run_counts rules laws (opening service) new.state (served table (stream_items bytes)) ran.effect run;
       }
+
+  pub enough_at_end : (size : ℕ) → left1 ≡ Some [] → left2 ≡ Some [] → ReadEnough table bytes left2 size
+  enough_at_end size empty after = record {
+    early = serving.fed;
+    piece = [];
+    gives = subst (λ l. Consumes (Some bytes) l (serving.fed ++ [])) (empty ∙ sym after) (subst (λ l. Consumes (Some bytes) left1 l) (sym (append-nil serving.fed)) serving.gives);
+    short = omega arith;
+    none = ap (has_exit table) told_is ∙ serving.going.none;
+    enough = inl after;
+  }
 
   -- ---- an error
 
@@ -273,7 +286,3 @@ module _ {H C : Type 0} (rules : Rules H C) (laws : IsLawful rules) (service : H
       (λ rest is. let none : rest ≡ [] = cc in
       subst (λ (l : List ℕ). RanPart rules taken1 mid.state (served (rules.find mid.state.service) (all_admitted (items_at (more codec1 l)))) taken2) (sym none)
       (subst (λ a. RanPart rules taken1 mid.state (served (rules.find mid.state.service) (all_admitted (items_at a))) taken2) (sym (more_nothing codec1)) part))
-
--- the bytes were read to their end
-pub enough_at_end : (find : List ℕ → Option Entry) (bytes fed : List ℕ) (left1 left2 : Option (List ℕ)) → Consumes (Some bytes) left1 fed → left1 ≡ Some [] → left2 ≡ Some [] → ReadEnough find bytes left2
-enough_at_end find bytes fed left1 left2 gives empty after = record { read = fed; gives = subst (λ l. Consumes (Some bytes) l fed) (empty ∙ sym after) gives; enough = inl after }

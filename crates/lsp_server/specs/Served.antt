@@ -10,7 +10,7 @@ use Rattle.lsp_session.specs.Rules.{Rules}
 use Rattle.lsp_session.specs.Run.{State, Effect, Step, Run, live, opening, served, has_exit, is_exit}
 use Rattle.lsp_session.specs.Count.{Counts}
 use Rattle.lsp_session.specs.Session.{SessionView}
-use Rattle.lsp_server.specs.Stream.{all_admitted, stream_items, stream_told, Decodes}
+use Rattle.lsp_server.specs.Items.{all_admitted, stream_items, stream_told, Decodes}
 use Rattle.lsp_server.specs.Written.{Ran, IsPartOf}
 
 -- ---- what a codec tells
@@ -49,11 +49,15 @@ pub record IsServed {H C : Type 0} (rules : Rules H C) (service : H) (bytes : Li
   -- each owed request and each fault is answered once, but for what is listed
   pub counts : Counts (rules.find service) (served (rules.find service) (stream_items bytes)) effect.out unanswered
 
--- the bytes were read to their end, or an exit is told in those that were read
-pub record ReadEnough (find : List ℕ → Option Entry) (bytes : List ℕ) (left : Option (List ℕ)) : Type 0 where
-  pub read : List ℕ
-  pub gives : Consumes (Some bytes) left read
-  pub enough : (left ≡ Some []) ⊎ (has_exit find (stream_told read) ≡ true)
+-- the bytes were read to their end, or an exit is told in those that were read, and it is the last piece, of at
+-- most so many bytes, that tells it: nothing was read behind that piece
+pub record ReadEnough (find : List ℕ → Option Entry) (bytes : List ℕ) (left : Option (List ℕ)) (size : ℕ) : Type 0 where
+  pub early : List ℕ
+  pub piece : List ℕ
+  pub gives : Consumes (Some bytes) left (early ++ piece)
+  pub short : length piece ≤ size
+  pub none : has_exit find (stream_told early) ≡ false
+  pub enough : (left ≡ Some []) ⊎ (has_exit find (stream_told (early ++ piece)) ≡ true)
 
 -- what is written is the frames of a run over the items told by the bytes read, and no exit is among them
 pub record WroteTold {H C : Type 0} (rules : Rules H C) (service : H) (bytes : List ℕ) (left old_taken new_taken : Option (List ℕ)) : Type 0 where

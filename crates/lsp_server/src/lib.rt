@@ -2,14 +2,16 @@
 #![tactic(auto)]
 
 mod memory;
-mod outside;
+mod read_write;
 mod serve;
+mod sink;
+mod source;
 mod step;
-mod streams;
 mod write;
 
 pub use memory::{MemorySink, MemorySource, NeverSink, NeverSource};
-pub use outside::{Failed, Refused, Sink, Source};
+pub use read_write::{ReadSource, WriteSink};
 pub use serve::{Served, Server};
+pub use sink::{Refused, Sink};
+pub use source::{Failed, Source};
 pub use step::ServeError;
-pub use streams::{ReadSource, WriteSink};

@@ -2,7 +2,7 @@
 ghost use Rattle.std.specs.Prelude.{◌≡◌, ◌≤◌, ◌<◌, ◌+◌, [], length, map, OnOk, OnErr, IfOk, IfErr, IfSome, IsErrOf};
 ghost use Rattle.lsp_rpc.specs.Shown.{show_id};
 ghost use Rattle.lsp_session.specs.View.{session_view};
-ghost use Rattle.lsp_server.specs.Outside.{Rose, IsFlushed};
+ghost use Rattle.lsp_server.specs.SourceSink.{CountRose, IsFlushed};
 ghost use Rattle.lsp_server.specs.Served.{IsServed, ReadEnough, WroteTold, WrotePart};
 ghost use Rattle.lsp_server.specs.Answers.{IsBetweenReads};
 
@@ -13,8 +13,8 @@ use lsp_rpc::Id;
 use lsp_session::{Handlers, Life, Session};
 use std::alloc::Global;
 
-/// How many bytes are read at most at a time.
-pub const PIECE: usize = 4096;
+// How many bytes are read at most at a time.
+const READ_SIZE: usize = 4096;
 
 /// What a server hands back at the end of its session.
 #[derive(Drop)]
@@ -56,30 +56,35 @@ impl Server {
             served.service served.exited (map show_id served.unanswered.items))) }
 
         // Ok comes only at the end of input or at an exit.
-        ensures enough { OnOk result (IfSome (I.left source.old) (λ bytes. ReadEnough (H.rules.find service) bytes (I.left source.new))) }
+        ensures enough { OnOk result (IfSome (I.left source.old) (λ bytes. ReadEnough (H.rules.find service) bytes (I.left source.new) 4096)) }
 
         // The bytes taken are flushed, if they were at the start.
         ensures flushed { OnOk result (IsFlushed (O.taken sink.old) (O.flushed sink.old) → IsFlushed (O.taken sink.new) (O.flushed sink.new)) }
+        ensures flushed_between { IfErr result (λ e. IsBetweenReads e → IsFlushed (O.taken sink.old) (O.flushed sink.old) → IsFlushed (O.taken sink.new) (O.flushed sink.new)) }
 
         // Each error has its cause.
-        ensures read { IsErrOf result ServeError.ReadFault → Rose (I.faults source.old) (I.faults source.new) }
-        ensures write { IsErrOf result ServeError.WriteFault → Rose (O.faults sink.old) (O.faults sink.new) }
+        ensures read { IsErrOf result ServeError.ReadFault → CountRose (I.faults source.old) (I.faults source.new) }
+        ensures write { IsErrOf result ServeError.WriteFault → CountRose (O.faults sink.old) (O.faults sink.new) }
         ensures spent { IsErrOf result ServeError.ReadsSpent → IfSome (I.left source.old) (λ bytes.
             IfSome (I.left source.new) (λ rest. reads + length rest ≤ length bytes)) }
         // So with no failure, and with more reads than bytes, only memory may be wanting.
         ensures complete { IfErr result (λ e. IfSome (I.left source.old) (λ bytes. length bytes < reads
-            → ¬ Rose (I.faults source.old) (I.faults source.new) → ¬ Rose (O.faults sink.old) (O.faults sink.new) → e ≡ ServeError.NoMemory)) }
+            → ¬ CountRose (I.faults source.old) (I.faults source.new) → ¬ CountRose (O.faults sink.old) (O.faults sink.new) → e ≡ ServeError.NoMemory)) }
+
+        // A failure is told: where a count rose, the answer is that error.
         ensures counts { (I.faults source.old ≤ I.faults source.new) × (O.faults sink.old ≤ O.faults sink.new) }
+        ensures read_told { I.faults source.old < I.faults source.new → IsErrOf result ServeError.ReadFault }
+        ensures write_told { O.faults sink.old < O.faults sink.new → IsErrOf result ServeError.WriteFault }
 
         // What was written by then.
         ensures exact { IfErr result (λ e. IsBetweenReads e → IfSome (I.left source.old) (λ bytes.
             WroteTold H.rules service bytes (I.left source.new) (O.taken sink.old) (O.taken sink.new))) }
         ensures part { OnErr result (IfSome (I.left source.old) (λ bytes.
-            WrotePart H.rules service bytes (I.left source.new) PIECE (O.taken sink.old) (O.taken sink.new))) }
+            WrotePart H.rules service bytes (I.left source.new) 4096 (O.taken sink.old) (O.taken sink.new))) }
     {
         let mut session = Session::new(alloc, service);
         let mut codec = LanguageServerCodec::default(alloc);
-        let mut piece = [0; PIECE];
+        let mut piece = [0; READ_SIZE];
         for _ in 0..reads {
             let n = match source.read(&mut piece) {
                 Ok(n) => n,

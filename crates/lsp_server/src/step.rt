@@ -1,11 +1,12 @@
 // The steps of a server's session, each with what it writes.
 ghost use Rattle.std.specs.Prelude.{◌≡◌, ◌≢◌, ◌≤◌, [], ◌∷◌, ℕ, List, false, None, OnOk, OnErr, IfOk, IfErr, IfSome, IsErrOf, option_map};
+ghost use Rattle.std.specs.Io.KnownBytes.{Keeps};
 ghost use Rattle.lsp_frame.specs.Codec.{items_at, more, told_at};
 ghost use Rattle.lsp_session.specs.Item.{show_item, item_has_float};
 ghost use Rattle.lsp_session.specs.Run.{served};
 ghost use Rattle.lsp_session.specs.View.{session_view};
-ghost use Rattle.lsp_server.specs.Outside.{Rose, IsFlushed};
-ghost use Rattle.lsp_server.specs.Stream.{all_admitted, GivesNext};
+ghost use Rattle.lsp_server.specs.SourceSink.{CountRose, IsFlushed, Flushes};
+ghost use Rattle.lsp_server.specs.Items.{all_admitted, GivesNext};
 ghost use Rattle.lsp_server.specs.Written.{Ran, RanPart};
 ghost use Rattle.lsp_server.specs.Served.{ServedTold};
 ghost use Rattle.lsp_server.specs.Answers.{IsInStep};
@@ -44,8 +45,7 @@ impl From<NoMemory> for ServeError {
     }
 }
 
-/// Makes the step of one item: it is admitted, and the frames of what was put out are written and
-/// flushed.
+/// Makes the step of one item: it is admitted, and the frames of what was put out are written.
 pub(crate) fn step<O: Sink, H: Handlers>(
     alloc: Global,
     sink: &mut O,
@@ -58,9 +58,11 @@ pub(crate) fn step<O: Sink, H: Handlers>(
     requires float_free { item_has_float (show_item item) ≡ false }
     ensures ok { OnOk result (Ran H.rules (O.taken sink.old) (session_view session.old).state (show_item item ∷ []) (O.taken sink.new) (session_view session.new)) }
     ensures part { OnErr result (RanPart H.rules (O.taken sink.old) (session_view session.old).state (show_item item ∷ []) (O.taken sink.new)) }
-    ensures flushed { OnOk result (IsFlushed (O.taken sink.old) (O.flushed sink.old) → IsFlushed (O.taken sink.new) (O.flushed sink.new)) }
+    ensures flushed { O.flushed sink.new ≡ O.flushed sink.old }
     ensures count { O.faults sink.old ≤ O.faults sink.new }
-    ensures write { IsErrOf result ServeError.WriteFault → Rose (O.faults sink.old) (O.faults sink.new) }
+    ensures write { IsErrOf result ServeError.WriteFault → CountRose (O.faults sink.old) (O.faults sink.new) }
+    ensures unfailed { OnOk result (O.faults sink.new ≡ O.faults sink.old) }
+    ensures no_memory { IsErrOf result ServeError.NoMemory → O.faults sink.new ≡ O.faults sink.old }
     ensures others { IfErr result IsInStep }
 {
     match session.admit(item) {
@@ -107,16 +109,37 @@ pub(crate) fn serve_told<O: Sink, H: Handlers>(
     ensures open { IfOk result (λ exits. exits ≡ false → ((session_view session.new).state.exited ≡ None) × ((session_view session.new).state.life ≢ Life.Exited)) }
     ensures flushed { OnOk result (IsFlushed (O.taken sink.old) (O.flushed sink.old) → IsFlushed (O.taken sink.new) (O.flushed sink.new)) }
     ensures count { O.faults sink.old ≤ O.faults sink.new }
-    ensures write { IsErrOf result ServeError.WriteFault → Rose (O.faults sink.old) (O.faults sink.new) }
+    ensures write { IsErrOf result ServeError.WriteFault → CountRose (O.faults sink.old) (O.faults sink.new) }
+    ensures unfailed { OnOk result (O.faults sink.new ≡ O.faults sink.old) }
+    ensures no_memory { IsErrOf result ServeError.NoMemory → O.faults sink.new ≡ O.faults sink.old }
     ensures others { IfErr result IsInStep }
 {
     'items: while let Some(item) = next_item(codec)? {
         step(alloc, sink, session, item)?;
         if session.exited().is_some() {
+            flush_taken(sink)?;
             return Ok(true);
         }
     }
+    flush_taken(sink)?;
     Ok(false)
+}
+
+/// Sends what the sink took on its way.
+fn flush_taken<O: Sink>(sink: &mut O) -> Result<(), ServeError>
+    ensures taken { Keeps (O.taken sink.old) (O.taken sink.new) }
+    ensures flushes { OnOk result (Flushes (O.taken sink.old) (O.flushed sink.old) (O.flushed sink.new)) }
+    ensures count { O.faults sink.old ≤ O.faults sink.new }
+    ensures write { IsErrOf result ServeError.WriteFault → CountRose (O.faults sink.old) (O.faults sink.new) }
+    ensures unfailed { OnOk result (O.faults sink.new ≡ O.faults sink.old) }
+    ensures no_memory { IsErrOf result ServeError.NoMemory → O.faults sink.new ≡ O.faults sink.old }
+    ensures others { IfErr result IsInStep }
+{
+    match sink.flush() {
+        Ok(()) => Ok(()),
+        Err(Refused::Failed) => Err(ServeError::WriteFault),
+        Err(Refused::NoMemory) => Err(ServeError::NoMemory),
+    }
 }
 
 /// Makes the steps of the end of input: that of the fault of an input that ends inside a frame, and
@@ -137,7 +160,35 @@ pub(crate) fn serve_end<O: Sink, H: Handlers>(
         (served (H.rules.find (session_view session.old).state.service) (all_admitted (items_at codec.old))) (O.taken sink.new)) }
     ensures flushed { OnOk result (IsFlushed (O.taken sink.old) (O.flushed sink.old) → IsFlushed (O.taken sink.new) (O.flushed sink.new)) }
     ensures count { O.faults sink.old ≤ O.faults sink.new }
-    ensures write { IsErrOf result ServeError.WriteFault → Rose (O.faults sink.old) (O.faults sink.new) }
+    ensures write { IsErrOf result ServeError.WriteFault → CountRose (O.faults sink.old) (O.faults sink.new) }
+    ensures unfailed { OnOk result (O.faults sink.new ≡ O.faults sink.old) }
+    ensures no_memory { IsErrOf result ServeError.NoMemory → O.faults sink.new ≡ O.faults sink.old }
+    ensures others { IfErr result IsInStep }
+{
+    end_steps(alloc, codec, sink, session)?;
+    flush_taken(sink)
+}
+
+// The steps of the end of input, unflushed.
+fn end_steps<O: Sink, H: Handlers>(
+    alloc: Global,
+    codec: &mut LanguageServerCodec,
+    sink: &mut O,
+    session: &mut Session<H>,
+) -> Result<(), ServeError>
+    requires running { (session_view session.old).stopped ≡ false }
+    requires alive { (session_view session.old).state.life ≢ Life.Exited }
+    requires taken { (session_view session.old).out ≡ [] }
+    requires told { told_at codec.old ≡ [] }
+    ensures ok { OnOk result (Ran H.rules (O.taken sink.old) (session_view session.old).state
+        (served (H.rules.find (session_view session.old).state.service) (all_admitted (items_at codec.old))) (O.taken sink.new) (session_view session.new)) }
+    ensures part { OnErr result (RanPart H.rules (O.taken sink.old) (session_view session.old).state
+        (served (H.rules.find (session_view session.old).state.service) (all_admitted (items_at codec.old))) (O.taken sink.new)) }
+    ensures flushed { O.flushed sink.new ≡ O.flushed sink.old }
+    ensures count { O.faults sink.old ≤ O.faults sink.new }
+    ensures write { IsErrOf result ServeError.WriteFault → CountRose (O.faults sink.old) (O.faults sink.new) }
+    ensures unfailed { OnOk result (O.faults sink.new ≡ O.faults sink.old) }
+    ensures no_memory { IsErrOf result ServeError.NoMemory → O.faults sink.new ≡ O.faults sink.old }
     ensures others { IfErr result IsInStep }
 {
     match codec.finish()? {

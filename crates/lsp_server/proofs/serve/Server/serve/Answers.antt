@@ -10,8 +10,8 @@ loop-init g c = record {
   serving = serving_start g.H.Handlers.rules c.args.service (g.O.Sink.taken c.args.sink.now) (g.I.Source.left c.args.source.now) (session_view c.new-session.result) c.default-codec.result c.new-session.ensures c.default-codec.ensures;
   size = refl;
   flushed = λ is. is;
-  reads_count = omega arith;
-  writes_count = omega arith;
+  reads_count = refl;
+  writes_count = refl;
 }
 
 pub returns-in-Err-clause-exact : goal.returns-in-Err-clause-exact
@@ -46,7 +46,8 @@ pub returns-then-n-eq0-clause-enough : goal.returns-then-n-eq0-clause-enough
 returns-then-n-eq0-clause-enough g c = if_told (g.I.Source.left c.args.source.now) _ (λ bytes is.
     let serving = serving_of g.H.Handlers.rules c.args.service (g.O.Sink.taken c.args.sink.now) (g.I.Source.left c.args.source.now) (g.I.Source.left c.loop.source) (g.O.Sink.taken c.loop.sink) bytes (session_view c.loop.session) c.loop.codec c.loop.counter c.loop.invariant.serving is in
     let ends = at_zero bytes serving.fed c.read.new.piece (g.I.Source.left c.loop.source) (g.I.Source.left c.read.new.self) c.in-Ok.n serving.gives c.in-Ok.ensures.ends c.in-Ok.ensures.gives c.if-n-eq0.true in
-    enough_at_end (g.H.Handlers.rules.find c.args.service) bytes serving.fed (g.I.Source.left c.loop.source) (g.I.Source.left c.read.new.self) serving.gives ends.0 ends.1)
+    enough_at_end g.H.Handlers.rules g.met.H.Handlers.laws c.args.service (g.O.Sink.taken c.args.sink.now) (g.O.Sink.taken c.loop.sink) (g.O.Sink.taken c.serve_end.new.sink) bytes (g.I.Source.left c.loop.source) (g.I.Source.left c.read.new.self) [] (session_view c.loop.session) c.loop.codec c.loop.counter
+    serving 4096 ends.0 ends.1)
 
 pub returns-in_err-feed-clause-part : goal.returns-in_err-feed-clause-part
 returns-in_err-feed-clause-part g c = err_of _ (if_told (g.I.Source.left c.args.source.now) _ (λ bytes is.
@@ -71,7 +72,7 @@ pub returns-then-branch-clause-enough : goal.returns-then-branch-clause-enough
 returns-then-branch-clause-enough g c = if_told (g.I.Source.left c.args.source.now) _ (λ bytes is.
     let serving = serving_of g.H.Handlers.rules c.args.service (g.O.Sink.taken c.args.sink.now) (g.I.Source.left c.args.source.now) (g.I.Source.left c.loop.source) (g.O.Sink.taken c.loop.sink) bytes (session_view c.loop.session) c.loop.codec c.loop.counter c.loop.invariant.serving is in
     enough_at_exit g.H.Handlers.rules g.met.H.Handlers.laws c.args.service (g.O.Sink.taken c.args.sink.now) (g.O.Sink.taken c.loop.sink) (g.O.Sink.taken c.serve_told.new.sink) bytes (g.I.Source.left c.loop.source) (g.I.Source.left c.read.new.self) (take c.in-Ok.n c.read.new.piece) (session_view c.loop.session) c.loop.codec c.loop.counter
-    serving (session_view c.serve_told.new.session) c.serve_told.new.codec c.in-Ok.ensures.gives (rw (c.in_ok-feed.ensures.ok, c.if-branch.true) at c.in_ok-serve_told.ensures.ok))
+    serving (session_view c.serve_told.new.session) c.serve_told.new.codec c.in-Ok.ensures.gives (rw (c.in_ok-feed.ensures.ok, c.if-branch.true) at c.in_ok-serve_told.ensures.ok) 4096 (omega (arith, c.in-Ok.ensures.within, length-take c.in-Ok.n c.read.new.piece)))
 
 pub loop-preserved : goal.loop-preserved
 loop-preserved g c =
@@ -82,8 +83,8 @@ loop-preserved g c =
           (omega (arith, c.in-Ok.ensures.within, length-take c.in-Ok.n c.read.new.piece));
       size = search rules;
       flushed = search rules;
-      reads_count = omega arith;
-      writes_count = omega arith;
+      reads_count = search rules;
+      writes_count = search rules;
     }
 
 pub returns-clause-spent : goal.returns-clause-spent
