@@ -5,10 +5,10 @@ ghost use Rattle.std.specs.Cmp.Rules.{comparing};
 ghost use Rattle.std.specs.Ordering.{nat_cmp, on, then_cmp, as_partial_cmp, eq_of_both};
 ghost use Rattle.std.proofs.Common.{rules};
 ghost use Rattle.lsp_rpc.specs.Shown.{show_id};
-ghost use Rattle.lsp_base.specs.Basic.{number_or_string_shape, show_number_or_string, id_of, cancel_params_shape, show_cancel_params, position_shape, show_position, range_shape, show_range, location_shape, show_location, location_link_shape, show_location_link};
+ghost use Rattle.lsp_base.specs.Basic.{id_of, number_or_string_row, cancel_params_row, position_row, range_row, location_row, location_link_row};
 
 use lsp_rpc::Id;
-use lsp_shape::{Misfit, NoMemory, Wire, attempt, field, optional, put, put_optional};
+use lsp_shape::{Misfit, NoMemory, Reader, Wire, Writer, attempt};
 use lsp_uri::Uri;
 use serde_json::{Map, Value};
 use std::alloc::Global;
@@ -24,11 +24,11 @@ pub enum NumberOrString {
     String(String),
 }
 
-#[tactic(auto, unfolding(crate::specs::Basic::number_or_string_shape, crate::specs::Basic::show_number_or_string))]
+#[tactic(auto, unfolding(crate::specs::Basic::number_or_string_row))]
 impl Wire for NumberOrString {
-    ghost shape = { number_or_string_shape };
+    ghost shape = { number_or_string_row.shape };
 
-    ghost shown = { show_number_or_string };
+    ghost shown = { number_or_string_row.shown };
 
     fn from_value(alloc: Global, value: &Value) -> Result<NumberOrString, Misfit> {
         if let Some(number) = attempt(alloc, value)? {
@@ -63,25 +63,23 @@ pub struct CancelParams {
     pub id: NumberOrString,
 }
 
-#[tactic(auto, unfolding(crate::specs::Basic::cancel_params_shape, crate::specs::Basic::show_cancel_params))]
+#[tactic(auto, unfolding(crate::specs::Basic::cancel_params_row))]
 impl Wire for CancelParams {
-    ghost shape = { cancel_params_shape };
+    ghost shape = { cancel_params_row.shape };
 
-    ghost shown = { show_cancel_params };
+    ghost shown = { cancel_params_row.shown };
 
     fn from_value(alloc: Global, value: &Value) -> Result<CancelParams, Misfit> {
-        let Value::Object(object) = value else {
-            return Err(Misfit::Unfit);
-        };
+        let object = Reader::new(alloc, value)?;
         Ok(CancelParams {
-            id: field(alloc, object, "id")?,
+            id: object.field("id")?,
         })
     }
 
     fn to_value(&self, alloc: Global) -> Result<Value, NoMemory> {
-        let mut object = Map::new(alloc);
-        put(alloc, &mut object, "id", &self.id)?;
-        Ok(Value::Object(object))
+        let mut object = Writer::new(alloc);
+        object.field("id", &self.id)?;
+        Ok(object.end())
     }
 }
 
@@ -155,27 +153,25 @@ impl Ord for Position {
     }
 }
 
-#[tactic(auto, unfolding(crate::specs::Basic::position_shape, crate::specs::Basic::show_position))]
+#[tactic(auto, unfolding(crate::specs::Basic::position_row))]
 impl Wire for Position {
-    ghost shape = { position_shape };
+    ghost shape = { position_row.shape };
 
-    ghost shown = { show_position };
+    ghost shown = { position_row.shown };
 
     fn from_value(alloc: Global, value: &Value) -> Result<Position, Misfit> {
-        let Value::Object(object) = value else {
-            return Err(Misfit::Unfit);
-        };
+        let object = Reader::new(alloc, value)?;
         Ok(Position {
-            line: field(alloc, object, "line")?,
-            character: field(alloc, object, "character")?,
+            line: object.field("line")?,
+            character: object.field("character")?,
         })
     }
 
     fn to_value(&self, alloc: Global) -> Result<Value, NoMemory> {
-        let mut object = Map::new(alloc);
-        put(alloc, &mut object, "line", &self.line)?;
-        put(alloc, &mut object, "character", &self.character)?;
-        Ok(Value::Object(object))
+        let mut object = Writer::new(alloc);
+        object.field("line", &self.line)?;
+        object.field("character", &self.character)?;
+        Ok(object.end())
     }
 }
 
@@ -197,27 +193,25 @@ impl Range {
     }
 }
 
-#[tactic(auto, unfolding(crate::specs::Basic::range_shape, crate::specs::Basic::show_range))]
+#[tactic(auto, unfolding(crate::specs::Basic::range_row))]
 impl Wire for Range {
-    ghost shape = { range_shape };
+    ghost shape = { range_row.shape };
 
-    ghost shown = { show_range };
+    ghost shown = { range_row.shown };
 
     fn from_value(alloc: Global, value: &Value) -> Result<Range, Misfit> {
-        let Value::Object(object) = value else {
-            return Err(Misfit::Unfit);
-        };
+        let object = Reader::new(alloc, value)?;
         Ok(Range {
-            start: field(alloc, object, "start")?,
-            end: field(alloc, object, "end")?,
+            start: object.field("start")?,
+            end: object.field("end")?,
         })
     }
 
     fn to_value(&self, alloc: Global) -> Result<Value, NoMemory> {
-        let mut object = Map::new(alloc);
-        put(alloc, &mut object, "start", &self.start)?;
-        put(alloc, &mut object, "end", &self.end)?;
-        Ok(Value::Object(object))
+        let mut object = Writer::new(alloc);
+        object.field("start", &self.start)?;
+        object.field("end", &self.end)?;
+        Ok(object.end())
     }
 }
 
@@ -239,27 +233,25 @@ impl Location {
     }
 }
 
-#[tactic(auto, unfolding(crate::specs::Basic::location_shape, crate::specs::Basic::show_location))]
+#[tactic(auto, unfolding(crate::specs::Basic::location_row))]
 impl Wire for Location {
-    ghost shape = { location_shape };
+    ghost shape = { location_row.shape };
 
-    ghost shown = { show_location };
+    ghost shown = { location_row.shown };
 
     fn from_value(alloc: Global, value: &Value) -> Result<Location, Misfit> {
-        let Value::Object(object) = value else {
-            return Err(Misfit::Unfit);
-        };
+        let object = Reader::new(alloc, value)?;
         Ok(Location {
-            uri: field(alloc, object, "uri")?,
-            range: field(alloc, object, "range")?,
+            uri: object.field("uri")?,
+            range: object.field("range")?,
         })
     }
 
     fn to_value(&self, alloc: Global) -> Result<Value, NoMemory> {
-        let mut object = Map::new(alloc);
-        put(alloc, &mut object, "uri", &self.uri)?;
-        put(alloc, &mut object, "range", &self.range)?;
-        Ok(Value::Object(object))
+        let mut object = Writer::new(alloc);
+        object.field("uri", &self.uri)?;
+        object.field("range", &self.range)?;
+        Ok(object.end())
     }
 }
 
@@ -276,40 +268,28 @@ pub struct LocationLink {
     pub target_selection_range: Range,
 }
 
-#[tactic(auto, unfolding(crate::specs::Basic::location_link_shape, crate::specs::Basic::show_location_link))]
+#[tactic(auto, unfolding(crate::specs::Basic::location_link_row))]
 impl Wire for LocationLink {
-    ghost shape = { location_link_shape };
+    ghost shape = { location_link_row.shape };
 
-    ghost shown = { show_location_link };
+    ghost shown = { location_link_row.shown };
 
     fn from_value(alloc: Global, value: &Value) -> Result<LocationLink, Misfit> {
-        let Value::Object(object) = value else {
-            return Err(Misfit::Unfit);
-        };
+        let object = Reader::new(alloc, value)?;
         Ok(LocationLink {
-            origin_selection_range: optional(alloc, object, "originSelectionRange")?,
-            target_uri: field(alloc, object, "targetUri")?,
-            target_range: field(alloc, object, "targetRange")?,
-            target_selection_range: field(alloc, object, "targetSelectionRange")?,
+            origin_selection_range: object.optional("originSelectionRange")?,
+            target_uri: object.field("targetUri")?,
+            target_range: object.field("targetRange")?,
+            target_selection_range: object.field("targetSelectionRange")?,
         })
     }
 
     fn to_value(&self, alloc: Global) -> Result<Value, NoMemory> {
-        let mut object = Map::new(alloc);
-        put_optional(
-            alloc,
-            &mut object,
-            "originSelectionRange",
-            &self.origin_selection_range,
-        )?;
-        put(alloc, &mut object, "targetUri", &self.target_uri)?;
-        put(alloc, &mut object, "targetRange", &self.target_range)?;
-        put(
-            alloc,
-            &mut object,
-            "targetSelectionRange",
-            &self.target_selection_range,
-        )?;
-        Ok(Value::Object(object))
+        let mut object = Writer::new(alloc);
+        object.optional("originSelectionRange", &self.origin_selection_range)?;
+        object.field("targetUri", &self.target_uri)?;
+        object.field("targetRange", &self.target_range)?;
+        object.field("targetSelectionRange", &self.target_selection_range)?;
+        Ok(object.end())
     }
 }

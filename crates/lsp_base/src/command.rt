@@ -1,9 +1,9 @@
 // Commands.
 ghost use Rattle.std.specs.Prelude.{◌≡◌, [], string_bytes};
-ghost use Rattle.lsp_base.specs.Command.{command_shape, show_command};
+ghost use Rattle.lsp_base.specs.Command.{command_row};
 
-use lsp_shape::{Misfit, NoMemory, Wire, field, optional, put, put_optional};
-use serde_json::{Map, Value};
+use lsp_shape::{Misfit, NoMemory, Reader, Wire, Writer};
+use serde_json::Value;
 use std::alloc::Global;
 
 /// A command that an editor offers to the user: section "Command" of LSP 3.17.
@@ -39,28 +39,26 @@ impl Command {
     }
 }
 
-#[tactic(auto, unfolding(crate::specs::Command::command_shape, crate::specs::Command::show_command))]
+#[tactic(auto, unfolding(crate::specs::Command::command_row))]
 impl Wire for Command {
-    ghost shape = { command_shape };
+    ghost shape = { command_row.shape };
 
-    ghost shown = { show_command };
+    ghost shown = { command_row.shown };
 
     fn from_value(alloc: Global, value: &Value) -> Result<Command, Misfit> {
-        let Value::Object(object) = value else {
-            return Err(Misfit::Unfit);
-        };
+        let object = Reader::new(alloc, value)?;
         Ok(Command {
-            title: field(alloc, object, "title")?,
-            command: field(alloc, object, "command")?,
-            arguments: optional(alloc, object, "arguments")?,
+            title: object.field("title")?,
+            command: object.field("command")?,
+            arguments: object.optional("arguments")?,
         })
     }
 
     fn to_value(&self, alloc: Global) -> Result<Value, NoMemory> {
-        let mut object = Map::new(alloc);
-        put(alloc, &mut object, "title", &self.title)?;
-        put(alloc, &mut object, "command", &self.command)?;
-        put_optional(alloc, &mut object, "arguments", &self.arguments)?;
-        Ok(Value::Object(object))
+        let mut object = Writer::new(alloc);
+        object.field("title", &self.title)?;
+        object.field("command", &self.command)?;
+        object.optional("arguments", &self.arguments)?;
+        Ok(object.end())
     }
 }

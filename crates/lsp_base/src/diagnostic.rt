@@ -1,13 +1,13 @@
 // Diagnostics of a document.
 ghost use Rattle.std.specs.Prelude.{◌≡◌, [], string_bytes};
-ghost use Rattle.lsp_base.specs.Diagnostic.{code_description_shape, show_code_description, diagnostic_related_information_shape, show_diagnostic_related_information, diagnostic_shape, show_diagnostic, simple_diagnostic};
+ghost use Rattle.lsp_base.specs.Diagnostic.{simple_diagnostic, code_description_row, diagnostic_related_information_row, diagnostic_row};
 ghost use Rattle.lsp_base.specs.Basic.{first_range};
 
 use crate::basic::{Location, NumberOrString, Position, Range};
 use lsp_kinds::{DiagnosticSeverity, DiagnosticTag};
-use lsp_shape::{Misfit, NoMemory, Wire, field, optional, put, put_optional};
+use lsp_shape::{Misfit, NoMemory, Reader, Wire, Writer};
 use lsp_uri::Uri;
-use serde_json::{Map, Value};
+use serde_json::Value;
 use std::alloc::Global;
 
 /// Where a diagnostic's code is explained: section "Diagnostic" of LSP 3.17.
@@ -17,25 +17,23 @@ pub struct CodeDescription {
     pub href: Uri,
 }
 
-#[tactic(auto, unfolding(crate::specs::Diagnostic::code_description_shape, crate::specs::Diagnostic::show_code_description))]
+#[tactic(auto, unfolding(crate::specs::Diagnostic::code_description_row))]
 impl Wire for CodeDescription {
-    ghost shape = { code_description_shape };
+    ghost shape = { code_description_row.shape };
 
-    ghost shown = { show_code_description };
+    ghost shown = { code_description_row.shown };
 
     fn from_value(alloc: Global, value: &Value) -> Result<CodeDescription, Misfit> {
-        let Value::Object(object) = value else {
-            return Err(Misfit::Unfit);
-        };
+        let object = Reader::new(alloc, value)?;
         Ok(CodeDescription {
-            href: field(alloc, object, "href")?,
+            href: object.field("href")?,
         })
     }
 
     fn to_value(&self, alloc: Global) -> Result<Value, NoMemory> {
-        let mut object = Map::new(alloc);
-        put(alloc, &mut object, "href", &self.href)?;
-        Ok(Value::Object(object))
+        let mut object = Writer::new(alloc);
+        object.field("href", &self.href)?;
+        Ok(object.end())
     }
 }
 
@@ -48,27 +46,25 @@ pub struct DiagnosticRelatedInformation {
     pub message: String,
 }
 
-#[tactic(auto, unfolding(crate::specs::Diagnostic::diagnostic_related_information_shape, crate::specs::Diagnostic::show_diagnostic_related_information))]
+#[tactic(auto, unfolding(crate::specs::Diagnostic::diagnostic_related_information_row))]
 impl Wire for DiagnosticRelatedInformation {
-    ghost shape = { diagnostic_related_information_shape };
+    ghost shape = { diagnostic_related_information_row.shape };
 
-    ghost shown = { show_diagnostic_related_information };
+    ghost shown = { diagnostic_related_information_row.shown };
 
     fn from_value(alloc: Global, value: &Value) -> Result<DiagnosticRelatedInformation, Misfit> {
-        let Value::Object(object) = value else {
-            return Err(Misfit::Unfit);
-        };
+        let object = Reader::new(alloc, value)?;
         Ok(DiagnosticRelatedInformation {
-            location: field(alloc, object, "location")?,
-            message: field(alloc, object, "message")?,
+            location: object.field("location")?,
+            message: object.field("message")?,
         })
     }
 
     fn to_value(&self, alloc: Global) -> Result<Value, NoMemory> {
-        let mut object = Map::new(alloc);
-        put(alloc, &mut object, "location", &self.location)?;
-        put(alloc, &mut object, "message", &self.message)?;
-        Ok(Value::Object(object))
+        let mut object = Writer::new(alloc);
+        object.field("location", &self.location)?;
+        object.field("message", &self.message)?;
+        Ok(object.end())
     }
 }
 
@@ -161,50 +157,38 @@ impl Diagnostic {
     }
 }
 
-#[tactic(auto, unfolding(crate::specs::Diagnostic::diagnostic_shape, crate::specs::Diagnostic::show_diagnostic))]
+#[tactic(auto, unfolding(crate::specs::Diagnostic::diagnostic_row))]
 impl Wire for Diagnostic {
-    ghost shape = { diagnostic_shape };
+    ghost shape = { diagnostic_row.shape };
 
-    ghost shown = { show_diagnostic };
+    ghost shown = { diagnostic_row.shown };
 
     fn from_value(alloc: Global, value: &Value) -> Result<Diagnostic, Misfit> {
-        let Value::Object(object) = value else {
-            return Err(Misfit::Unfit);
-        };
+        let object = Reader::new(alloc, value)?;
         Ok(Diagnostic {
-            range: field(alloc, object, "range")?,
-            severity: optional(alloc, object, "severity")?,
-            code: optional(alloc, object, "code")?,
-            code_description: optional(alloc, object, "codeDescription")?,
-            source: optional(alloc, object, "source")?,
-            message: field(alloc, object, "message")?,
-            related_information: optional(alloc, object, "relatedInformation")?,
-            tags: optional(alloc, object, "tags")?,
-            payload: optional(alloc, object, "data")?,
+            range: object.field("range")?,
+            severity: object.optional("severity")?,
+            code: object.optional("code")?,
+            code_description: object.optional("codeDescription")?,
+            source: object.optional("source")?,
+            message: object.field("message")?,
+            related_information: object.optional("relatedInformation")?,
+            tags: object.optional("tags")?,
+            payload: object.optional("data")?,
         })
     }
 
     fn to_value(&self, alloc: Global) -> Result<Value, NoMemory> {
-        let mut object = Map::new(alloc);
-        put(alloc, &mut object, "range", &self.range)?;
-        put_optional(alloc, &mut object, "severity", &self.severity)?;
-        put_optional(alloc, &mut object, "code", &self.code)?;
-        put_optional(
-            alloc,
-            &mut object,
-            "codeDescription",
-            &self.code_description,
-        )?;
-        put_optional(alloc, &mut object, "source", &self.source)?;
-        put(alloc, &mut object, "message", &self.message)?;
-        put_optional(
-            alloc,
-            &mut object,
-            "relatedInformation",
-            &self.related_information,
-        )?;
-        put_optional(alloc, &mut object, "tags", &self.tags)?;
-        put_optional(alloc, &mut object, "data", &self.payload)?;
-        Ok(Value::Object(object))
+        let mut object = Writer::new(alloc);
+        object.field("range", &self.range)?;
+        object.optional("severity", &self.severity)?;
+        object.optional("code", &self.code)?;
+        object.optional("codeDescription", &self.code_description)?;
+        object.optional("source", &self.source)?;
+        object.field("message", &self.message)?;
+        object.optional("relatedInformation", &self.related_information)?;
+        object.optional("tags", &self.tags)?;
+        object.optional("data", &self.payload)?;
+        Ok(object.end())
     }
 }

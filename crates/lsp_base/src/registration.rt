@@ -1,10 +1,11 @@
 // What an editor supports, and what a server registers for.
 ghost use Rattle.std.specs.Prelude.{◌≡◌, []};
-ghost use Rattle.lsp_base.specs.Registration.{tag_support_shape, show_tag_support, dynamic_registration_client_capabilities_shape, show_dynamic_registration_client_capabilities, goto_capability_shape, show_goto_capability, text_document_registration_options_shape, show_text_document_registration_options, static_registration_options_shape, show_static_registration_options};
+ghost use Rattle.lsp_shape.specs.Row.{row_of};
+ghost use Rattle.lsp_base.specs.Registration.{tag_support_row, dynamic_registration_client_capabilities_row, goto_capability_row, text_document_registration_options_row, static_registration_options_row};
 
 use crate::document::DocumentSelector;
-use lsp_shape::{Misfit, NoMemory, Wire, field, optional, put, put_nullable, put_optional};
-use serde_json::{Map, Value};
+use lsp_shape::{Misfit, NoMemory, Reader, Wire, Writer};
+use serde_json::Value;
 use std::alloc::Global;
 
 /// The tags that an editor knows: as in sections "Completion Request" and "PublishDiagnostics Notification" of LSP 3.17.
@@ -26,23 +27,21 @@ impl<T> TagSupport<T> {
 }
 
 impl<T: Wire> Wire for TagSupport<T> {
-    ghost shape = { tag_support_shape T.shape };
+    ghost shape = { (tag_support_row (row_of T.shape T.shown)).shape };
 
-    ghost shown = { show_tag_support T.shown };
+    ghost shown = { (tag_support_row (row_of T.shape T.shown)).shown };
 
     fn from_value(alloc: Global, value: &Value) -> Result<TagSupport<T>, Misfit> {
-        let Value::Object(object) = value else {
-            return Err(Misfit::Unfit);
-        };
+        let object = Reader::new(alloc, value)?;
         Ok(TagSupport {
-            value_set: field(alloc, object, "valueSet")?,
+            value_set: object.field("valueSet")?,
         })
     }
 
     fn to_value(&self, alloc: Global) -> Result<Value, NoMemory> {
-        let mut object = Map::new(alloc);
-        put(alloc, &mut object, "valueSet", &self.value_set)?;
-        Ok(Value::Object(object))
+        let mut object = Writer::new(alloc);
+        object.field("valueSet", &self.value_set)?;
+        Ok(object.end())
     }
 }
 
@@ -53,33 +52,23 @@ pub struct DynamicRegistrationClientCapabilities {
     pub dynamic_registration: Option<bool>,
 }
 
-#[tactic(auto, unfolding(crate::specs::Registration::dynamic_registration_client_capabilities_shape, crate::specs::Registration::show_dynamic_registration_client_capabilities))]
+#[tactic(auto, unfolding(crate::specs::Registration::dynamic_registration_client_capabilities_row))]
 impl Wire for DynamicRegistrationClientCapabilities {
-    ghost shape = { dynamic_registration_client_capabilities_shape };
+    ghost shape = { dynamic_registration_client_capabilities_row.shape };
 
-    ghost shown = { show_dynamic_registration_client_capabilities };
+    ghost shown = { dynamic_registration_client_capabilities_row.shown };
 
-    fn from_value(
-        alloc: Global,
-        value: &Value,
-    ) -> Result<DynamicRegistrationClientCapabilities, Misfit> {
-        let Value::Object(object) = value else {
-            return Err(Misfit::Unfit);
-        };
+    fn from_value(alloc: Global, value: &Value) -> Result<DynamicRegistrationClientCapabilities, Misfit> {
+        let object = Reader::new(alloc, value)?;
         Ok(DynamicRegistrationClientCapabilities {
-            dynamic_registration: optional(alloc, object, "dynamicRegistration")?,
+            dynamic_registration: object.optional("dynamicRegistration")?,
         })
     }
 
     fn to_value(&self, alloc: Global) -> Result<Value, NoMemory> {
-        let mut object = Map::new(alloc);
-        put_optional(
-            alloc,
-            &mut object,
-            "dynamicRegistration",
-            &self.dynamic_registration,
-        )?;
-        Ok(Value::Object(object))
+        let mut object = Writer::new(alloc);
+        object.optional("dynamicRegistration", &self.dynamic_registration)?;
+        Ok(object.end())
     }
 }
 
@@ -92,32 +81,25 @@ pub struct GotoCapability {
     pub link_support: Option<bool>,
 }
 
-#[tactic(auto, unfolding(crate::specs::Registration::goto_capability_shape, crate::specs::Registration::show_goto_capability))]
+#[tactic(auto, unfolding(crate::specs::Registration::goto_capability_row))]
 impl Wire for GotoCapability {
-    ghost shape = { goto_capability_shape };
+    ghost shape = { goto_capability_row.shape };
 
-    ghost shown = { show_goto_capability };
+    ghost shown = { goto_capability_row.shown };
 
     fn from_value(alloc: Global, value: &Value) -> Result<GotoCapability, Misfit> {
-        let Value::Object(object) = value else {
-            return Err(Misfit::Unfit);
-        };
+        let object = Reader::new(alloc, value)?;
         Ok(GotoCapability {
-            dynamic_registration: optional(alloc, object, "dynamicRegistration")?,
-            link_support: optional(alloc, object, "linkSupport")?,
+            dynamic_registration: object.optional("dynamicRegistration")?,
+            link_support: object.optional("linkSupport")?,
         })
     }
 
     fn to_value(&self, alloc: Global) -> Result<Value, NoMemory> {
-        let mut object = Map::new(alloc);
-        put_optional(
-            alloc,
-            &mut object,
-            "dynamicRegistration",
-            &self.dynamic_registration,
-        )?;
-        put_optional(alloc, &mut object, "linkSupport", &self.link_support)?;
-        Ok(Value::Object(object))
+        let mut object = Writer::new(alloc);
+        object.optional("dynamicRegistration", &self.dynamic_registration)?;
+        object.optional("linkSupport", &self.link_support)?;
+        Ok(object.end())
     }
 }
 
@@ -128,30 +110,23 @@ pub struct TextDocumentRegistrationOptions {
     pub document_selector: Option<DocumentSelector>,
 }
 
-#[tactic(auto, unfolding(crate::specs::Registration::text_document_registration_options_shape, crate::specs::Registration::show_text_document_registration_options))]
+#[tactic(auto, unfolding(crate::specs::Registration::text_document_registration_options_row))]
 impl Wire for TextDocumentRegistrationOptions {
-    ghost shape = { text_document_registration_options_shape };
+    ghost shape = { text_document_registration_options_row.shape };
 
-    ghost shown = { show_text_document_registration_options };
+    ghost shown = { text_document_registration_options_row.shown };
 
     fn from_value(alloc: Global, value: &Value) -> Result<TextDocumentRegistrationOptions, Misfit> {
-        let Value::Object(object) = value else {
-            return Err(Misfit::Unfit);
-        };
+        let object = Reader::new(alloc, value)?;
         Ok(TextDocumentRegistrationOptions {
-            document_selector: optional(alloc, object, "documentSelector")?,
+            document_selector: object.optional("documentSelector")?,
         })
     }
 
     fn to_value(&self, alloc: Global) -> Result<Value, NoMemory> {
-        let mut object = Map::new(alloc);
-        put_nullable(
-            alloc,
-            &mut object,
-            "documentSelector",
-            &self.document_selector,
-        )?;
-        Ok(Value::Object(object))
+        let mut object = Writer::new(alloc);
+        object.nullable("documentSelector", &self.document_selector)?;
+        Ok(object.end())
     }
 }
 
@@ -162,24 +137,22 @@ pub struct StaticRegistrationOptions {
     pub id: Option<String>,
 }
 
-#[tactic(auto, unfolding(crate::specs::Registration::static_registration_options_shape, crate::specs::Registration::show_static_registration_options))]
+#[tactic(auto, unfolding(crate::specs::Registration::static_registration_options_row))]
 impl Wire for StaticRegistrationOptions {
-    ghost shape = { static_registration_options_shape };
+    ghost shape = { static_registration_options_row.shape };
 
-    ghost shown = { show_static_registration_options };
+    ghost shown = { static_registration_options_row.shown };
 
     fn from_value(alloc: Global, value: &Value) -> Result<StaticRegistrationOptions, Misfit> {
-        let Value::Object(object) = value else {
-            return Err(Misfit::Unfit);
-        };
+        let object = Reader::new(alloc, value)?;
         Ok(StaticRegistrationOptions {
-            id: optional(alloc, object, "id")?,
+            id: object.optional("id")?,
         })
     }
 
     fn to_value(&self, alloc: Global) -> Result<Value, NoMemory> {
-        let mut object = Map::new(alloc);
-        put_optional(alloc, &mut object, "id", &self.id)?;
-        Ok(Value::Object(object))
+        let mut object = Writer::new(alloc);
+        object.optional("id", &self.id)?;
+        Ok(object.end())
     }
 }

@@ -1,12 +1,12 @@
 // Edits of a workspace.
 ghost use Rattle.std.specs.Prelude.{◌≡◌, Some, None};
-ghost use Rattle.lsp_base.specs.WorkspaceEdit.{document_change_operation_shape, show_document_change_operation, document_changes_shape, show_document_changes, workspace_edit_shape, show_workspace_edit};
+ghost use Rattle.lsp_base.specs.WorkspaceEdit.{workspace_edit_row, document_changes_row, document_change_operation_row};
 
 use crate::edit::{ChangeAnnotation, ChangeAnnotationIdentifier, TextDocumentEdit, TextEdit};
 use crate::resource::ResourceOp;
-use lsp_shape::{Misfit, NoMemory, Wire, attempt, optional, put_optional};
+use lsp_shape::{Misfit, NoMemory, Reader, Wire, Writer, attempt};
 use lsp_uri::Uri;
-use serde_json::{Map, Value};
+use serde_json::Value;
 use std::alloc::Global;
 use std::collections::HashMap;
 
@@ -35,39 +35,27 @@ impl WorkspaceEdit {
     }
 }
 
-#[tactic(auto, unfolding(crate::specs::WorkspaceEdit::workspace_edit_shape, crate::specs::WorkspaceEdit::show_workspace_edit))]
+#[tactic(auto, unfolding(crate::specs::WorkspaceEdit::workspace_edit_row))]
 impl Wire for WorkspaceEdit {
-    ghost shape = { workspace_edit_shape };
+    ghost shape = { workspace_edit_row.shape };
 
-    ghost shown = { show_workspace_edit };
+    ghost shown = { workspace_edit_row.shown };
 
     fn from_value(alloc: Global, value: &Value) -> Result<WorkspaceEdit, Misfit> {
-        let Value::Object(object) = value else {
-            return Err(Misfit::Unfit);
-        };
+        let object = Reader::new(alloc, value)?;
         Ok(WorkspaceEdit {
-            changes: optional(alloc, object, "changes")?,
-            document_changes: optional(alloc, object, "documentChanges")?,
-            change_annotations: optional(alloc, object, "changeAnnotations")?,
+            changes: object.optional("changes")?,
+            document_changes: object.optional("documentChanges")?,
+            change_annotations: object.optional("changeAnnotations")?,
         })
     }
 
     fn to_value(&self, alloc: Global) -> Result<Value, NoMemory> {
-        let mut object = Map::new(alloc);
-        put_optional(alloc, &mut object, "changes", &self.changes)?;
-        put_optional(
-            alloc,
-            &mut object,
-            "documentChanges",
-            &self.document_changes,
-        )?;
-        put_optional(
-            alloc,
-            &mut object,
-            "changeAnnotations",
-            &self.change_annotations,
-        )?;
-        Ok(Value::Object(object))
+        let mut object = Writer::new(alloc);
+        object.optional("changes", &self.changes)?;
+        object.optional("documentChanges", &self.document_changes)?;
+        object.optional("changeAnnotations", &self.change_annotations)?;
+        Ok(object.end())
     }
 }
 
@@ -80,11 +68,11 @@ pub enum DocumentChanges {
     Operations(Vec<DocumentChangeOperation>),
 }
 
-#[tactic(auto, unfolding(crate::specs::WorkspaceEdit::document_changes_shape, crate::specs::WorkspaceEdit::show_document_changes))]
+#[tactic(auto, unfolding(crate::specs::WorkspaceEdit::document_changes_row))]
 impl Wire for DocumentChanges {
-    ghost shape = { document_changes_shape };
+    ghost shape = { document_changes_row.shape };
 
-    ghost shown = { show_document_changes };
+    ghost shown = { document_changes_row.shown };
 
     fn from_value(alloc: Global, value: &Value) -> Result<DocumentChanges, Misfit> {
         if let Some(edits) = attempt(alloc, value)? {
@@ -110,11 +98,11 @@ pub enum DocumentChangeOperation {
     Edit(TextDocumentEdit),
 }
 
-#[tactic(auto, unfolding(crate::specs::WorkspaceEdit::document_change_operation_shape, crate::specs::WorkspaceEdit::show_document_change_operation))]
+#[tactic(auto, unfolding(crate::specs::WorkspaceEdit::document_change_operation_row))]
 impl Wire for DocumentChangeOperation {
-    ghost shape = { document_change_operation_shape };
+    ghost shape = { document_change_operation_row.shape };
 
-    ghost shown = { show_document_change_operation };
+    ghost shown = { document_change_operation_row.shown };
 
     fn from_value(alloc: Global, value: &Value) -> Result<DocumentChangeOperation, Misfit> {
         if let Some(change) = attempt(alloc, value)? {

@@ -333,7 +333,7 @@ impl Wire for CompletionItemKind {
 }
 
 /// What more is known of a completion: section "Completion Request" of LSP 3.17.
-#[derive(Clone, Drop, PartialEq, Eq)]
+#[derive(Clone, Copy, PartialEq, Eq)]
 pub struct CompletionItemTag(i32);
 
 impl Model for CompletionItemTag {

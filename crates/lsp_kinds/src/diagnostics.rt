@@ -96,7 +96,7 @@ impl Wire for DiagnosticSeverity {
 }
 
 /// What more is known of a diagnostic: section "Diagnostic" of LSP 3.17.
-#[derive(Clone, Drop, PartialEq, Eq)]
+#[derive(Clone, Copy, PartialEq, Eq)]
 pub struct DiagnosticTag(i32);
 
 impl Model for DiagnosticTag {

@@ -311,7 +311,7 @@ impl Wire for PrepareSupportDefaultBehavior {
 }
 
 /// Why help on a signature is asked for: section "Signature Help Request" of LSP 3.17.
-#[derive(Clone, Drop, PartialEq, Eq)]
+#[derive(Clone, Copy, PartialEq, Eq)]
 pub struct SignatureHelpTriggerKind(i32);
 
 impl Model for SignatureHelpTriggerKind {

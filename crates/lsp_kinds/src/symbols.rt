@@ -187,7 +187,7 @@ impl Wire for SymbolKind {
 }
 
 /// What more is known of a symbol: section "Document Symbols Request" of LSP 3.17.
-#[derive(Clone, Drop, PartialEq, Eq)]
+#[derive(Clone, Copy, PartialEq, Eq)]
 pub struct SymbolTag(i32);
 
 impl Model for SymbolTag {

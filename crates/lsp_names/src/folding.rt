@@ -1,5 +1,5 @@
 // What is folded, of section "Folding Range Request".
-ghost use Rattle.lsp_names.specs.Folding.{folding_range_kind_shape, show_folding_range_kind};
+ghost use Rattle.lsp_names.specs.Folding.{folding_range_kind_row};
 
 use lsp_shape::{Misfit, Wire};
 use no_memory::NoMemory;
@@ -19,11 +19,11 @@ pub enum FoldingRangeKind {
     Region,
 }
 
-#[tactic(auto, unfolding(crate::specs::Folding::folding_range_kind_shape, crate::specs::Folding::show_folding_range_kind))]
+#[tactic(auto, unfolding(crate::specs::Folding::folding_range_kind_row))]
 impl Wire for FoldingRangeKind {
-    ghost shape = { folding_range_kind_shape };
+    ghost shape = { folding_range_kind_row.shape };
 
-    ghost shown = { show_folding_range_kind };
+    ghost shown = { folding_range_kind_row.shown };
 
     fn from_value(_alloc: Global, value: &Value) -> Result<FoldingRangeKind, Misfit> {
         match value.as_str() {

@@ -1,7 +1,6 @@
 // The kind of section "Position".
 ghost use Rattle.std.specs.Prelude.{◌≡◌, codes, string_bytes, IfOk};
-ghost use Rattle.lsp_shape.specs.Shape.{string_shape};
-ghost use Rattle.lsp_names.specs.KindText.{show_text_kind};
+ghost use Rattle.lsp_names.specs.KindText.{text_kind_row};
 
 use crate::kind_text::KindText;
 use lsp_shape::{Misfit, Wire};
@@ -77,11 +76,11 @@ impl From<&'static str> for PositionEncodingKind {
     }
 }
 
-#[tactic(auto, unfolding(crate::specs::KindText::show_text_kind))]
+#[tactic(auto, unfolding(crate::specs::KindText::text_kind_row))]
 impl Wire for PositionEncodingKind {
-    ghost shape = { string_shape };
+    ghost shape = { text_kind_row.shape };
 
-    ghost shown = { show_text_kind };
+    ghost shown = { text_kind_row.shown };
 
     fn from_value(alloc: Global, value: &Value) -> Result<PositionEncodingKind, Misfit> {
         Ok(PositionEncodingKind::from(String::from_value(alloc, value)?))

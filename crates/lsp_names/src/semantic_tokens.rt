@@ -1,13 +1,12 @@
 // The kinds and the options of section "Semantic Tokens".
 ghost use Rattle.std.specs.Prelude.{◌≡◌, codes, string_bytes, IfOk};
-ghost use Rattle.lsp_shape.specs.Shape.{string_shape};
-ghost use Rattle.lsp_names.specs.KindText.{show_text_kind};
-ghost use Rattle.lsp_names.specs.SemanticTokens.{semantic_tokens_full_options_shape, show_semantic_tokens_full_options};
+ghost use Rattle.lsp_names.specs.KindText.{text_kind_row};
+ghost use Rattle.lsp_names.specs.SemanticTokens.{semantic_tokens_full_options_delta_row, semantic_tokens_full_options_row};
 
 use crate::kind_text::KindText;
-use lsp_shape::{Misfit, Wire, attempt, optional, put_optional};
+use lsp_shape::{Misfit, Reader, Wire, Writer, attempt};
 use no_memory::NoMemory;
-use serde_json::{Map, Value};
+use serde_json::Value;
 use std::alloc::Global;
 use std::marker::Model;
 
@@ -218,11 +217,11 @@ impl From<&'static str> for SemanticTokenType {
     }
 }
 
-#[tactic(auto, unfolding(crate::specs::KindText::show_text_kind))]
+#[tactic(auto, unfolding(crate::specs::KindText::text_kind_row))]
 impl Wire for SemanticTokenType {
-    ghost shape = { string_shape };
+    ghost shape = { text_kind_row.shape };
 
-    ghost shown = { show_text_kind };
+    ghost shown = { text_kind_row.shown };
 
     fn from_value(alloc: Global, value: &Value) -> Result<SemanticTokenType, Misfit> {
         Ok(SemanticTokenType::from(String::from_value(alloc, value)?))
@@ -350,11 +349,11 @@ impl From<&'static str> for SemanticTokenModifier {
     }
 }
 
-#[tactic(auto, unfolding(crate::specs::KindText::show_text_kind))]
+#[tactic(auto, unfolding(crate::specs::KindText::text_kind_row))]
 impl Wire for SemanticTokenModifier {
-    ghost shape = { string_shape };
+    ghost shape = { text_kind_row.shape };
 
-    ghost shown = { show_text_kind };
+    ghost shown = { text_kind_row.shown };
 
     fn from_value(alloc: Global, value: &Value) -> Result<SemanticTokenModifier, Misfit> {
         Ok(SemanticTokenModifier::from(String::from_value(alloc, value)?))
@@ -418,11 +417,11 @@ impl From<&'static str> for TokenFormat {
     }
 }
 
-#[tactic(auto, unfolding(crate::specs::KindText::show_text_kind))]
+#[tactic(auto, unfolding(crate::specs::KindText::text_kind_row))]
 impl Wire for TokenFormat {
-    ghost shape = { string_shape };
+    ghost shape = { text_kind_row.shape };
 
-    ghost shown = { show_text_kind };
+    ghost shown = { text_kind_row.shown };
 
     fn from_value(alloc: Global, value: &Value) -> Result<TokenFormat, Misfit> {
         Ok(TokenFormat::from(String::from_value(alloc, value)?))
@@ -443,31 +442,53 @@ pub enum SemanticTokensFullOptions {
     Delta { delta: Option<bool> },
 }
 
-#[tactic(auto, unfolding(crate::specs::SemanticTokens::semantic_tokens_full_options_shape, crate::specs::SemanticTokens::show_semantic_tokens_full_options))]
-impl Wire for SemanticTokensFullOptions {
-    ghost shape = { semantic_tokens_full_options_shape };
+// The fields of `SemanticTokensFullOptions::Delta`.
+#[derive(Drop)]
+struct SemanticTokensFullOptionsDelta {
+    delta: Option<bool>,
+}
 
-    ghost shown = { show_semantic_tokens_full_options };
+#[tactic(auto, unfolding(crate::specs::SemanticTokens::semantic_tokens_full_options_delta_row))]
+impl Wire for SemanticTokensFullOptionsDelta {
+    ghost shape = { semantic_tokens_full_options_delta_row.shape };
+
+    ghost shown = { semantic_tokens_full_options_delta_row.shown };
+
+    fn from_value(alloc: Global, value: &Value) -> Result<SemanticTokensFullOptionsDelta, Misfit> {
+        let object = Reader::new(alloc, value)?;
+        Ok(SemanticTokensFullOptionsDelta {
+            delta: object.optional("delta")?,
+        })
+    }
+
+    fn to_value(&self, alloc: Global) -> Result<Value, NoMemory> {
+        let mut object = Writer::new(alloc);
+        object.optional("delta", &self.delta)?;
+        Ok(object.end())
+    }
+}
+
+#[tactic(auto, unfolding(crate::specs::SemanticTokens::semantic_tokens_full_options_row, crate::specs::SemanticTokens::semantic_tokens_full_options_delta_row))]
+impl Wire for SemanticTokensFullOptions {
+    ghost shape = { semantic_tokens_full_options_row.shape };
+
+    ghost shown = { semantic_tokens_full_options_row.shown };
 
     fn from_value(alloc: Global, value: &Value) -> Result<SemanticTokensFullOptions, Misfit> {
         if let Some(whole) = attempt(alloc, value)? {
             return Ok(SemanticTokensFullOptions::Bool(whole));
         }
-        let Value::Object(object) = value else {
-            return Err(Misfit::Unfit);
-        };
-        Ok(SemanticTokensFullOptions::Delta {
-            delta: optional(alloc, object, "delta")?,
-        })
+        let x = SemanticTokensFullOptionsDelta::from_value(alloc, value)?;
+        Ok(SemanticTokensFullOptions::Delta { delta: x.delta })
     }
 
     fn to_value(&self, alloc: Global) -> Result<Value, NoMemory> {
         match self {
             SemanticTokensFullOptions::Bool(whole) => whole.to_value(alloc),
             SemanticTokensFullOptions::Delta { delta } => {
-                let mut object = Map::new(alloc);
-                put_optional(alloc, &mut object, "delta", delta)?;
-                Ok(Value::Object(object))
+                let mut object = Writer::new(alloc);
+                object.optional("delta", delta)?;
+                Ok(object.end())
             }
         }
     }

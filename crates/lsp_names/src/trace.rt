@@ -1,6 +1,6 @@
 // How much a server tells of its own work, of section "TraceValue".
 ghost use Rattle.std.specs.Prelude.{◌≡◌};
-ghost use Rattle.lsp_names.specs.Trace.{trace_value_shape, show_trace_value};
+ghost use Rattle.lsp_names.specs.Trace.{trace_value_row};
 ghost use Rattle.lsp_names.specs.declared.trace.TraceValue.TheVariants as values;
 
 use lsp_shape::{Misfit, Wire};
@@ -28,11 +28,11 @@ impl Default for TraceValue {
     }
 }
 
-#[tactic(auto, unfolding(crate::specs::Trace::trace_value_shape, crate::specs::Trace::show_trace_value))]
+#[tactic(auto, unfolding(crate::specs::Trace::trace_value_row))]
 impl Wire for TraceValue {
-    ghost shape = { trace_value_shape };
+    ghost shape = { trace_value_row.shape };
 
-    ghost shown = { show_trace_value };
+    ghost shown = { trace_value_row.shown };
 
     fn from_value(_alloc: Global, value: &Value) -> Result<TraceValue, Misfit> {
         match value.as_str() {
