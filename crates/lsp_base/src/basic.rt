@@ -15,12 +15,13 @@ use std::alloc::Global;
 use std::cmp::Ordering;
 use std::hash::Hash;
 
-/// A number or a text, as the id of a request or a code: sections "Base Protocol" and "Diagnostic" of LSP 3.17.
+/// An integer or a string, as a request id, a progress token or a diagnostic's code (LSP 3.17, "Cancellation Support",
+/// "Diagnostic").
 #[derive(Debug, PartialEq, Eq, Hash, Clone, Drop)]
 pub enum NumberOrString {
-    /// A number of 32 bits.
+    /// An integer of 32 bits.
     Number(i32),
-    /// A text.
+    /// A string.
     String(String),
 }
 
@@ -56,10 +57,10 @@ impl From<NumberOrString> for Id {
     }
 }
 
-/// Which request is to be given up: section "Cancellation Support" of LSP 3.17.
+/// The parameters of `$/cancelRequest`: which request to cancel (LSP 3.17, "Cancellation Support").
 #[derive(Debug, PartialEq, Eq, Clone, Drop)]
 pub struct CancelParams {
-    /// The id of that request.
+    /// The id of the request.
     pub id: NumberOrString,
 }
 
@@ -83,29 +84,28 @@ impl Wire for CancelParams {
     }
 }
 
-/// Any JSON value: section "Base Types" of LSP 3.17.
+/// Any JSON value. Since 3.17 (LSP 3.17, "Base Types").
 pub type LSPAny = Value;
 
-/// An object of any members: section "Base Types" of LSP 3.17.
+/// A JSON object with any members. Since 3.17 (LSP 3.17, "Base Types").
 pub type LSPObject = Map<String, Value>;
 
-/// A list of any values: section "Base Types" of LSP 3.17.
+/// An array of any JSON values. Since 3.17 (LSP 3.17, "Base Types").
 pub type LSPArray = Vec<Value>;
 
-/// A place between two characters of a document: section "Position" of LSP 3.17.
-///
-/// Positions are ordered by line, and within a line by character.
+/// A zero-based line and offset, between two characters of a document. Ordered by line, then by character (LSP 3.17,
+/// "Position").
 #[derive(Debug, Clone, Copy, Hash, Default)]
 pub struct Position {
-    /// The line, counted from 0.
+    /// The zero-based line.
     pub line: u32,
-    /// How many code units of the line stand before the place: of UTF-16, unless another encoding was agreed on.
+    /// The zero-based offset in the line: in UTF-16 code units, unless client and server agreed on another encoding.
     /// Past the end of the line it means that end.
     pub character: u32,
 }
 
 impl Position {
-    /// The place before the code unit `character` of the line `line`, both counted from 0.
+    /// The position before the code unit `character` of the line `line`, both zero-based.
     pub fn new(line: u32, character: u32) -> Position
         ensures { result ≡ record { line = line; character = character } }
     {
@@ -175,17 +175,17 @@ impl Wire for Position {
     }
 }
 
-/// What stands from one place of a document up to another: section "Range" of LSP 3.17.
+/// The range of a document from one position to another (LSP 3.17, "Range").
 #[derive(Debug, Clone, Copy, PartialEq, Eq, Hash, Default)]
 pub struct Range {
     /// Where it begins.
     pub start: Position,
-    /// Where it ends. What stands behind this place is outside.
+    /// Where it ends, exclusive: what comes after this position is outside.
     pub end: Position,
 }
 
 impl Range {
-    /// What stands from `start` up to `end`.
+    /// The range from `start` to `end`.
     pub fn new(start: Position, end: Position) -> Range
         ensures { result ≡ record { start = start; end = end } }
     {
@@ -215,12 +215,12 @@ impl Wire for Range {
     }
 }
 
-/// A range of a document: section "Location" of LSP 3.17.
+/// A range of a document (LSP 3.17, "Location").
 #[derive(Debug, PartialEq, Eq, Hash, Clone, Drop)]
 pub struct Location {
     /// The document.
     pub uri: Uri,
-    /// The range in it.
+    /// The range in the document.
     pub range: Range,
 }
 
@@ -255,16 +255,16 @@ impl Wire for Location {
     }
 }
 
-/// A link from a range of one document to a range of another: section "LocationLink" of LSP 3.17.
+/// A link from a range of one document to a range of another. Since 3.14 (LSP 3.17, "LocationLink").
 #[derive(Debug, PartialEq, Eq, Clone, Drop)]
 pub struct LocationLink {
-    /// What is underlined as the link. Where it is absent, the word at the place that was asked for.
+    /// What the client underlines as the link. Absent: the word at the position of the request.
     pub origin_selection_range: Option<Range>,
     /// The document that the link leads to.
     pub target_uri: Uri,
     /// The whole of what the link leads to, with comments and the like.
     pub target_range: Range,
-    /// What is selected when the link is followed, as the name of a function. It lies within `target_range`.
+    /// What is selected when the link is followed, such as the name of a function. It lies within `target_range`.
     pub target_selection_range: Range,
 }
 

@@ -6,10 +6,10 @@ use lsp_shape::{Misfit, NoMemory, Reader, Wire, Writer};
 use serde_json::Value;
 use std::alloc::Global;
 
-/// The kinds of symbols that an editor knows: as in section "Document Symbols Request" of LSP 3.17.
+/// The kinds of symbols that a client supports (LSP 3.17, "Document Symbols Request").
 #[derive(Debug, PartialEq, Eq, Default, Clone, Drop)]
 pub struct SymbolKindCapability {
-    /// The kinds. Where it is absent, those from `FILE` to `ARRAY`.
+    /// The kinds. Absent: those from `FILE` to `ARRAY`.
     pub value_set: Option<Vec<SymbolKind>>,
 }
 

@@ -6,19 +6,19 @@ use lsp_shape::{Misfit, NoMemory, Reader, Wire, Writer};
 use serde_json::Value;
 use std::alloc::Global;
 
-/// A command that an editor offers to the user: section "Command" of LSP 3.17.
+/// A command that a client offers to the user (LSP 3.17, "Command").
 #[derive(Debug, Clone, Drop)]
 pub struct Command {
-    /// What the user sees, as `save`.
+    /// The title that the user sees, such as `Save`.
     pub title: String,
-    /// What the command is called where it is carried out.
+    /// The identifier of the command.
     pub command: String,
-    /// What it is carried out with.
+    /// The arguments to execute it with. Absent: none.
     pub arguments: Option<Vec<Value>>,
 }
 
 impl Command {
-    /// The command of that title, with these arguments.
+    /// The command with that title and these arguments.
     pub fn new(title: String, command: String, arguments: Option<Vec<Value>>) -> Command
         ensures { result ≡ record { title = title; command = command; arguments = arguments } }
     {
@@ -29,7 +29,7 @@ impl Command {
         }
     }
 
-    /// A command whose texts are empty, with no arguments.
+    /// A command whose strings are empty, without arguments.
     pub fn default(alloc: Global) -> Command
         ensures title { string_bytes result.title ≡ [] }
         ensures command { string_bytes result.command ≡ [] }

@@ -10,7 +10,7 @@ use lsp_uri::Uri;
 use serde_json::Value;
 use std::alloc::Global;
 
-/// Where a diagnostic's code is explained: section "Diagnostic" of LSP 3.17.
+/// Where a diagnostic's code is explained. Since 3.16 (LSP 3.17, "Diagnostic").
 #[derive(Debug, PartialEq, Eq, Clone, Drop)]
 pub struct CodeDescription {
     /// The page that explains it.
@@ -37,10 +37,10 @@ impl Wire for CodeDescription {
     }
 }
 
-/// Another place that has to do with a diagnostic: section "Diagnostic" of LSP 3.17.
+/// Another location that has to do with a diagnostic (LSP 3.17, "Diagnostic").
 #[derive(Debug, PartialEq, Eq, Clone, Drop)]
 pub struct DiagnosticRelatedInformation {
-    /// The place.
+    /// The location.
     pub location: Location,
     /// What it has to do with the diagnostic.
     pub message: String,
@@ -68,26 +68,27 @@ impl Wire for DiagnosticRelatedInformation {
     }
 }
 
-/// What is found in a range of a document, as an error of a compiler: section "Diagnostic" of LSP 3.17.
+/// What is found in a range of a document, such as an error of a compiler (LSP 3.17, "Diagnostic").
 #[derive(Debug, Clone, Drop)]
 pub struct Diagnostic {
-    /// Where it is found.
+    /// The range in which it is found.
     pub range: Range,
-    /// How severe it is. Where it is absent, the editor decides.
+    /// How severe it is. Absent: the client decides.
     pub severity: Option<DiagnosticSeverity>,
-    /// Its code, which an editor may show.
+    /// Its code, which a client may show.
     pub code: Option<NumberOrString>,
-    /// Where the code is explained.
+    /// Where the code is explained. Since 3.16.
     pub code_description: Option<CodeDescription>,
-    /// What found it, as the name of a compiler.
+    /// What found it, such as the name of a compiler.
     pub source: Option<String>,
     /// What is found, for the user to read.
     pub message: String,
-    /// Other places that have to do with it.
+    /// Other locations that have to do with it. Only for clients with `relatedInformation`; since 3.7.
     pub related_information: Option<Vec<DiagnosticRelatedInformation>>,
-    /// What more is known of it.
+    /// Marks on it, such as `DiagnosticTag::UNNECESSARY`. Only for clients with `tagSupport`; since 3.15.
     pub tags: Option<Vec<DiagnosticTag>>,
-    /// Any value, which the editor sends back when it asks for code actions on the diagnostic.
+    /// Any JSON value, which a client with `dataSupport` returns unchanged in `textDocument/codeAction`. In JSON the
+    /// name is `data`. Since 3.16.
     pub payload: Option<Value>,
 }
 
@@ -148,7 +149,7 @@ impl Diagnostic {
         Diagnostic::new(range, Some(severity), code, source, message, None, None)
     }
 
-    /// A diagnostic with an empty message, at the first place of a document.
+    /// A diagnostic with an empty message and an empty range at the start of the document.
     pub fn default(alloc: Global) -> Diagnostic
         ensures message { string_bytes result.message ≡ [] }
         ensures simple { result ≡ simple_diagnostic first_range result.message }

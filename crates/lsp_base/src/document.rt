@@ -8,7 +8,7 @@ use lsp_uri::Uri;
 use serde_json::Value;
 use std::alloc::Global;
 
-/// Names a document by its URI: section "TextDocumentIdentifier" of LSP 3.17.
+/// Names a document by its URI (LSP 3.17, "TextDocumentIdentifier").
 #[derive(Debug, PartialEq, Eq, Clone, Drop)]
 pub struct TextDocumentIdentifier {
     /// The URI of the document.
@@ -44,14 +44,14 @@ impl Wire for TextDocumentIdentifier {
     }
 }
 
-/// A document with its text, as an editor sends it when it opens it: section "TextDocumentItem" of LSP 3.17.
+/// A document with its text, as a client sends it when it opens it (LSP 3.17, "TextDocumentItem").
 #[derive(Debug, PartialEq, Eq, Clone, Drop)]
 pub struct TextDocumentItem {
     /// The URI of the document.
     pub uri: Uri,
-    /// The language that the document is in, as `rust`.
+    /// The language that the document is in, such as `rust`.
     pub language_id: String,
-    /// The number of the version. Each change, undo and redo too, makes it larger.
+    /// The version. It increases with every change, including undo and redo, but not always by 1.
     pub version: i32,
     /// The whole text.
     pub text: String,
@@ -97,12 +97,12 @@ impl Wire for TextDocumentItem {
     }
 }
 
-/// A version of a document: section "VersionedTextDocumentIdentifier" of LSP 3.17.
+/// A version of a document (LSP 3.17, "VersionedTextDocumentIdentifier").
 #[derive(Debug, PartialEq, Eq, Clone, Drop)]
 pub struct VersionedTextDocumentIdentifier {
     /// The URI of the document.
     pub uri: Uri,
-    /// The number of the version. Each change, undo and redo too, makes it larger, not always by 1.
+    /// The version. It increases with every change, including undo and redo, but not always by 1.
     pub version: i32,
 }
 
@@ -137,12 +137,12 @@ impl Wire for VersionedTextDocumentIdentifier {
     }
 }
 
-/// A document, and its version where it is open: section "VersionedTextDocumentIdentifier" of LSP 3.17.
+/// A document, and its version where it is open (LSP 3.17, "VersionedTextDocumentIdentifier").
 #[derive(Debug, PartialEq, Eq, Clone, Drop)]
 pub struct OptionalVersionedTextDocumentIdentifier {
     /// The URI of the document.
     pub uri: Uri,
-    /// The number of the version. Where it is absent, the document is not open and its text is that of its file.
+    /// The version. `None`, sent as `null`: the document isn't open in the client, and its content is that on disk.
     pub version: Option<i32>,
 }
 
@@ -164,7 +164,10 @@ impl Wire for OptionalVersionedTextDocumentIdentifier {
 
     ghost shown = { optional_versioned_text_document_identifier_row.shown };
 
-    fn from_value(alloc: Global, value: &Value) -> Result<OptionalVersionedTextDocumentIdentifier, Misfit> {
+    fn from_value(
+        alloc: Global,
+        value: &Value,
+    ) -> Result<OptionalVersionedTextDocumentIdentifier, Misfit> {
         let object = Reader::new(alloc, value)?;
         Ok(OptionalVersionedTextDocumentIdentifier {
             uri: object.field("uri")?,
@@ -180,17 +183,17 @@ impl Wire for OptionalVersionedTextDocumentIdentifier {
     }
 }
 
-/// A place in a document, as most requests on a document send it: section "TextDocumentPositionParams" of LSP 3.17.
+/// A position in a document, as most requests on a document send it (LSP 3.17, "TextDocumentPositionParams").
 #[derive(Debug, PartialEq, Eq, Clone, Drop)]
 pub struct TextDocumentPositionParams {
     /// The document.
     pub text_document: TextDocumentIdentifier,
-    /// The place in it.
+    /// The position in it.
     pub position: Position,
 }
 
 impl TextDocumentPositionParams {
-    /// That place in the document.
+    /// That position in the document.
     pub fn new(
         text_document: TextDocumentIdentifier,
         position: Position,
@@ -226,14 +229,15 @@ impl Wire for TextDocumentPositionParams {
     }
 }
 
-/// Which documents are meant, where all that is present must apply: section "DocumentFilter" of LSP 3.17.
+/// Selects documents: those to which all members that are present apply. At least one should be present (LSP 3.17,
+/// "DocumentFilter").
 #[derive(Debug, PartialEq, Eq, Clone, Drop)]
 pub struct DocumentFilter {
-    /// The language of the document, as `rust`.
+    /// The language of the document, such as `rust`.
     pub language: Option<String>,
-    /// The scheme of its URI, as `file`.
+    /// The scheme of its URI, such as `file`.
     pub scheme: Option<String>,
-    /// A glob pattern that its path matches, as `**/*.rs`.
+    /// A glob pattern that its path matches, such as `**/*.rs`.
     pub pattern: Option<String>,
 }
 
@@ -261,17 +265,17 @@ impl Wire for DocumentFilter {
     }
 }
 
-/// Which documents are meant: those that pass one of the filters. Section "DocumentFilter" of LSP 3.17.
+/// Selects documents: those that pass one of the filters (LSP 3.17, "DocumentFilter").
 pub type DocumentSelector = Vec<DocumentFilter>;
 
-/// A change of the text of a document: section "DidChangeTextDocument Notification" of LSP 3.17.
+/// A change of the text of a document (LSP 3.17, "DidChangeTextDocument Notification").
 #[derive(Debug, PartialEq, Eq, Clone, Drop)]
 pub struct TextDocumentContentChangeEvent {
-    /// What is replaced. Where it is absent, the whole text.
+    /// The range to replace. Absent: the whole text.
     pub range: Option<Range>,
     /// How much is replaced, in no stated unit. LSP has deprecated it: the range says the same.
     pub range_length: Option<u32>,
-    /// The text that stands there afterwards.
+    /// The new text.
     pub text: String,
 }
 
@@ -299,12 +303,12 @@ impl Wire for TextDocumentContentChangeEvent {
     }
 }
 
-/// A folder that is open in the editor: section "Workspace Folders Request" of LSP 3.17.
+/// A folder of the client's workspace. Since 3.6 (LSP 3.17, "Workspace folders request").
 #[derive(Debug, PartialEq, Eq, PartialOrd, Ord, Clone, Drop)]
 pub struct WorkspaceFolder {
     /// The URI of the folder.
     pub uri: Uri,
-    /// What the editor calls it.
+    /// The name by which the client shows it.
     pub name: String,
 }
 

@@ -40,14 +40,13 @@ impl<A: Wire, B: Wire> Wire for OneOf<A, B> {
     }
 }
 
-/// A range of a document gets another text: section "TextEdit & AnnotatedTextEdit" of LSP 3.17.
-///
-/// The edits of one change all speak of the document as it was before it, and their ranges do not overlap.
+/// A range of a document and its new text. All edits of one change refer to the document before it, and their ranges
+/// must not overlap (LSP 3.17, "TextEdit & AnnotatedTextEdit").
 #[derive(Debug, PartialEq, Eq, Clone, Drop)]
 pub struct TextEdit {
-    /// What is replaced. An empty range is where text is put in.
+    /// The range to replace. An empty range inserts.
     pub range: Range,
-    /// What then stands there. An empty text deletes the range.
+    /// The new text. An empty string deletes the range.
     pub new_text: String,
 }
 
@@ -59,7 +58,7 @@ impl TextEdit {
         TextEdit { range, new_text }
     }
 
-    /// Nothing in place of nothing, at the start of the document.
+    /// An empty string in place of an empty range, at the start of the document.
     pub fn default(alloc: Global) -> TextEdit
         ensures range { result.range ≡ first_range }
         ensures new_text { string_bytes result.new_text ≡ [] }
@@ -93,10 +92,11 @@ impl Wire for TextEdit {
     }
 }
 
-/// Names a change annotation: section "TextEdit & AnnotatedTextEdit" of LSP 3.17.
+/// The identifier of a change annotation. Since 3.16 (LSP 3.17, "TextEdit & AnnotatedTextEdit").
 pub type ChangeAnnotationIdentifier = String;
 
-/// An edit with an annotation: section "TextEdit & AnnotatedTextEdit" of LSP 3.17.
+/// An edit with an annotation. Since 3.16. Only for clients with `changeAnnotationSupport` (LSP 3.17, "TextEdit &
+/// AnnotatedTextEdit").
 #[derive(Debug, PartialEq, Eq, Clone, Drop)]
 pub struct AnnotatedTextEdit {
     /// The edit. Its members stand among those of this type.
@@ -127,7 +127,7 @@ impl Wire for AnnotatedTextEdit {
     }
 }
 
-/// Edits of one version of a document: section "TextDocumentEdit" of LSP 3.17.
+/// Edits of one version of a document (LSP 3.17, "TextDocumentEdit").
 #[derive(Debug, PartialEq, Eq, Clone, Drop)]
 pub struct TextDocumentEdit {
     /// The document, and the version that the edits speak of.
@@ -158,7 +158,7 @@ impl Wire for TextDocumentEdit {
     }
 }
 
-/// What a change is for, as the user is told: section "TextEdit & AnnotatedTextEdit" of LSP 3.17.
+/// What a change is for, as the user is told. Since 3.16 (LSP 3.17, "TextEdit & AnnotatedTextEdit").
 #[derive(Debug, PartialEq, Eq, Clone, Drop)]
 pub struct ChangeAnnotation {
     /// What the user sees first.

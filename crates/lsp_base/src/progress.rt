@@ -6,13 +6,14 @@ use lsp_shape::{Misfit, NoMemory, Reader, Wire, Writer};
 use serde_json::Value;
 use std::alloc::Global;
 
-/// Ties a report of progress to what it is about: section "Progress Support" of LSP 3.17.
+/// Ties a `$/progress` notification to what it is about (LSP 3.17, "Progress Support").
 pub type ProgressToken = NumberOrString;
 
-/// A request for results in parts: section "PartialResultParams" of LSP 3.17.
+/// The token under which a client wants the result of its request in parts (LSP 3.17, "PartialResultParams").
 #[derive(Debug, PartialEq, Eq, Default, Clone, Drop)]
 pub struct PartialResultParams {
-    /// The token of the reports that hold the parts. Where it is absent, the result comes as a whole.
+    /// The token of the `$/progress` notifications that hold the parts; the response after them is empty. Absent: the
+    /// response has the whole result.
     pub partial_result_token: Option<ProgressToken>,
 }
 
@@ -36,10 +37,11 @@ impl Wire for PartialResultParams {
     }
 }
 
-/// A request for reports on how far the work is: section "WorkDoneProgressParams" of LSP 3.17.
+/// The token under which a client wants work done progress for its request. Since 3.15 (LSP 3.17, "Client Initiated
+/// Progress").
 #[derive(Debug, PartialEq, Eq, Default, Clone, Drop)]
 pub struct WorkDoneProgressParams {
-    /// The token of the reports. Where it is absent, none are wanted.
+    /// The token of the `$/progress` notifications. Absent: the client wants none.
     pub work_done_token: Option<ProgressToken>,
 }
 

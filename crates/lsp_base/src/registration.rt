@@ -8,7 +8,8 @@ use lsp_shape::{Misfit, NoMemory, Reader, Wire, Writer};
 use serde_json::Value;
 use std::alloc::Global;
 
-/// The tags that an editor knows: as in sections "Completion Request" and "PublishDiagnostics Notification" of LSP 3.17.
+/// The tags that a client supports. `true` is read as no tags and `false` as no support, as old clients send them (LSP
+/// 3.17, "Completion Request").
 #[derive(Debug, PartialEq, Eq, Clone, Drop)]
 pub struct TagSupport<T> {
     /// The tags.
@@ -45,7 +46,7 @@ impl<T: Wire> Wire for TagSupport<T> {
     }
 }
 
-/// Whether a server may register for a feature while it runs: section "Register Capability" of LSP 3.17.
+/// Whether a server may register a feature after initialization (LSP 3.17, "Register Capability").
 #[derive(Debug, PartialEq, Eq, Clone, Copy, Default)]
 pub struct DynamicRegistrationClientCapabilities {
     /// Whether it may.
@@ -58,7 +59,10 @@ impl Wire for DynamicRegistrationClientCapabilities {
 
     ghost shown = { dynamic_registration_client_capabilities_row.shown };
 
-    fn from_value(alloc: Global, value: &Value) -> Result<DynamicRegistrationClientCapabilities, Misfit> {
+    fn from_value(
+        alloc: Global,
+        value: &Value,
+    ) -> Result<DynamicRegistrationClientCapabilities, Misfit> {
         let object = Reader::new(alloc, value)?;
         Ok(DynamicRegistrationClientCapabilities {
             dynamic_registration: object.optional("dynamicRegistration")?,
@@ -72,12 +76,12 @@ impl Wire for DynamicRegistrationClientCapabilities {
     }
 }
 
-/// What an editor supports of a request such as that of section "Goto Definition Request" of LSP 3.17.
+/// What a client supports of a request such as `textDocument/definition` (LSP 3.17, "Goto Definition Request").
 #[derive(Debug, PartialEq, Eq, Clone, Copy, Default)]
 pub struct GotoCapability {
-    /// Whether a server may register for the request while it runs.
+    /// Whether a server may register the request after initialization.
     pub dynamic_registration: Option<bool>,
-    /// Whether the answer may hold links, of type `LocationLink`.
+    /// Whether the result may hold links, of type `LocationLink`. Since 3.14.
     pub link_support: Option<bool>,
 }
 
@@ -103,10 +107,10 @@ impl Wire for GotoCapability {
     }
 }
 
-/// Which documents a registration is for: section "Register Capability" of LSP 3.17.
+/// The documents that a registration applies to (LSP 3.17, "Register Capability").
 #[derive(Debug, PartialEq, Eq, Default, Clone, Drop)]
 pub struct TextDocumentRegistrationOptions {
-    /// The documents. Where it is absent, those that the editor selects.
+    /// The documents. `None`, sent as `null`: those that the client selects itself.
     pub document_selector: Option<DocumentSelector>,
 }
 
@@ -130,10 +134,11 @@ impl Wire for TextDocumentRegistrationOptions {
     }
 }
 
-/// By what id a registration is withdrawn: section "Register Capability" of LSP 3.17.
+/// The id of a registration that a server makes in its capabilities (LSP 3.17, "Register Capability").
 #[derive(Debug, PartialEq, Eq, Default, Clone, Drop)]
 pub struct StaticRegistrationOptions {
-    /// The id. Where it is absent, the registration can't be withdrawn.
+    /// The id with which the server can unregister the feature later, using `client/unregisterCapability`. Absent: it
+    /// can't.
     pub id: Option<String>,
 }
 

@@ -7,12 +7,12 @@ use lsp_uri::Uri;
 use serde_json::Value;
 use std::alloc::Global;
 
-/// What is done where the file is there already: section "File Resource changes" of LSP 3.17.
+/// What to do where the file is there already. Since 3.13 (LSP 3.17, "File Resource changes").
 #[derive(Debug, PartialEq, Eq, Clone, Drop)]
 pub struct CreateFileOptions {
-    /// Whether the file that is there is overwritten. This goes before `ignore_if_exists`.
+    /// Whether to overwrite what is there. Takes precedence over `ignore_if_exists`.
     pub overwrite: Option<bool>,
-    /// Whether the file that is there is left as it is.
+    /// Whether to leave what is there as it is.
     pub ignore_if_exists: Option<bool>,
 }
 
@@ -38,14 +38,14 @@ impl Wire for CreateFileOptions {
     }
 }
 
-/// A file or folder is made: section "File Resource changes" of LSP 3.17.
+/// A file or folder to create. Since 3.13 (LSP 3.17, "File Resource changes").
 #[derive(Debug, PartialEq, Eq, Clone, Drop)]
 pub struct CreateFile {
     /// The file or folder.
     pub uri: Uri,
-    /// What is done where it is there already.
+    /// What to do where it is there already.
     pub options: Option<CreateFileOptions>,
-    /// The annotation that says what the change is for.
+    /// The annotation that says what the change is for. Since 3.16.
     pub annotation_id: Option<ChangeAnnotationIdentifier>,
 }
 
@@ -73,12 +73,12 @@ impl Wire for CreateFile {
     }
 }
 
-/// What is done where a file of the new name is there already: section "File Resource changes" of LSP 3.17.
+/// What to do where something of the new name is there already. Since 3.13 (LSP 3.17, "File Resource changes").
 #[derive(Debug, PartialEq, Eq, Clone, Drop)]
 pub struct RenameFileOptions {
-    /// Whether the file that is there is overwritten. This goes before `ignore_if_exists`.
+    /// Whether to overwrite what is there. Takes precedence over `ignore_if_exists`.
     pub overwrite: Option<bool>,
-    /// Whether the file that is there is left as it is.
+    /// Whether to leave what is there as it is.
     pub ignore_if_exists: Option<bool>,
 }
 
@@ -104,16 +104,16 @@ impl Wire for RenameFileOptions {
     }
 }
 
-/// A file or folder gets another name: section "File Resource changes" of LSP 3.17.
+/// A file or folder to rename. Since 3.13 (LSP 3.17, "File Resource changes").
 #[derive(Debug, PartialEq, Eq, Clone, Drop)]
 pub struct RenameFile {
-    /// Where it is.
+    /// Its present URI.
     pub old_uri: Uri,
-    /// Where it then is.
+    /// Its new URI.
     pub new_uri: Uri,
-    /// What is done where something of the new name is there already.
+    /// What to do where something of the new name is there already.
     pub options: Option<RenameFileOptions>,
-    /// The annotation that says what the change is for.
+    /// The annotation that says what the change is for. Since 3.16.
     pub annotation_id: Option<ChangeAnnotationIdentifier>,
 }
 
@@ -143,14 +143,15 @@ impl Wire for RenameFile {
     }
 }
 
-/// How much is deleted, and what is done where nothing is there: section "File Resource changes" of LSP 3.17.
+/// How much to delete, and what to do where nothing is there. Since 3.13 (LSP 3.17, "File Resource changes").
 #[derive(Debug, PartialEq, Eq, Clone, Drop)]
 pub struct DeleteFileOptions {
-    /// Whether what a folder holds is deleted with it.
+    /// Whether to delete what a folder holds with it.
     pub recursive: Option<bool>,
     /// Whether it is no error that the file is not there.
     pub ignore_if_not_exists: Option<bool>,
-    /// The annotation that says what the change is for. LSP 3.17 has it beside the options; it is here as in `lsp-types`.
+    /// The annotation that says what the change is for. LSP 3.17 has this member in `DeleteFile`, beside `options`;
+    /// here it is written among the options, where clients don't look for it. Since 3.16.
     pub annotation_id: Option<ChangeAnnotationIdentifier>,
 }
 
@@ -178,12 +179,12 @@ impl Wire for DeleteFileOptions {
     }
 }
 
-/// A file or folder is deleted: section "File Resource changes" of LSP 3.17.
+/// A file or folder to delete. Since 3.13 (LSP 3.17, "File Resource changes").
 #[derive(Debug, PartialEq, Eq, Clone, Drop)]
 pub struct DeleteFile {
     /// The file or folder.
     pub uri: Uri,
-    /// How much is deleted, and what is done where nothing is there.
+    /// How much to delete, and what to do where nothing is there.
     pub options: Option<DeleteFileOptions>,
 }
 
@@ -209,14 +210,14 @@ impl Wire for DeleteFile {
     }
 }
 
-/// A change of a file or folder, told by its member `kind`: section "File Resource changes" of LSP 3.17.
+/// A change of a file or folder, told by its member `kind`. Since 3.13 (LSP 3.17, "File Resource changes").
 #[derive(Debug, PartialEq, Eq, Clone, Drop)]
 pub enum ResourceOp {
-    /// It is made.
+    /// Creates it.
     Create(CreateFile),
-    /// It gets another name.
+    /// Renames it.
     Rename(RenameFile),
-    /// It is deleted.
+    /// Deletes it.
     Delete(DeleteFile),
 }
 

@@ -10,16 +10,16 @@ use serde_json::Value;
 use std::alloc::Global;
 use std::collections::HashMap;
 
-/// Changes of any number of documents and files: section "WorkspaceEdit" of LSP 3.17.
-///
-/// It has `changes` or `document_changes`; where it has both, an editor that knows `document_changes` takes these.
+/// Changes of any number of documents and files. It has `changes` or `document_changes`. If both, a client that
+/// supports `document_changes` applies these (LSP 3.17, "WorkspaceEdit").
 #[derive(Debug, Clone, Default, Drop)]
 pub struct WorkspaceEdit {
     /// The edits of each document.
     pub changes: Option<HashMap<Uri, Vec<TextEdit>>>,
-    /// Edits of versions of documents, and changes of files.
+    /// Edits of versions of documents, and changes of files. Only for clients with `documentChanges` or
+    /// `resourceOperations`.
     pub document_changes: Option<DocumentChanges>,
-    /// The annotations that the changes name.
+    /// The annotations that the changes name, by their identifiers. Since 3.16.
     pub change_annotations: Option<HashMap<ChangeAnnotationIdentifier, ChangeAnnotation>>,
 }
 
@@ -59,10 +59,10 @@ impl Wire for WorkspaceEdit {
     }
 }
 
-/// Edits of documents alone, or with changes of files among them: section "WorkspaceEdit" of LSP 3.17.
+/// Edits of documents alone, or with changes of files among them (LSP 3.17, "WorkspaceEdit").
 #[derive(Debug, PartialEq, Eq, Clone, Drop)]
 pub enum DocumentChanges {
-    /// Edits of documents alone. Each list that holds nothing else is read as these, an empty one too.
+    /// Edits of documents alone. An array of these only, even an empty one, is read as this variant.
     Edits(Vec<TextDocumentEdit>),
     /// Edits of documents and changes of files, made in their order.
     Operations(Vec<DocumentChangeOperation>),
@@ -89,7 +89,7 @@ impl Wire for DocumentChanges {
     }
 }
 
-/// A change of a file or folder, or edits of a document: section "WorkspaceEdit" of LSP 3.17.
+/// A change of a file or folder, or edits of a document (LSP 3.17, "WorkspaceEdit").
 #[derive(Debug, PartialEq, Eq, Clone, Drop)]
 pub enum DocumentChangeOperation {
     /// A change of a file or folder.

@@ -7,7 +7,7 @@ use no_memory::NoMemory;
 use serde_json::Value;
 use std::alloc::Global;
 
-/// How a text for people is written: section "MarkupContent" of LSP 3.17.
+/// How a text for people is written (LSP 3.17, "MarkupContent").
 #[derive(Clone, Debug, PartialEq, Eq, Drop)]
 pub enum MarkupKind {
     /// As it stands.
@@ -39,7 +39,7 @@ impl Wire for MarkupKind {
     }
 }
 
-/// A text for people, with the form that it is written in: section "MarkupContent" of LSP 3.17.
+/// A text for people, with the form that it is written in. Since 3.3 (LSP 3.17, "MarkupContent").
 #[derive(Clone, Debug, PartialEq, Eq, Drop)]
 pub struct MarkupContent {
     /// The form.
@@ -70,10 +70,10 @@ impl Wire for MarkupContent {
     }
 }
 
-/// Code, with the language that it is in: section "Hover Request" of LSP 3.17.
+/// Code, with the language that it is in (LSP 3.17, "Hover Request").
 #[derive(Clone, Debug, PartialEq, Eq, Drop)]
 pub struct LanguageString {
-    /// The language, by its name in documents, as `rust`.
+    /// The language, by its name in documents, such as `rust`.
     pub language: String,
     /// The code.
     pub value: String,
@@ -101,7 +101,7 @@ impl Wire for LanguageString {
     }
 }
 
-/// A text for people in the older form, Markdown or code: section "Hover Request" of LSP 3.17.
+/// A text for people, Markdown or code. LSP has deprecated it: use `MarkupContent` (LSP 3.17, "Hover Request").
 #[derive(Clone, Debug, PartialEq, Eq, Drop)]
 pub enum MarkedString {
     /// Markdown.
@@ -150,11 +150,11 @@ impl Wire for MarkedString {
     }
 }
 
-/// What documents an item, as a completion or a parameter: sections "Completion Request" and "Signature Help Request" of
-/// LSP 3.17.
+/// What documents an item, such as a completion or a parameter (LSP 3.17, "Completion Request", "Signature Help
+/// Request").
 #[derive(Clone, Debug, PartialEq, Eq, Drop)]
 pub enum Documentation {
-    /// A text that is shown as it stands.
+    /// A string that is shown as it stands.
     String(String),
     /// A text with its form.
     MarkupContent(MarkupContent),

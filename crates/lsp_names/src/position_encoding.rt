@@ -9,7 +9,8 @@ use serde_json::Value;
 use std::alloc::Global;
 use std::marker::Model;
 
-/// What a position counts within a line, by a name: section "Position" of LSP 3.17. Any other name is kept as it is.
+/// The encoding in whose code units a position's `character` is counted. Any other name is kept as it is. Since 3.17
+/// (LSP 3.17, "Position").
 #[derive(Clone, Debug, PartialEq, Eq, PartialOrd, Ord, Hash, Drop)]
 pub struct PositionEncodingKind(KindText);
 
@@ -24,7 +25,7 @@ impl Model for PositionEncodingKind {
 }
 
 impl PositionEncodingKind {
-    /// Bytes of UTF-8.
+    /// Code units of UTF-8, which are bytes.
     pub fn UTF8() -> PositionEncodingKind
         ensures { result ≡ codes "utf-8" }
     {

@@ -6,10 +6,11 @@ use no_memory::NoMemory;
 use serde_json::Value;
 use std::alloc::Global;
 
-/// Whether a server tells how far the work of a request has come: section "Work Done Progress" of LSP 3.17.
+/// Whether a server reports work done progress for its requests, where the client sends a token. Since 3.15 (LSP 3.17,
+/// "Client Initiated Progress").
 #[derive(Clone, Copy, Debug, PartialEq, Eq, Default)]
 pub struct WorkDoneProgressOptions {
-    /// Whether it does. Where it is absent, it doesn't.
+    /// Whether it does. Absent: it doesn't.
     pub work_done_progress: Option<bool>,
 }
 

@@ -10,7 +10,7 @@ use serde_json::Value;
 use std::alloc::Global;
 use std::marker::Model;
 
-/// What a token of code is, by a name: section "Semantic Tokens" of LSP 3.17. Any other name is kept as it is.
+/// What a token of code is, by a name. Any other name is kept as it is. Since 3.16 (LSP 3.17, "Semantic Tokens").
 #[derive(Clone, Debug, PartialEq, Eq, PartialOrd, Ord, Hash, Drop)]
 pub struct SemanticTokenType(KindText);
 
@@ -232,8 +232,8 @@ impl Wire for SemanticTokenType {
     }
 }
 
-/// What else is to be said of a token of code, by a name: section "Semantic Tokens" of LSP 3.17. Any other name is kept
-/// as it is.
+/// What else is to be said of a token of code, by a name. Any other name is kept as it is. Since 3.16 (LSP 3.17,
+/// "Semantic Tokens").
 #[derive(Clone, Debug, PartialEq, Eq, PartialOrd, Ord, Hash, Drop)]
 pub struct SemanticTokenModifier(KindText);
 
@@ -276,7 +276,7 @@ impl SemanticTokenModifier {
         SemanticTokenModifier(KindText::known("static"))
     }
 
-    /// Best used no more.
+    /// Deprecated: its use is discouraged.
     pub fn DEPRECATED() -> SemanticTokenModifier
         ensures { result ≡ codes "deprecated" }
     {
@@ -290,7 +290,7 @@ impl SemanticTokenModifier {
         SemanticTokenModifier(KindText::known("abstract"))
     }
 
-    /// A function that can wait.
+    /// Asynchronous.
     pub fn ASYNC() -> SemanticTokenModifier
         ensures { result ≡ codes "async" }
     {
@@ -364,7 +364,8 @@ impl Wire for SemanticTokenModifier {
     }
 }
 
-/// How the numbers of tokens are meant, by a name: section "Semantic Tokens" of LSP 3.17. Any other name is kept as it is.
+/// How the numbers of tokens are meant, by a name. Any other name is kept as it is. Since 3.16 (LSP 3.17, "Semantic
+/// Tokens").
 #[derive(Clone, Debug, PartialEq, Eq, PartialOrd, Ord, Hash, Drop)]
 pub struct TokenFormat(KindText);
 
@@ -379,7 +380,7 @@ impl Model for TokenFormat {
 }
 
 impl TokenFormat {
-    /// Each token stands so far from the one before it.
+    /// The position of each token is relative to the token before it.
     pub fn RELATIVE() -> TokenFormat
         ensures { result ≡ codes "relative" }
     {
@@ -432,13 +433,13 @@ impl Wire for TokenFormat {
     }
 }
 
-/// Whether tokens of a whole document are offered or asked for, and whether as changes too: section "Semantic Tokens" of
-/// LSP 3.17.
+/// Whether tokens of a whole document are supported, and whether also as edits. Since 3.16 (LSP 3.17, "Semantic
+/// Tokens").
 #[derive(Clone, Debug, PartialEq, Eq, Drop)]
 pub enum SemanticTokensFullOptions {
-    /// Whether they are, and nothing of changes.
+    /// Whether they are, without edits.
     Bool(bool),
-    /// They are, and `delta` says whether as changes to those of an earlier answer too.
+    /// They are, and `delta` says whether also as edits of an earlier result.
     Delta { delta: Option<bool> },
 }
 

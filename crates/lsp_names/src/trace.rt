@@ -8,15 +8,15 @@ use no_memory::NoMemory;
 use serde_json::Value;
 use std::alloc::Global;
 
-/// How much a server tells of what it does, by `$/logTrace`: section "TraceValue" of LSP 3.17. Until the client asks for
-/// more it is nothing.
+/// How much a server reports with `$/logTrace`. At first `off`, unless `initialize` says otherwise (LSP 3.17,
+/// "TraceValue").
 #[derive(Clone, Copy, Debug, PartialEq, Eq)]
 pub enum TraceValue {
-    /// Nothing.
+    /// No traces.
     Off,
-    /// Messages, each without its further text.
+    /// Messages without `verbose`.
     Messages,
-    /// Messages, each with its further text.
+    /// Messages with `verbose`.
     Verbose,
 }
 

@@ -1,6 +1,16 @@
 // The rows of lsp_base.
 use crate::rows::{holds, text_of};
-use lsp_base::{AnnotatedTextEdit, CancelParams, ChangeAnnotation, CodeDescription, Command, CreateFile, CreateFileOptions, DeleteFile, DeleteFileOptions, Diagnostic, DiagnosticRelatedInformation, DocumentChangeOperation, DocumentChanges, DocumentFilter, DynamicRegistrationClientCapabilities, GotoCapability, Location, LocationLink, NumberOrString, OptionalVersionedTextDocumentIdentifier, PartialResultParams, Position, Range, RenameFile, RenameFileOptions, ResourceOp, StaticRegistrationOptions, SymbolKindCapability, TextDocumentContentChangeEvent, TextDocumentEdit, TextDocumentIdentifier, TextDocumentItem, TextDocumentPositionParams, TextDocumentRegistrationOptions, TextEdit, VersionedTextDocumentIdentifier, WorkDoneProgressParams, WorkspaceEdit, WorkspaceFolder};
+use lsp_base::{
+    AnnotatedTextEdit, CancelParams, ChangeAnnotation, CodeDescription, Command, CreateFile,
+    CreateFileOptions, DeleteFile, DeleteFileOptions, Diagnostic, DiagnosticRelatedInformation,
+    DocumentChangeOperation, DocumentChanges, DocumentFilter,
+    DynamicRegistrationClientCapabilities, GotoCapability, Location, LocationLink, NumberOrString,
+    OptionalVersionedTextDocumentIdentifier, PartialResultParams, Position, Range, RenameFile,
+    RenameFileOptions, ResourceOp, StaticRegistrationOptions, SymbolKindCapability,
+    TextDocumentContentChangeEvent, TextDocumentEdit, TextDocumentIdentifier, TextDocumentItem,
+    TextDocumentPositionParams, TextDocumentRegistrationOptions, TextEdit,
+    VersionedTextDocumentIdentifier, WorkDoneProgressParams, WorkspaceEdit, WorkspaceFolder,
+};
 use std::test::Fail;
 
 const NUMBER_OR_STRING: &str = r#"
@@ -250,14 +260,22 @@ fn rows_3(rt: HostRuntime) -> Result<(), Fail> {
     holds::<TextDocumentIdentifier>(rt, alloc, TEXT_DOCUMENT_IDENTIFIER)?;
     holds::<TextDocumentItem>(rt, alloc, TEXT_DOCUMENT_ITEM)?;
     holds::<VersionedTextDocumentIdentifier>(rt, alloc, VERSIONED_TEXT_DOCUMENT_IDENTIFIER)?;
-    holds::<OptionalVersionedTextDocumentIdentifier>(rt, alloc, OPTIONAL_VERSIONED_TEXT_DOCUMENT_IDENTIFIER)?;
+    holds::<OptionalVersionedTextDocumentIdentifier>(
+        rt,
+        alloc,
+        OPTIONAL_VERSIONED_TEXT_DOCUMENT_IDENTIFIER,
+    )?;
     holds::<TextDocumentPositionParams>(rt, alloc, TEXT_DOCUMENT_POSITION_PARAMS)?;
     holds::<DocumentFilter>(rt, alloc, DOCUMENT_FILTER)?;
     holds::<TextDocumentContentChangeEvent>(rt, alloc, TEXT_DOCUMENT_CONTENT_CHANGE_EVENT)?;
     holds::<PartialResultParams>(rt, alloc, PARTIAL_RESULT_PARAMS)?;
     holds::<WorkDoneProgressParams>(rt, alloc, WORK_DONE_PROGRESS_PARAMS)?;
     holds::<WorkspaceFolder>(rt, alloc, WORKSPACE_FOLDER)?;
-    holds::<DynamicRegistrationClientCapabilities>(rt, alloc, DYNAMIC_REGISTRATION_CLIENT_CAPABILITIES)?;
+    holds::<DynamicRegistrationClientCapabilities>(
+        rt,
+        alloc,
+        DYNAMIC_REGISTRATION_CLIENT_CAPABILITIES,
+    )?;
     holds::<GotoCapability>(rt, alloc, GOTO_CAPABILITY)?;
     Ok(())
 }
@@ -275,18 +293,57 @@ fn rows_4(rt: HostRuntime) -> Result<(), Fail> {
 #[test]
 fn defaults(rt: HostRuntime) -> Result<(), Fail> {
     let alloc = rt.alloc();
-    assert_eq!(rt; text_of(alloc, &Position::default())?.as_str(), r#"{"character":0,"line":0}"#);
-    assert_eq!(rt; text_of(alloc, &Range::default())?.as_str(), r#"{"end":{"character":0,"line":0},"start":{"character":0,"line":0}}"#);
-    assert_eq!(rt; text_of(alloc, &Command::default(alloc))?.as_str(), r#"{"command":"","title":""}"#);
-    assert_eq!(rt; text_of(alloc, &Diagnostic::default(alloc))?.as_str(), r#"{"message":"","range":{"end":{"character":0,"line":0},"start":{"character":0,"line":0}}}"#);
-    assert_eq!(rt; text_of(alloc, &TextEdit::default(alloc))?.as_str(), r#"{"newText":"","range":{"end":{"character":0,"line":0},"start":{"character":0,"line":0}}}"#);
-    assert_eq!(rt; text_of(alloc, &WorkspaceEdit::default())?.as_str(), r#"{}"#);
-    assert_eq!(rt; text_of(alloc, &PartialResultParams::default())?.as_str(), r#"{}"#);
-    assert_eq!(rt; text_of(alloc, &WorkDoneProgressParams::default())?.as_str(), r#"{}"#);
-    assert_eq!(rt; text_of(alloc, &DynamicRegistrationClientCapabilities::default())?.as_str(), r#"{}"#);
-    assert_eq!(rt; text_of(alloc, &GotoCapability::default())?.as_str(), r#"{}"#);
-    assert_eq!(rt; text_of(alloc, &TextDocumentRegistrationOptions::default())?.as_str(), r#"{"documentSelector":null}"#);
-    assert_eq!(rt; text_of(alloc, &StaticRegistrationOptions::default())?.as_str(), r#"{}"#);
-    assert_eq!(rt; text_of(alloc, &SymbolKindCapability::default())?.as_str(), r#"{"valueSet":null}"#);
+    assert_eq!(rt;
+        text_of(alloc, &Position::default())?.as_str(),
+        r#"{"character":0,"line":0}"#
+    );
+    assert_eq!(rt;
+        text_of(alloc, &Range::default())?.as_str(),
+        r#"{"end":{"character":0,"line":0},"start":{"character":0,"line":0}}"#
+    );
+    assert_eq!(rt;
+        text_of(alloc, &Command::default(alloc))?.as_str(),
+        r#"{"command":"","title":""}"#
+    );
+    assert_eq!(rt;
+        text_of(alloc, &Diagnostic::default(alloc))?.as_str(),
+        r#"{"message":"","range":{"end":{"character":0,"line":0},"start":{"character":0,"line":0}}}"#
+    );
+    assert_eq!(rt;
+        text_of(alloc, &TextEdit::default(alloc))?.as_str(),
+        r#"{"newText":"","range":{"end":{"character":0,"line":0},"start":{"character":0,"line":0}}}"#
+    );
+    assert_eq!(rt;
+        text_of(alloc, &WorkspaceEdit::default())?.as_str(),
+        r#"{}"#
+    );
+    assert_eq!(rt;
+        text_of(alloc, &PartialResultParams::default())?.as_str(),
+        r#"{}"#
+    );
+    assert_eq!(rt;
+        text_of(alloc, &WorkDoneProgressParams::default())?.as_str(),
+        r#"{}"#
+    );
+    assert_eq!(rt;
+        text_of(alloc, &DynamicRegistrationClientCapabilities::default())?.as_str(),
+        r#"{}"#
+    );
+    assert_eq!(rt;
+        text_of(alloc, &GotoCapability::default())?.as_str(),
+        r#"{}"#
+    );
+    assert_eq!(rt;
+        text_of(alloc, &TextDocumentRegistrationOptions::default())?.as_str(),
+        r#"{"documentSelector":null}"#
+    );
+    assert_eq!(rt;
+        text_of(alloc, &StaticRegistrationOptions::default())?.as_str(),
+        r#"{}"#
+    );
+    assert_eq!(rt;
+        text_of(alloc, &SymbolKindCapability::default())?.as_str(),
+        r#"{"valueSet":null}"#
+    );
     Ok(())
 }

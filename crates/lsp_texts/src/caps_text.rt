@@ -1,6 +1,18 @@
 // The rows of lsp_caps_text.
 use crate::rows::{holds, text_of};
-use lsp_caps_text::{CodeActionCapabilityResolveSupport, CodeActionClientCapabilities, CodeActionKindLiteralSupport, CodeActionLiteralSupport, CompletionClientCapabilities, CompletionItemCapability, CompletionItemCapabilityResolveSupport, CompletionItemKindCapability, CompletionListCapability, DiagnosticClientCapabilities, DocumentLinkClientCapabilities, DocumentSymbolClientCapabilities, FoldingRangeCapability, FoldingRangeClientCapabilities, FoldingRangeKindCapability, HoverClientCapabilities, InlayHintClientCapabilities, InlayHintResolveClientCapabilities, InsertTextModeSupport, ParameterInformationSettings, PublishDiagnosticsClientCapabilities, RenameClientCapabilities, SelectionRangeClientCapabilities, SemanticTokensClientCapabilities, SemanticTokensClientCapabilitiesRequests, SignatureHelpClientCapabilities, SignatureInformationSettings, TextDocumentClientCapabilities, TextDocumentSyncClientCapabilities};
+use lsp_caps_text::{
+    CodeActionCapabilityResolveSupport, CodeActionClientCapabilities, CodeActionKindLiteralSupport,
+    CodeActionLiteralSupport, CompletionClientCapabilities, CompletionItemCapability,
+    CompletionItemCapabilityResolveSupport, CompletionItemKindCapability, CompletionListCapability,
+    DiagnosticClientCapabilities, DocumentLinkClientCapabilities, DocumentSymbolClientCapabilities,
+    FoldingRangeCapability, FoldingRangeClientCapabilities, FoldingRangeKindCapability,
+    HoverClientCapabilities, InlayHintClientCapabilities, InlayHintResolveClientCapabilities,
+    InsertTextModeSupport, ParameterInformationSettings, PublishDiagnosticsClientCapabilities,
+    RenameClientCapabilities, SelectionRangeClientCapabilities, SemanticTokensClientCapabilities,
+    SemanticTokensClientCapabilitiesRequests, SignatureHelpClientCapabilities,
+    SignatureInformationSettings, TextDocumentClientCapabilities,
+    TextDocumentSyncClientCapabilities,
+};
 use std::test::Fail;
 
 const TEXT_DOCUMENT_SYNC_CLIENT_CAPABILITIES: &str = r#"
@@ -252,7 +264,11 @@ fn rows_1(rt: HostRuntime) -> Result<(), Fail> {
     holds::<TextDocumentSyncClientCapabilities>(rt, alloc, TEXT_DOCUMENT_SYNC_CLIENT_CAPABILITIES)?;
     holds::<CompletionClientCapabilities>(rt, alloc, COMPLETION_CLIENT_CAPABILITIES)?;
     holds::<CompletionItemCapability>(rt, alloc, COMPLETION_ITEM_CAPABILITY)?;
-    holds::<CompletionItemCapabilityResolveSupport>(rt, alloc, COMPLETION_ITEM_CAPABILITY_RESOLVE_SUPPORT)?;
+    holds::<CompletionItemCapabilityResolveSupport>(
+        rt,
+        alloc,
+        COMPLETION_ITEM_CAPABILITY_RESOLVE_SUPPORT,
+    )?;
     holds::<InsertTextModeSupport>(rt, alloc, INSERT_TEXT_MODE_SUPPORT)?;
     holds::<CompletionItemKindCapability>(rt, alloc, COMPLETION_ITEM_KIND_CAPABILITY)?;
     holds::<CompletionListCapability>(rt, alloc, COMPLETION_LIST_CAPABILITY)?;
@@ -274,7 +290,11 @@ fn rows_2(rt: HostRuntime) -> Result<(), Fail> {
     holds::<CodeActionKindLiteralSupport>(rt, alloc, CODE_ACTION_KIND_LITERAL_SUPPORT)?;
     holds::<DocumentLinkClientCapabilities>(rt, alloc, DOCUMENT_LINK_CLIENT_CAPABILITIES)?;
     holds::<RenameClientCapabilities>(rt, alloc, RENAME_CLIENT_CAPABILITIES)?;
-    holds::<PublishDiagnosticsClientCapabilities>(rt, alloc, PUBLISH_DIAGNOSTICS_CLIENT_CAPABILITIES)?;
+    holds::<PublishDiagnosticsClientCapabilities>(
+        rt,
+        alloc,
+        PUBLISH_DIAGNOSTICS_CLIENT_CAPABILITIES,
+    )?;
     holds::<DiagnosticClientCapabilities>(rt, alloc, DIAGNOSTIC_CLIENT_CAPABILITIES)?;
     holds::<FoldingRangeClientCapabilities>(rt, alloc, FOLDING_RANGE_CLIENT_CAPABILITIES)?;
     holds::<FoldingRangeKindCapability>(rt, alloc, FOLDING_RANGE_KIND_CAPABILITY)?;
@@ -288,7 +308,11 @@ fn rows_3(rt: HostRuntime) -> Result<(), Fail> {
     let rt = &rt;
     let alloc = rt.alloc();
     holds::<SemanticTokensClientCapabilities>(rt, alloc, SEMANTIC_TOKENS_CLIENT_CAPABILITIES)?;
-    holds::<SemanticTokensClientCapabilitiesRequests>(rt, alloc, SEMANTIC_TOKENS_CLIENT_CAPABILITIES_REQUESTS)?;
+    holds::<SemanticTokensClientCapabilitiesRequests>(
+        rt,
+        alloc,
+        SEMANTIC_TOKENS_CLIENT_CAPABILITIES_REQUESTS,
+    )?;
     holds::<InlayHintClientCapabilities>(rt, alloc, INLAY_HINT_CLIENT_CAPABILITIES)?;
     holds::<InlayHintResolveClientCapabilities>(rt, alloc, INLAY_HINT_RESOLVE_CLIENT_CAPABILITIES)?;
     holds::<TextDocumentClientCapabilities>(rt, alloc, TEXT_DOCUMENT_CLIENT_CAPABILITIES)?;
@@ -298,33 +322,121 @@ fn rows_3(rt: HostRuntime) -> Result<(), Fail> {
 #[test]
 fn defaults(rt: HostRuntime) -> Result<(), Fail> {
     let alloc = rt.alloc();
-    assert_eq!(rt; text_of(alloc, &TextDocumentSyncClientCapabilities::default())?.as_str(), r#"{}"#);
-    assert_eq!(rt; text_of(alloc, &CompletionClientCapabilities::default())?.as_str(), r#"{}"#);
-    assert_eq!(rt; text_of(alloc, &CompletionItemCapability::default())?.as_str(), r#"{}"#);
-    assert_eq!(rt; text_of(alloc, &CompletionItemCapabilityResolveSupport::default(alloc))?.as_str(), r#"{"properties":[]}"#);
-    assert_eq!(rt; text_of(alloc, &InsertTextModeSupport::default(alloc))?.as_str(), r#"{"valueSet":[]}"#);
-    assert_eq!(rt; text_of(alloc, &CompletionItemKindCapability::default())?.as_str(), r#"{}"#);
-    assert_eq!(rt; text_of(alloc, &CompletionListCapability::default())?.as_str(), r#"{}"#);
-    assert_eq!(rt; text_of(alloc, &HoverClientCapabilities::default())?.as_str(), r#"{}"#);
-    assert_eq!(rt; text_of(alloc, &SignatureHelpClientCapabilities::default())?.as_str(), r#"{}"#);
-    assert_eq!(rt; text_of(alloc, &SignatureInformationSettings::default())?.as_str(), r#"{}"#);
-    assert_eq!(rt; text_of(alloc, &ParameterInformationSettings::default())?.as_str(), r#"{}"#);
-    assert_eq!(rt; text_of(alloc, &DocumentSymbolClientCapabilities::default())?.as_str(), r#"{}"#);
-    assert_eq!(rt; text_of(alloc, &CodeActionClientCapabilities::default())?.as_str(), r#"{}"#);
-    assert_eq!(rt; text_of(alloc, &CodeActionCapabilityResolveSupport::default(alloc))?.as_str(), r#"{"properties":[]}"#);
-    assert_eq!(rt; text_of(alloc, &CodeActionLiteralSupport::default(alloc))?.as_str(), r#"{"codeActionKind":{"valueSet":[]}}"#);
-    assert_eq!(rt; text_of(alloc, &CodeActionKindLiteralSupport::default(alloc))?.as_str(), r#"{"valueSet":[]}"#);
-    assert_eq!(rt; text_of(alloc, &RenameClientCapabilities::default())?.as_str(), r#"{}"#);
-    assert_eq!(rt; text_of(alloc, &PublishDiagnosticsClientCapabilities::default())?.as_str(), r#"{}"#);
-    assert_eq!(rt; text_of(alloc, &DiagnosticClientCapabilities::default())?.as_str(), r#"{}"#);
-    assert_eq!(rt; text_of(alloc, &FoldingRangeClientCapabilities::default())?.as_str(), r#"{}"#);
-    assert_eq!(rt; text_of(alloc, &FoldingRangeKindCapability::default())?.as_str(), r#"{}"#);
-    assert_eq!(rt; text_of(alloc, &FoldingRangeCapability::default())?.as_str(), r#"{}"#);
-    assert_eq!(rt; text_of(alloc, &SelectionRangeClientCapabilities::default())?.as_str(), r#"{}"#);
-    assert_eq!(rt; text_of(alloc, &SemanticTokensClientCapabilities::default(alloc))?.as_str(), r#"{"formats":[],"requests":{},"tokenModifiers":[],"tokenTypes":[]}"#);
-    assert_eq!(rt; text_of(alloc, &SemanticTokensClientCapabilitiesRequests::default())?.as_str(), r#"{}"#);
-    assert_eq!(rt; text_of(alloc, &InlayHintClientCapabilities::default())?.as_str(), r#"{}"#);
-    assert_eq!(rt; text_of(alloc, &InlayHintResolveClientCapabilities::default(alloc))?.as_str(), r#"{"properties":[]}"#);
-    assert_eq!(rt; text_of(alloc, &TextDocumentClientCapabilities::default())?.as_str(), r#"{}"#);
+    assert_eq!(rt;
+        text_of(alloc, &TextDocumentSyncClientCapabilities::default())?.as_str(),
+        r#"{}"#
+    );
+    assert_eq!(rt;
+        text_of(alloc, &CompletionClientCapabilities::default())?.as_str(),
+        r#"{}"#
+    );
+    assert_eq!(rt;
+        text_of(alloc, &CompletionItemCapability::default())?.as_str(),
+        r#"{}"#
+    );
+    assert_eq!(rt;
+        text_of(
+            alloc,
+            &CompletionItemCapabilityResolveSupport::default(alloc)
+        )?
+        .as_str(),
+        r#"{"properties":[]}"#
+    );
+    assert_eq!(rt;
+        text_of(alloc, &InsertTextModeSupport::default(alloc))?.as_str(),
+        r#"{"valueSet":[]}"#
+    );
+    assert_eq!(rt;
+        text_of(alloc, &CompletionItemKindCapability::default())?.as_str(),
+        r#"{}"#
+    );
+    assert_eq!(rt;
+        text_of(alloc, &CompletionListCapability::default())?.as_str(),
+        r#"{}"#
+    );
+    assert_eq!(rt;
+        text_of(alloc, &HoverClientCapabilities::default())?.as_str(),
+        r#"{}"#
+    );
+    assert_eq!(rt;
+        text_of(alloc, &SignatureHelpClientCapabilities::default())?.as_str(),
+        r#"{}"#
+    );
+    assert_eq!(rt;
+        text_of(alloc, &SignatureInformationSettings::default())?.as_str(),
+        r#"{}"#
+    );
+    assert_eq!(rt;
+        text_of(alloc, &ParameterInformationSettings::default())?.as_str(),
+        r#"{}"#
+    );
+    assert_eq!(rt;
+        text_of(alloc, &DocumentSymbolClientCapabilities::default())?.as_str(),
+        r#"{}"#
+    );
+    assert_eq!(rt;
+        text_of(alloc, &CodeActionClientCapabilities::default())?.as_str(),
+        r#"{}"#
+    );
+    assert_eq!(rt;
+        text_of(alloc, &CodeActionCapabilityResolveSupport::default(alloc))?.as_str(),
+        r#"{"properties":[]}"#
+    );
+    assert_eq!(rt;
+        text_of(alloc, &CodeActionLiteralSupport::default(alloc))?.as_str(),
+        r#"{"codeActionKind":{"valueSet":[]}}"#
+    );
+    assert_eq!(rt;
+        text_of(alloc, &CodeActionKindLiteralSupport::default(alloc))?.as_str(),
+        r#"{"valueSet":[]}"#
+    );
+    assert_eq!(rt;
+        text_of(alloc, &RenameClientCapabilities::default())?.as_str(),
+        r#"{}"#
+    );
+    assert_eq!(rt;
+        text_of(alloc, &PublishDiagnosticsClientCapabilities::default())?.as_str(),
+        r#"{}"#
+    );
+    assert_eq!(rt;
+        text_of(alloc, &DiagnosticClientCapabilities::default())?.as_str(),
+        r#"{}"#
+    );
+    assert_eq!(rt;
+        text_of(alloc, &FoldingRangeClientCapabilities::default())?.as_str(),
+        r#"{}"#
+    );
+    assert_eq!(rt;
+        text_of(alloc, &FoldingRangeKindCapability::default())?.as_str(),
+        r#"{}"#
+    );
+    assert_eq!(rt;
+        text_of(alloc, &FoldingRangeCapability::default())?.as_str(),
+        r#"{}"#
+    );
+    assert_eq!(rt;
+        text_of(alloc, &SelectionRangeClientCapabilities::default())?.as_str(),
+        r#"{}"#
+    );
+    assert_eq!(rt;
+        text_of(alloc, &SemanticTokensClientCapabilities::default(alloc))?.as_str(),
+        r#"{"formats":[],"requests":{},"tokenModifiers":[],"tokenTypes":[]}"#
+    );
+    assert_eq!(rt;
+        text_of(alloc, &SemanticTokensClientCapabilitiesRequests::default())?.as_str(),
+        r#"{}"#
+    );
+    assert_eq!(rt;
+        text_of(alloc, &InlayHintClientCapabilities::default())?.as_str(),
+        r#"{}"#
+    );
+    assert_eq!(rt;
+        text_of(alloc, &InlayHintResolveClientCapabilities::default(alloc))?.as_str(),
+        r#"{"properties":[]}"#
+    );
+    assert_eq!(rt;
+        text_of(alloc, &TextDocumentClientCapabilities::default())?.as_str(),
+        r#"{}"#
+    );
     Ok(())
 }

@@ -1,6 +1,19 @@
 // The rows of lsp_caps_work.
 use crate::rows::{holds, text_of};
-use lsp_caps_work::{ChangeAnnotationWorkspaceEditClientCapabilities, ClientInfo, CodeLensWorkspaceClientCapabilities, DiagnosticWorkspaceClientCapabilities, DidChangeWatchedFilesClientCapabilities, FailureHandlingKind, GeneralClientCapabilities, InitializedParams, InlayHintWorkspaceClientCapabilities, InlineValueWorkspaceClientCapabilities, MarkdownClientCapabilities, MessageActionItemCapabilities, NotebookDocumentClientCapabilities, NotebookDocumentSyncClientCapabilities, RegularExpressionsClientCapabilities, ResourceOperationKind, SemanticTokensWorkspaceClientCapabilities, ShowDocumentClientCapabilities, ShowMessageRequestClientCapabilities, StaleRequestSupportClientCapabilities, WindowClientCapabilities, WorkspaceClientCapabilities, WorkspaceEditClientCapabilities, WorkspaceFileOperationsClientCapabilities, WorkspaceSymbolClientCapabilities, WorkspaceSymbolResolveSupportCapability};
+use lsp_caps_work::{
+    ChangeAnnotationWorkspaceEditClientCapabilities, ClientInfo,
+    CodeLensWorkspaceClientCapabilities, DiagnosticWorkspaceClientCapabilities,
+    DidChangeWatchedFilesClientCapabilities, FailureHandlingKind, GeneralClientCapabilities,
+    InitializedParams, InlayHintWorkspaceClientCapabilities,
+    InlineValueWorkspaceClientCapabilities, MarkdownClientCapabilities,
+    MessageActionItemCapabilities, NotebookDocumentClientCapabilities,
+    NotebookDocumentSyncClientCapabilities, RegularExpressionsClientCapabilities,
+    ResourceOperationKind, SemanticTokensWorkspaceClientCapabilities,
+    ShowDocumentClientCapabilities, ShowMessageRequestClientCapabilities,
+    StaleRequestSupportClientCapabilities, WindowClientCapabilities, WorkspaceClientCapabilities,
+    WorkspaceEditClientCapabilities, WorkspaceFileOperationsClientCapabilities,
+    WorkspaceSymbolClientCapabilities, WorkspaceSymbolResolveSupportCapability,
+};
 use std::test::Fail;
 
 const WORKSPACE_EDIT_CLIENT_CAPABILITIES: &str = r#"
@@ -209,17 +222,49 @@ fn rows_1(rt: HostRuntime) -> Result<(), Fail> {
     let rt = &rt;
     let alloc = rt.alloc();
     holds::<WorkspaceEditClientCapabilities>(rt, alloc, WORKSPACE_EDIT_CLIENT_CAPABILITIES)?;
-    holds::<ChangeAnnotationWorkspaceEditClientCapabilities>(rt, alloc, CHANGE_ANNOTATION_WORKSPACE_EDIT_CLIENT_CAPABILITIES)?;
+    holds::<ChangeAnnotationWorkspaceEditClientCapabilities>(
+        rt,
+        alloc,
+        CHANGE_ANNOTATION_WORKSPACE_EDIT_CLIENT_CAPABILITIES,
+    )?;
     holds::<ResourceOperationKind>(rt, alloc, RESOURCE_OPERATION_KIND)?;
     holds::<FailureHandlingKind>(rt, alloc, FAILURE_HANDLING_KIND)?;
-    holds::<DidChangeWatchedFilesClientCapabilities>(rt, alloc, DID_CHANGE_WATCHED_FILES_CLIENT_CAPABILITIES)?;
-    holds::<WorkspaceFileOperationsClientCapabilities>(rt, alloc, WORKSPACE_FILE_OPERATIONS_CLIENT_CAPABILITIES)?;
+    holds::<DidChangeWatchedFilesClientCapabilities>(
+        rt,
+        alloc,
+        DID_CHANGE_WATCHED_FILES_CLIENT_CAPABILITIES,
+    )?;
+    holds::<WorkspaceFileOperationsClientCapabilities>(
+        rt,
+        alloc,
+        WORKSPACE_FILE_OPERATIONS_CLIENT_CAPABILITIES,
+    )?;
     holds::<WorkspaceSymbolClientCapabilities>(rt, alloc, WORKSPACE_SYMBOL_CLIENT_CAPABILITIES)?;
-    holds::<WorkspaceSymbolResolveSupportCapability>(rt, alloc, WORKSPACE_SYMBOL_RESOLVE_SUPPORT_CAPABILITY)?;
-    holds::<CodeLensWorkspaceClientCapabilities>(rt, alloc, CODE_LENS_WORKSPACE_CLIENT_CAPABILITIES)?;
-    holds::<SemanticTokensWorkspaceClientCapabilities>(rt, alloc, SEMANTIC_TOKENS_WORKSPACE_CLIENT_CAPABILITIES)?;
-    holds::<InlayHintWorkspaceClientCapabilities>(rt, alloc, INLAY_HINT_WORKSPACE_CLIENT_CAPABILITIES)?;
-    holds::<InlineValueWorkspaceClientCapabilities>(rt, alloc, INLINE_VALUE_WORKSPACE_CLIENT_CAPABILITIES)?;
+    holds::<WorkspaceSymbolResolveSupportCapability>(
+        rt,
+        alloc,
+        WORKSPACE_SYMBOL_RESOLVE_SUPPORT_CAPABILITY,
+    )?;
+    holds::<CodeLensWorkspaceClientCapabilities>(
+        rt,
+        alloc,
+        CODE_LENS_WORKSPACE_CLIENT_CAPABILITIES,
+    )?;
+    holds::<SemanticTokensWorkspaceClientCapabilities>(
+        rt,
+        alloc,
+        SEMANTIC_TOKENS_WORKSPACE_CLIENT_CAPABILITIES,
+    )?;
+    holds::<InlayHintWorkspaceClientCapabilities>(
+        rt,
+        alloc,
+        INLAY_HINT_WORKSPACE_CLIENT_CAPABILITIES,
+    )?;
+    holds::<InlineValueWorkspaceClientCapabilities>(
+        rt,
+        alloc,
+        INLINE_VALUE_WORKSPACE_CLIENT_CAPABILITIES,
+    )?;
     Ok(())
 }
 
@@ -227,18 +272,38 @@ fn rows_1(rt: HostRuntime) -> Result<(), Fail> {
 fn rows_2(rt: HostRuntime) -> Result<(), Fail> {
     let rt = &rt;
     let alloc = rt.alloc();
-    holds::<DiagnosticWorkspaceClientCapabilities>(rt, alloc, DIAGNOSTIC_WORKSPACE_CLIENT_CAPABILITIES)?;
+    holds::<DiagnosticWorkspaceClientCapabilities>(
+        rt,
+        alloc,
+        DIAGNOSTIC_WORKSPACE_CLIENT_CAPABILITIES,
+    )?;
     holds::<WorkspaceClientCapabilities>(rt, alloc, WORKSPACE_CLIENT_CAPABILITIES)?;
     holds::<WindowClientCapabilities>(rt, alloc, WINDOW_CLIENT_CAPABILITIES)?;
-    holds::<ShowMessageRequestClientCapabilities>(rt, alloc, SHOW_MESSAGE_REQUEST_CLIENT_CAPABILITIES)?;
+    holds::<ShowMessageRequestClientCapabilities>(
+        rt,
+        alloc,
+        SHOW_MESSAGE_REQUEST_CLIENT_CAPABILITIES,
+    )?;
     holds::<MessageActionItemCapabilities>(rt, alloc, MESSAGE_ACTION_ITEM_CAPABILITIES)?;
     holds::<ShowDocumentClientCapabilities>(rt, alloc, SHOW_DOCUMENT_CLIENT_CAPABILITIES)?;
     holds::<GeneralClientCapabilities>(rt, alloc, GENERAL_CLIENT_CAPABILITIES)?;
-    holds::<StaleRequestSupportClientCapabilities>(rt, alloc, STALE_REQUEST_SUPPORT_CLIENT_CAPABILITIES)?;
-    holds::<RegularExpressionsClientCapabilities>(rt, alloc, REGULAR_EXPRESSIONS_CLIENT_CAPABILITIES)?;
+    holds::<StaleRequestSupportClientCapabilities>(
+        rt,
+        alloc,
+        STALE_REQUEST_SUPPORT_CLIENT_CAPABILITIES,
+    )?;
+    holds::<RegularExpressionsClientCapabilities>(
+        rt,
+        alloc,
+        REGULAR_EXPRESSIONS_CLIENT_CAPABILITIES,
+    )?;
     holds::<MarkdownClientCapabilities>(rt, alloc, MARKDOWN_CLIENT_CAPABILITIES)?;
     holds::<NotebookDocumentClientCapabilities>(rt, alloc, NOTEBOOK_DOCUMENT_CLIENT_CAPABILITIES)?;
-    holds::<NotebookDocumentSyncClientCapabilities>(rt, alloc, NOTEBOOK_DOCUMENT_SYNC_CLIENT_CAPABILITIES)?;
+    holds::<NotebookDocumentSyncClientCapabilities>(
+        rt,
+        alloc,
+        NOTEBOOK_DOCUMENT_SYNC_CLIENT_CAPABILITIES,
+    )?;
     Ok(())
 }
 
@@ -254,25 +319,97 @@ fn rows_3(rt: HostRuntime) -> Result<(), Fail> {
 #[test]
 fn defaults(rt: HostRuntime) -> Result<(), Fail> {
     let alloc = rt.alloc();
-    assert_eq!(rt; text_of(alloc, &WorkspaceEditClientCapabilities::default())?.as_str(), r#"{}"#);
-    assert_eq!(rt; text_of(alloc, &ChangeAnnotationWorkspaceEditClientCapabilities::default())?.as_str(), r#"{}"#);
-    assert_eq!(rt; text_of(alloc, &DidChangeWatchedFilesClientCapabilities::default())?.as_str(), r#"{}"#);
-    assert_eq!(rt; text_of(alloc, &WorkspaceFileOperationsClientCapabilities::default())?.as_str(), r#"{}"#);
-    assert_eq!(rt; text_of(alloc, &WorkspaceSymbolClientCapabilities::default())?.as_str(), r#"{}"#);
-    assert_eq!(rt; text_of(alloc, &WorkspaceSymbolResolveSupportCapability::default(alloc))?.as_str(), r#"{"properties":[]}"#);
-    assert_eq!(rt; text_of(alloc, &InlayHintWorkspaceClientCapabilities::default())?.as_str(), r#"{}"#);
-    assert_eq!(rt; text_of(alloc, &InlineValueWorkspaceClientCapabilities::default())?.as_str(), r#"{}"#);
-    assert_eq!(rt; text_of(alloc, &DiagnosticWorkspaceClientCapabilities::default())?.as_str(), r#"{}"#);
-    assert_eq!(rt; text_of(alloc, &WorkspaceClientCapabilities::default())?.as_str(), r#"{}"#);
-    assert_eq!(rt; text_of(alloc, &WindowClientCapabilities::default())?.as_str(), r#"{}"#);
-    assert_eq!(rt; text_of(alloc, &ShowMessageRequestClientCapabilities::default())?.as_str(), r#"{}"#);
-    assert_eq!(rt; text_of(alloc, &MessageActionItemCapabilities::default())?.as_str(), r#"{}"#);
-    assert_eq!(rt; text_of(alloc, &ShowDocumentClientCapabilities::default())?.as_str(), r#"{"support":false}"#);
-    assert_eq!(rt; text_of(alloc, &GeneralClientCapabilities::default())?.as_str(), r#"{}"#);
-    assert_eq!(rt; text_of(alloc, &StaleRequestSupportClientCapabilities::default(alloc))?.as_str(), r#"{"cancel":false,"retryOnContentModified":[]}"#);
-    assert_eq!(rt; text_of(alloc, &RegularExpressionsClientCapabilities::default(alloc))?.as_str(), r#"{"engine":""}"#);
-    assert_eq!(rt; text_of(alloc, &MarkdownClientCapabilities::default(alloc))?.as_str(), r#"{"parser":""}"#);
-    assert_eq!(rt; text_of(alloc, &NotebookDocumentClientCapabilities::default())?.as_str(), r#"{"synchronization":{}}"#);
-    assert_eq!(rt; text_of(alloc, &NotebookDocumentSyncClientCapabilities::default())?.as_str(), r#"{}"#);
+    assert_eq!(rt;
+        text_of(alloc, &WorkspaceEditClientCapabilities::default())?.as_str(),
+        r#"{}"#
+    );
+    assert_eq!(rt;
+        text_of(
+            alloc,
+            &ChangeAnnotationWorkspaceEditClientCapabilities::default()
+        )?
+        .as_str(),
+        r#"{}"#
+    );
+    assert_eq!(rt;
+        text_of(alloc, &DidChangeWatchedFilesClientCapabilities::default())?.as_str(),
+        r#"{}"#
+    );
+    assert_eq!(rt;
+        text_of(alloc, &WorkspaceFileOperationsClientCapabilities::default())?.as_str(),
+        r#"{}"#
+    );
+    assert_eq!(rt;
+        text_of(alloc, &WorkspaceSymbolClientCapabilities::default())?.as_str(),
+        r#"{}"#
+    );
+    assert_eq!(rt;
+        text_of(
+            alloc,
+            &WorkspaceSymbolResolveSupportCapability::default(alloc)
+        )?
+        .as_str(),
+        r#"{"properties":[]}"#
+    );
+    assert_eq!(rt;
+        text_of(alloc, &InlayHintWorkspaceClientCapabilities::default())?.as_str(),
+        r#"{}"#
+    );
+    assert_eq!(rt;
+        text_of(alloc, &InlineValueWorkspaceClientCapabilities::default())?.as_str(),
+        r#"{}"#
+    );
+    assert_eq!(rt;
+        text_of(alloc, &DiagnosticWorkspaceClientCapabilities::default())?.as_str(),
+        r#"{}"#
+    );
+    assert_eq!(rt;
+        text_of(alloc, &WorkspaceClientCapabilities::default())?.as_str(),
+        r#"{}"#
+    );
+    assert_eq!(rt;
+        text_of(alloc, &WindowClientCapabilities::default())?.as_str(),
+        r#"{}"#
+    );
+    assert_eq!(rt;
+        text_of(alloc, &ShowMessageRequestClientCapabilities::default())?.as_str(),
+        r#"{}"#
+    );
+    assert_eq!(rt;
+        text_of(alloc, &MessageActionItemCapabilities::default())?.as_str(),
+        r#"{}"#
+    );
+    assert_eq!(rt;
+        text_of(alloc, &ShowDocumentClientCapabilities::default())?.as_str(),
+        r#"{"support":false}"#
+    );
+    assert_eq!(rt;
+        text_of(alloc, &GeneralClientCapabilities::default())?.as_str(),
+        r#"{}"#
+    );
+    assert_eq!(rt;
+        text_of(
+            alloc,
+            &StaleRequestSupportClientCapabilities::default(alloc)
+        )?
+        .as_str(),
+        r#"{"cancel":false,"retryOnContentModified":[]}"#
+    );
+    assert_eq!(rt;
+        text_of(alloc, &RegularExpressionsClientCapabilities::default(alloc))?.as_str(),
+        r#"{"engine":""}"#
+    );
+    assert_eq!(rt;
+        text_of(alloc, &MarkdownClientCapabilities::default(alloc))?.as_str(),
+        r#"{"parser":""}"#
+    );
+    assert_eq!(rt;
+        text_of(alloc, &NotebookDocumentClientCapabilities::default())?.as_str(),
+        r#"{"synchronization":{}}"#
+    );
+    assert_eq!(rt;
+        text_of(alloc, &NotebookDocumentSyncClientCapabilities::default())?.as_str(),
+        r#"{}"#
+    );
     Ok(())
 }

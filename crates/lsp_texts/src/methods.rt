@@ -57,9 +57,21 @@ fn rows_1(rt: HostRuntime) -> Result<(), Fail> {
 #[test]
 fn defaults(rt: HostRuntime) -> Result<(), Fail> {
     let alloc = rt.alloc();
-    assert_eq!(rt; text_of(alloc, &ClientCapabilities::default())?.as_str(), r#"{}"#);
-    assert_eq!(rt; text_of(alloc, &InitializeParams::default())?.as_str(), r#"{"capabilities":{},"processId":null,"rootUri":null}"#);
-    assert_eq!(rt; text_of(alloc, &ServerCapabilities::default())?.as_str(), r#"{}"#);
-    assert_eq!(rt; text_of(alloc, &InitializeResult::default())?.as_str(), r#"{"capabilities":{}}"#);
+    assert_eq!(rt;
+        text_of(alloc, &ClientCapabilities::default())?.as_str(),
+        r#"{}"#
+    );
+    assert_eq!(rt;
+        text_of(alloc, &InitializeParams::default())?.as_str(),
+        r#"{"capabilities":{},"processId":null,"rootUri":null}"#
+    );
+    assert_eq!(rt;
+        text_of(alloc, &ServerCapabilities::default())?.as_str(),
+        r#"{}"#
+    );
+    assert_eq!(rt;
+        text_of(alloc, &InitializeResult::default())?.as_str(),
+        r#"{"capabilities":{}}"#
+    );
     Ok(())
 }

@@ -1,6 +1,9 @@
 // The rows of lsp_names.
 use crate::rows::{holds, text_of};
-use lsp_names::{Documentation, LanguageString, MarkedString, MarkupContent, SemanticTokensFullOptions, WorkDoneProgressOptions};
+use lsp_names::{
+    Documentation, LanguageString, MarkedString, MarkupContent, SemanticTokensFullOptions,
+    WorkDoneProgressOptions,
+};
 use std::test::Fail;
 
 const MARKUP_CONTENT: &str = r#"
@@ -52,6 +55,9 @@ fn rows_1(rt: HostRuntime) -> Result<(), Fail> {
 #[test]
 fn defaults(rt: HostRuntime) -> Result<(), Fail> {
     let alloc = rt.alloc();
-    assert_eq!(rt; text_of(alloc, &WorkDoneProgressOptions::default())?.as_str(), r#"{}"#);
+    assert_eq!(rt;
+        text_of(alloc, &WorkDoneProgressOptions::default())?.as_str(),
+        r#"{}"#
+    );
     Ok(())
 }

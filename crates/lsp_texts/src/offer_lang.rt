@@ -1,6 +1,17 @@
 // The rows of lsp_offer_lang.
 use crate::rows::{holds, text_of};
-use lsp_offer_lang::{CallHierarchyOptions, CallHierarchyServerCapability, ColorProviderCapability, ColorProviderOptions, DiagnosticOptions, DiagnosticRegistrationOptions, DiagnosticServerCapabilities, FoldingProviderOptions, FoldingRangeProviderCapability, InlayHintOptions, InlayHintRegistrationOptions, InlayHintServerCapabilities, InlineValueOptions, InlineValueRegistrationOptions, InlineValueServerCapabilities, LinkedEditingRangeOptions, LinkedEditingRangeRegistrationOptions, LinkedEditingRangeServerCapabilities, MonikerOptions, MonikerRegistrationOptions, MonikerServerCapabilities, SemanticTokensLegend, SemanticTokensOptions, SemanticTokensRegistrationOptions, SemanticTokensServerCapabilities, StaticTextDocumentColorProviderOptions, TypeHierarchyOptions, TypeHierarchyRegistrationOptions};
+use lsp_offer_lang::{
+    CallHierarchyOptions, CallHierarchyServerCapability, ColorProviderCapability,
+    ColorProviderOptions, DiagnosticOptions, DiagnosticRegistrationOptions,
+    DiagnosticServerCapabilities, FoldingProviderOptions, FoldingRangeProviderCapability,
+    InlayHintOptions, InlayHintRegistrationOptions, InlayHintServerCapabilities,
+    InlineValueOptions, InlineValueRegistrationOptions, InlineValueServerCapabilities,
+    LinkedEditingRangeOptions, LinkedEditingRangeRegistrationOptions,
+    LinkedEditingRangeServerCapabilities, MonikerOptions, MonikerRegistrationOptions,
+    MonikerServerCapabilities, SemanticTokensLegend, SemanticTokensOptions,
+    SemanticTokensRegistrationOptions, SemanticTokensServerCapabilities,
+    StaticTextDocumentColorProviderOptions, TypeHierarchyOptions, TypeHierarchyRegistrationOptions,
+};
 use std::test::Fail;
 
 const CALL_HIERARCHY_SERVER_CAPABILITY: &str = r#"
@@ -183,12 +194,24 @@ fn rows_1(rt: HostRuntime) -> Result<(), Fail> {
     holds::<TypeHierarchyRegistrationOptions>(rt, alloc, TYPE_HIERARCHY_REGISTRATION_OPTIONS)?;
     holds::<ColorProviderCapability>(rt, alloc, COLOR_PROVIDER_CAPABILITY)?;
     holds::<ColorProviderOptions>(rt, alloc, COLOR_PROVIDER_OPTIONS)?;
-    holds::<StaticTextDocumentColorProviderOptions>(rt, alloc, STATIC_TEXT_DOCUMENT_COLOR_PROVIDER_OPTIONS)?;
+    holds::<StaticTextDocumentColorProviderOptions>(
+        rt,
+        alloc,
+        STATIC_TEXT_DOCUMENT_COLOR_PROVIDER_OPTIONS,
+    )?;
     holds::<FoldingRangeProviderCapability>(rt, alloc, FOLDING_RANGE_PROVIDER_CAPABILITY)?;
     holds::<FoldingProviderOptions>(rt, alloc, FOLDING_PROVIDER_OPTIONS)?;
-    holds::<LinkedEditingRangeServerCapabilities>(rt, alloc, LINKED_EDITING_RANGE_SERVER_CAPABILITIES)?;
+    holds::<LinkedEditingRangeServerCapabilities>(
+        rt,
+        alloc,
+        LINKED_EDITING_RANGE_SERVER_CAPABILITIES,
+    )?;
     holds::<LinkedEditingRangeOptions>(rt, alloc, LINKED_EDITING_RANGE_OPTIONS)?;
-    holds::<LinkedEditingRangeRegistrationOptions>(rt, alloc, LINKED_EDITING_RANGE_REGISTRATION_OPTIONS)?;
+    holds::<LinkedEditingRangeRegistrationOptions>(
+        rt,
+        alloc,
+        LINKED_EDITING_RANGE_REGISTRATION_OPTIONS,
+    )?;
     Ok(())
 }
 
@@ -225,17 +248,53 @@ fn rows_3(rt: HostRuntime) -> Result<(), Fail> {
 #[test]
 fn defaults(rt: HostRuntime) -> Result<(), Fail> {
     let alloc = rt.alloc();
-    assert_eq!(rt; text_of(alloc, &CallHierarchyOptions::default())?.as_str(), r#"{}"#);
-    assert_eq!(rt; text_of(alloc, &TypeHierarchyOptions::default())?.as_str(), r#"{}"#);
-    assert_eq!(rt; text_of(alloc, &TypeHierarchyRegistrationOptions::default())?.as_str(), r#"{"documentSelector":null}"#);
-    assert_eq!(rt; text_of(alloc, &LinkedEditingRangeOptions::default())?.as_str(), r#"{}"#);
-    assert_eq!(rt; text_of(alloc, &SemanticTokensOptions::default(alloc))?.as_str(), r#"{"legend":{"tokenModifiers":[],"tokenTypes":[]}}"#);
-    assert_eq!(rt; text_of(alloc, &SemanticTokensLegend::default(alloc))?.as_str(), r#"{"tokenModifiers":[],"tokenTypes":[]}"#);
-    assert_eq!(rt; text_of(alloc, &InlayHintOptions::default())?.as_str(), r#"{}"#);
-    assert_eq!(rt; text_of(alloc, &InlayHintRegistrationOptions::default())?.as_str(), r#"{"documentSelector":null}"#);
-    assert_eq!(rt; text_of(alloc, &InlineValueOptions::default())?.as_str(), r#"{}"#);
-    assert_eq!(rt; text_of(alloc, &InlineValueRegistrationOptions::default())?.as_str(), r#"{"documentSelector":null}"#);
-    assert_eq!(rt; text_of(alloc, &DiagnosticOptions::default())?.as_str(), r#"{"interFileDependencies":false,"workspaceDiagnostics":false}"#);
-    assert_eq!(rt; text_of(alloc, &DiagnosticRegistrationOptions::default())?.as_str(), r#"{"documentSelector":null,"interFileDependencies":false,"workspaceDiagnostics":false}"#);
+    assert_eq!(rt;
+        text_of(alloc, &CallHierarchyOptions::default())?.as_str(),
+        r#"{}"#
+    );
+    assert_eq!(rt;
+        text_of(alloc, &TypeHierarchyOptions::default())?.as_str(),
+        r#"{}"#
+    );
+    assert_eq!(rt;
+        text_of(alloc, &TypeHierarchyRegistrationOptions::default())?.as_str(),
+        r#"{"documentSelector":null}"#
+    );
+    assert_eq!(rt;
+        text_of(alloc, &LinkedEditingRangeOptions::default())?.as_str(),
+        r#"{}"#
+    );
+    assert_eq!(rt;
+        text_of(alloc, &SemanticTokensOptions::default(alloc))?.as_str(),
+        r#"{"legend":{"tokenModifiers":[],"tokenTypes":[]}}"#
+    );
+    assert_eq!(rt;
+        text_of(alloc, &SemanticTokensLegend::default(alloc))?.as_str(),
+        r#"{"tokenModifiers":[],"tokenTypes":[]}"#
+    );
+    assert_eq!(rt;
+        text_of(alloc, &InlayHintOptions::default())?.as_str(),
+        r#"{}"#
+    );
+    assert_eq!(rt;
+        text_of(alloc, &InlayHintRegistrationOptions::default())?.as_str(),
+        r#"{"documentSelector":null}"#
+    );
+    assert_eq!(rt;
+        text_of(alloc, &InlineValueOptions::default())?.as_str(),
+        r#"{}"#
+    );
+    assert_eq!(rt;
+        text_of(alloc, &InlineValueRegistrationOptions::default())?.as_str(),
+        r#"{"documentSelector":null}"#
+    );
+    assert_eq!(rt;
+        text_of(alloc, &DiagnosticOptions::default())?.as_str(),
+        r#"{"interFileDependencies":false,"workspaceDiagnostics":false}"#
+    );
+    assert_eq!(rt;
+        text_of(alloc, &DiagnosticRegistrationOptions::default())?.as_str(),
+        r#"{"documentSelector":null,"interFileDependencies":false,"workspaceDiagnostics":false}"#
+    );
     Ok(())
 }

@@ -1,6 +1,20 @@
 // The rows of lsp_offer_text.
 use crate::rows::{holds, text_of};
-use lsp_offer_text::{CodeActionOptions, CodeActionProviderCapability, CodeLensOptions, CompletionOptions, CompletionOptionsCompletionItem, CompletionRegistrationOptions, DeclarationCapability, DeclarationOptions, DeclarationRegistrationOptions, DefinitionOptions, DocumentFormattingOptions, DocumentHighlightOptions, DocumentLinkOptions, DocumentOnTypeFormattingOptions, DocumentOnTypeFormattingRegistrationOptions, DocumentRangeFormattingOptions, DocumentSymbolOptions, GenericOptions, GenericRegistrationOptions, HoverOptions, HoverProviderCapability, HoverRegistrationOptions, ImplementationProviderCapability, ReferencesOptions, RenameOptions, SaveOptions, SelectionRangeOptions, SelectionRangeProviderCapability, SelectionRangeRegistrationOptions, SignatureHelpOptions, SignatureHelpRegistrationOptions, StaticTextDocumentRegistrationOptions, TextDocumentChangeRegistrationOptions, TextDocumentSaveRegistrationOptions, TextDocumentSyncCapability, TextDocumentSyncOptions, TextDocumentSyncSaveOptions, TypeDefinitionProviderCapability, WorkspaceSymbolOptions};
+use lsp_offer_text::{
+    CodeActionOptions, CodeActionProviderCapability, CodeLensOptions, CompletionOptions,
+    CompletionOptionsCompletionItem, CompletionRegistrationOptions, DeclarationCapability,
+    DeclarationOptions, DeclarationRegistrationOptions, DefinitionOptions,
+    DocumentFormattingOptions, DocumentHighlightOptions, DocumentLinkOptions,
+    DocumentOnTypeFormattingOptions, DocumentOnTypeFormattingRegistrationOptions,
+    DocumentRangeFormattingOptions, DocumentSymbolOptions, GenericOptions,
+    GenericRegistrationOptions, HoverOptions, HoverProviderCapability, HoverRegistrationOptions,
+    ImplementationProviderCapability, ReferencesOptions, RenameOptions, SaveOptions,
+    SelectionRangeOptions, SelectionRangeProviderCapability, SelectionRangeRegistrationOptions,
+    SignatureHelpOptions, SignatureHelpRegistrationOptions, StaticTextDocumentRegistrationOptions,
+    TextDocumentChangeRegistrationOptions, TextDocumentSaveRegistrationOptions,
+    TextDocumentSyncCapability, TextDocumentSyncOptions, TextDocumentSyncSaveOptions,
+    TypeDefinitionProviderCapability, WorkspaceSymbolOptions,
+};
 use std::test::Fail;
 
 const TEXT_DOCUMENT_SYNC_CAPABILITY: &str = r#"
@@ -281,8 +295,16 @@ fn rows_1(rt: HostRuntime) -> Result<(), Fail> {
     holds::<TextDocumentSyncOptions>(rt, alloc, TEXT_DOCUMENT_SYNC_OPTIONS)?;
     holds::<TextDocumentSyncSaveOptions>(rt, alloc, TEXT_DOCUMENT_SYNC_SAVE_OPTIONS)?;
     holds::<SaveOptions>(rt, alloc, SAVE_OPTIONS)?;
-    holds::<TextDocumentChangeRegistrationOptions>(rt, alloc, TEXT_DOCUMENT_CHANGE_REGISTRATION_OPTIONS)?;
-    holds::<TextDocumentSaveRegistrationOptions>(rt, alloc, TEXT_DOCUMENT_SAVE_REGISTRATION_OPTIONS)?;
+    holds::<TextDocumentChangeRegistrationOptions>(
+        rt,
+        alloc,
+        TEXT_DOCUMENT_CHANGE_REGISTRATION_OPTIONS,
+    )?;
+    holds::<TextDocumentSaveRegistrationOptions>(
+        rt,
+        alloc,
+        TEXT_DOCUMENT_SAVE_REGISTRATION_OPTIONS,
+    )?;
     holds::<CompletionOptions>(rt, alloc, COMPLETION_OPTIONS)?;
     holds::<CompletionOptionsCompletionItem>(rt, alloc, COMPLETION_OPTIONS_COMPLETION_ITEM)?;
     holds::<CompletionRegistrationOptions>(rt, alloc, COMPLETION_REGISTRATION_OPTIONS)?;
@@ -298,7 +320,11 @@ fn rows_2(rt: HostRuntime) -> Result<(), Fail> {
     let alloc = rt.alloc();
     holds::<SignatureHelpOptions>(rt, alloc, SIGNATURE_HELP_OPTIONS)?;
     holds::<SignatureHelpRegistrationOptions>(rt, alloc, SIGNATURE_HELP_REGISTRATION_OPTIONS)?;
-    holds::<StaticTextDocumentRegistrationOptions>(rt, alloc, STATIC_TEXT_DOCUMENT_REGISTRATION_OPTIONS)?;
+    holds::<StaticTextDocumentRegistrationOptions>(
+        rt,
+        alloc,
+        STATIC_TEXT_DOCUMENT_REGISTRATION_OPTIONS,
+    )?;
     holds::<ImplementationProviderCapability>(rt, alloc, IMPLEMENTATION_PROVIDER_CAPABILITY)?;
     holds::<TypeDefinitionProviderCapability>(rt, alloc, TYPE_DEFINITION_PROVIDER_CAPABILITY)?;
     holds::<DeclarationCapability>(rt, alloc, DECLARATION_CAPABILITY)?;
@@ -335,7 +361,11 @@ fn rows_4(rt: HostRuntime) -> Result<(), Fail> {
     let rt = &rt;
     let alloc = rt.alloc();
     holds::<DocumentOnTypeFormattingOptions>(rt, alloc, DOCUMENT_ON_TYPE_FORMATTING_OPTIONS)?;
-    holds::<DocumentOnTypeFormattingRegistrationOptions>(rt, alloc, DOCUMENT_ON_TYPE_FORMATTING_REGISTRATION_OPTIONS)?;
+    holds::<DocumentOnTypeFormattingRegistrationOptions>(
+        rt,
+        alloc,
+        DOCUMENT_ON_TYPE_FORMATTING_REGISTRATION_OPTIONS,
+    )?;
     holds::<RenameOptions>(rt, alloc, RENAME_OPTIONS)?;
     Ok(())
 }
@@ -343,17 +373,51 @@ fn rows_4(rt: HostRuntime) -> Result<(), Fail> {
 #[test]
 fn defaults(rt: HostRuntime) -> Result<(), Fail> {
     let alloc = rt.alloc();
-    assert_eq!(rt; text_of(alloc, &TextDocumentSyncOptions::default())?.as_str(), r#"{}"#);
+    assert_eq!(rt;
+        text_of(alloc, &TextDocumentSyncOptions::default())?.as_str(),
+        r#"{}"#
+    );
     assert_eq!(rt; text_of(alloc, &SaveOptions::default())?.as_str(), r#"{}"#);
-    assert_eq!(rt; text_of(alloc, &CompletionOptions::default())?.as_str(), r#"{}"#);
-    assert_eq!(rt; text_of(alloc, &CompletionOptionsCompletionItem::default())?.as_str(), r#"{}"#);
+    assert_eq!(rt;
+        text_of(alloc, &CompletionOptions::default())?.as_str(),
+        r#"{}"#
+    );
+    assert_eq!(rt;
+        text_of(alloc, &CompletionOptionsCompletionItem::default())?.as_str(),
+        r#"{}"#
+    );
     assert_eq!(rt; text_of(alloc, &HoverOptions::default())?.as_str(), r#"{}"#);
-    assert_eq!(rt; text_of(alloc, &HoverRegistrationOptions::default())?.as_str(), r#"{"documentSelector":null}"#);
-    assert_eq!(rt; text_of(alloc, &SignatureHelpOptions::default())?.as_str(), r#"{}"#);
-    assert_eq!(rt; text_of(alloc, &CodeActionOptions::default())?.as_str(), r#"{}"#);
-    assert_eq!(rt; text_of(alloc, &SelectionRangeOptions::default())?.as_str(), r#"{}"#);
-    assert_eq!(rt; text_of(alloc, &DocumentFormattingOptions::default())?.as_str(), r#"{}"#);
-    assert_eq!(rt; text_of(alloc, &DocumentOnTypeFormattingOptions::default(alloc))?.as_str(), r#"{"firstTriggerCharacter":""}"#);
-    assert_eq!(rt; text_of(alloc, &DocumentOnTypeFormattingRegistrationOptions::default(alloc))?.as_str(), r#"{"documentSelector":null,"firstTriggerCharacter":""}"#);
+    assert_eq!(rt;
+        text_of(alloc, &HoverRegistrationOptions::default())?.as_str(),
+        r#"{"documentSelector":null}"#
+    );
+    assert_eq!(rt;
+        text_of(alloc, &SignatureHelpOptions::default())?.as_str(),
+        r#"{}"#
+    );
+    assert_eq!(rt;
+        text_of(alloc, &CodeActionOptions::default())?.as_str(),
+        r#"{}"#
+    );
+    assert_eq!(rt;
+        text_of(alloc, &SelectionRangeOptions::default())?.as_str(),
+        r#"{}"#
+    );
+    assert_eq!(rt;
+        text_of(alloc, &DocumentFormattingOptions::default())?.as_str(),
+        r#"{}"#
+    );
+    assert_eq!(rt;
+        text_of(alloc, &DocumentOnTypeFormattingOptions::default(alloc))?.as_str(),
+        r#"{"firstTriggerCharacter":""}"#
+    );
+    assert_eq!(rt;
+        text_of(
+            alloc,
+            &DocumentOnTypeFormattingRegistrationOptions::default(alloc)
+        )?
+        .as_str(),
+        r#"{"documentSelector":null,"firstTriggerCharacter":""}"#
+    );
     Ok(())
 }

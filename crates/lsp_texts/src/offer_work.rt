@@ -1,6 +1,16 @@
 // The rows of lsp_offer_work.
 use crate::rows::{holds, text_of};
-use lsp_offer_work::{DidChangeWatchedFilesRegistrationOptions, ExecuteCommandOptions, ExecuteCommandRegistrationOptions, FileOperationFilter, FileOperationPattern, FileOperationPatternKind, FileOperationPatternOptions, FileOperationRegistrationOptions, FileSystemWatcher, GlobPattern, InitializeError, Notebook, NotebookCellSelector, NotebookCellTextDocumentFilter, NotebookDocumentFilter, NotebookDocumentSyncOptions, NotebookDocumentSyncRegistrationOptions, NotebookSelector, Registration, RegistrationParams, RelativePattern, ServerInfo, Unregistration, UnregistrationParams, WatchKind, WorkspaceFileOperationsServerCapabilities, WorkspaceFoldersServerCapabilities, WorkspaceServerCapabilities};
+use lsp_offer_work::{
+    DidChangeWatchedFilesRegistrationOptions, ExecuteCommandOptions,
+    ExecuteCommandRegistrationOptions, FileOperationFilter, FileOperationPattern,
+    FileOperationPatternKind, FileOperationPatternOptions, FileOperationRegistrationOptions,
+    FileSystemWatcher, GlobPattern, InitializeError, Notebook, NotebookCellSelector,
+    NotebookCellTextDocumentFilter, NotebookDocumentFilter, NotebookDocumentSyncOptions,
+    NotebookDocumentSyncRegistrationOptions, NotebookSelector, Registration, RegistrationParams,
+    RelativePattern, ServerInfo, Unregistration, UnregistrationParams, WatchKind,
+    WorkspaceFileOperationsServerCapabilities, WorkspaceFoldersServerCapabilities,
+    WorkspaceServerCapabilities,
+};
 use std::test::Fail;
 
 const REGISTRATION: &str = r#"
@@ -215,12 +225,20 @@ fn rows_1(rt: HostRuntime) -> Result<(), Fail> {
     holds::<UnregistrationParams>(rt, alloc, UNREGISTRATION_PARAMS)?;
     holds::<ExecuteCommandOptions>(rt, alloc, EXECUTE_COMMAND_OPTIONS)?;
     holds::<ExecuteCommandRegistrationOptions>(rt, alloc, EXECUTE_COMMAND_REGISTRATION_OPTIONS)?;
-    holds::<DidChangeWatchedFilesRegistrationOptions>(rt, alloc, DID_CHANGE_WATCHED_FILES_REGISTRATION_OPTIONS)?;
+    holds::<DidChangeWatchedFilesRegistrationOptions>(
+        rt,
+        alloc,
+        DID_CHANGE_WATCHED_FILES_REGISTRATION_OPTIONS,
+    )?;
     holds::<FileSystemWatcher>(rt, alloc, FILE_SYSTEM_WATCHER)?;
     holds::<GlobPattern>(rt, alloc, GLOB_PATTERN)?;
     holds::<RelativePattern>(rt, alloc, RELATIVE_PATTERN)?;
     holds::<WatchKind>(rt, alloc, WATCH_KIND)?;
-    holds::<WorkspaceFileOperationsServerCapabilities>(rt, alloc, WORKSPACE_FILE_OPERATIONS_SERVER_CAPABILITIES)?;
+    holds::<WorkspaceFileOperationsServerCapabilities>(
+        rt,
+        alloc,
+        WORKSPACE_FILE_OPERATIONS_SERVER_CAPABILITIES,
+    )?;
     Ok(())
 }
 
@@ -236,7 +254,11 @@ fn rows_2(rt: HostRuntime) -> Result<(), Fail> {
     holds::<WorkspaceServerCapabilities>(rt, alloc, WORKSPACE_SERVER_CAPABILITIES)?;
     holds::<WorkspaceFoldersServerCapabilities>(rt, alloc, WORKSPACE_FOLDERS_SERVER_CAPABILITIES)?;
     holds::<NotebookDocumentSyncOptions>(rt, alloc, NOTEBOOK_DOCUMENT_SYNC_OPTIONS)?;
-    holds::<NotebookDocumentSyncRegistrationOptions>(rt, alloc, NOTEBOOK_DOCUMENT_SYNC_REGISTRATION_OPTIONS)?;
+    holds::<NotebookDocumentSyncRegistrationOptions>(
+        rt,
+        alloc,
+        NOTEBOOK_DOCUMENT_SYNC_REGISTRATION_OPTIONS,
+    )?;
     holds::<NotebookCellTextDocumentFilter>(rt, alloc, NOTEBOOK_CELL_TEXT_DOCUMENT_FILTER)?;
     holds::<NotebookSelector>(rt, alloc, NOTEBOOK_SELECTOR)?;
     holds::<NotebookCellSelector>(rt, alloc, NOTEBOOK_CELL_SELECTOR)?;
@@ -257,15 +279,45 @@ fn rows_3(rt: HostRuntime) -> Result<(), Fail> {
 #[test]
 fn defaults(rt: HostRuntime) -> Result<(), Fail> {
     let alloc = rt.alloc();
-    assert_eq!(rt; text_of(alloc, &ExecuteCommandOptions::default(alloc))?.as_str(), r#"{"commands":[]}"#);
-    assert_eq!(rt; text_of(alloc, &WorkspaceFileOperationsServerCapabilities::default())?.as_str(), r#"{}"#);
-    assert_eq!(rt; text_of(alloc, &FileOperationRegistrationOptions::default(alloc))?.as_str(), r#"{"filters":[]}"#);
-    assert_eq!(rt; text_of(alloc, &FileOperationFilter::default(alloc))?.as_str(), r#"{"pattern":{"glob":""},"scheme":null}"#);
-    assert_eq!(rt; text_of(alloc, &FileOperationPatternOptions::default())?.as_str(), r#"{}"#);
-    assert_eq!(rt; text_of(alloc, &FileOperationPattern::default(alloc))?.as_str(), r#"{"glob":""}"#);
-    assert_eq!(rt; text_of(alloc, &WorkspaceServerCapabilities::default())?.as_str(), r#"{}"#);
-    assert_eq!(rt; text_of(alloc, &WorkspaceFoldersServerCapabilities::default())?.as_str(), r#"{}"#);
-    assert_eq!(rt; text_of(alloc, &ServerInfo::default(alloc))?.as_str(), r#"{"name":""}"#);
-    assert_eq!(rt; text_of(alloc, &InitializeError::default())?.as_str(), r#"{"retry":false}"#);
+    assert_eq!(rt;
+        text_of(alloc, &ExecuteCommandOptions::default(alloc))?.as_str(),
+        r#"{"commands":[]}"#
+    );
+    assert_eq!(rt;
+        text_of(alloc, &WorkspaceFileOperationsServerCapabilities::default())?.as_str(),
+        r#"{}"#
+    );
+    assert_eq!(rt;
+        text_of(alloc, &FileOperationRegistrationOptions::default(alloc))?.as_str(),
+        r#"{"filters":[]}"#
+    );
+    assert_eq!(rt;
+        text_of(alloc, &FileOperationFilter::default(alloc))?.as_str(),
+        r#"{"pattern":{"glob":""},"scheme":null}"#
+    );
+    assert_eq!(rt;
+        text_of(alloc, &FileOperationPatternOptions::default())?.as_str(),
+        r#"{}"#
+    );
+    assert_eq!(rt;
+        text_of(alloc, &FileOperationPattern::default(alloc))?.as_str(),
+        r#"{"glob":""}"#
+    );
+    assert_eq!(rt;
+        text_of(alloc, &WorkspaceServerCapabilities::default())?.as_str(),
+        r#"{}"#
+    );
+    assert_eq!(rt;
+        text_of(alloc, &WorkspaceFoldersServerCapabilities::default())?.as_str(),
+        r#"{}"#
+    );
+    assert_eq!(rt;
+        text_of(alloc, &ServerInfo::default(alloc))?.as_str(),
+        r#"{"name":""}"#
+    );
+    assert_eq!(rt;
+        text_of(alloc, &InitializeError::default())?.as_str(),
+        r#"{"retry":false}"#
+    );
     Ok(())
 }

@@ -30,12 +30,7 @@ pub(crate) fn text_of<T: Wire>(alloc: Global, value: &T) -> Result<String, Fail>
     Ok(value.to_value(alloc)?.to_string(alloc)?)
 }
 
-fn is_written<T: Wire>(
-    rt: &impl Abort,
-    alloc: Global,
-    value: &T,
-    text: &str,
-) -> Result<(), Fail> {
+fn is_written<T: Wire>(rt: &impl Abort, alloc: Global, value: &T, text: &str) -> Result<(), Fail> {
     let expected = json(alloc, text)?.to_string(alloc)?;
     assert_eq!(rt; text_of(alloc, value)?, expected, "{text}");
     Ok(())
