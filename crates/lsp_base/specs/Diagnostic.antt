@@ -1,57 +1,34 @@
--- Rows of diagnostics, and what their values are as plain data.
-use Rattle.std.specs.Prelude.{codes, None, String}
+-- Rows of diagnostics.
+use Rattle.std.specs.Prelude.{None, String}
 use Rattle.std.specs.declared.alloc.Global.{Global}
-use Rattle.lsp_shape.specs.Plain.{Plain, parts, part, no_parts}
-use Rattle.lsp_shape.specs.Shape.{Shape, any, list, fields, field, no_fields, required, omitted, i32_shape, string_shape}
-use Rattle.lsp_shape.specs.Shown.{show_signed, show_string, show_value, show_option, show_list}
-use Rattle.lsp_uri.specs.Uri.{uri_shape, show_uri}
-use Rattle.lsp_base.specs.Basic.{number_or_string_shape, show_number_or_string, range_shape, show_range, location_shape, show_location}
+use Rattle.lsp_shape.specs.Row.{Row, any, fields, i32, list, omitted, required, string, ◌&◌}
+use Rattle.lsp_uri.specs.Uri.{uri_row}
+use Rattle.lsp_base.specs.Basic.{location_row, number_or_string_row, range_row}
 use Rattle.lsp_base.specs.declared.basic.Range.{Range}
 use Rattle.lsp_base.specs.declared.diagnostic.CodeDescription.{CodeDescription}
-use Rattle.lsp_base.specs.declared.diagnostic.DiagnosticRelatedInformation.{DiagnosticRelatedInformation}
 use Rattle.lsp_base.specs.declared.diagnostic.Diagnostic.{Diagnostic}
+use Rattle.lsp_base.specs.declared.diagnostic.DiagnosticRelatedInformation.{DiagnosticRelatedInformation}
 
-unfoldable pub code_description_shape : Shape
-code_description_shape = fields (
-    field (codes "href") required uri_shape no_fields)
+unfoldable pub code_description_row : Row CodeDescription
+code_description_row = fields (
+    required "href" uri_row (λ x. x.href))
 
-unfoldable pub show_code_description : CodeDescription → Plain
-show_code_description x = parts (
-    part (show_uri x.href) no_parts)
+unfoldable pub diagnostic_related_information_row : Row DiagnosticRelatedInformation
+diagnostic_related_information_row = fields (
+    required "location" location_row (λ x. x.location) &
+    required "message" string (λ x. x.message))
 
-unfoldable pub diagnostic_related_information_shape : Shape
-diagnostic_related_information_shape = fields (
-    field (codes "location") required location_shape (
-    field (codes "message") required string_shape no_fields))
-
-unfoldable pub show_diagnostic_related_information : DiagnosticRelatedInformation → Plain
-show_diagnostic_related_information x = parts (
-    part (show_location x.location) (
-    part (show_string x.message) no_parts))
-
-unfoldable pub diagnostic_shape : Shape
-diagnostic_shape = fields (
-    field (codes "range") required range_shape (
-    field (codes "severity") omitted i32_shape (
-    field (codes "code") omitted number_or_string_shape (
-    field (codes "codeDescription") omitted code_description_shape (
-    field (codes "source") omitted string_shape (
-    field (codes "message") required string_shape (
-    field (codes "relatedInformation") omitted (list diagnostic_related_information_shape) (
-    field (codes "tags") omitted (list i32_shape) (
-    field (codes "data") omitted any no_fields)))))))))
-
-unfoldable pub show_diagnostic : Diagnostic → Plain
-show_diagnostic x = parts (
-    part (show_range x.range) (
-    part (show_option show_signed x.severity) (
-    part (show_option show_number_or_string x.code) (
-    part (show_option show_code_description x.code_description) (
-    part (show_option show_string x.source) (
-    part (show_string x.message) (
-    part (show_option (show_list show_diagnostic_related_information) x.related_information) (
-    part (show_option (show_list show_signed) x.tags) (
-    part (show_option show_value x.payload) no_parts)))))))))
+unfoldable pub diagnostic_row : Row Diagnostic
+diagnostic_row = fields (
+    required "range" range_row (λ x. x.range) &
+    omitted "severity" i32 (λ x. x.severity) &
+    omitted "code" number_or_string_row (λ x. x.code) &
+    omitted "codeDescription" code_description_row (λ x. x.code_description) &
+    omitted "source" string (λ x. x.source) &
+    required "message" string (λ x. x.message) &
+    omitted "relatedInformation" (list diagnostic_related_information_row) (λ x. x.related_information) &
+    omitted "tags" (list i32) (λ x. x.tags) &
+    omitted "data" any (λ x. x.payload))
 
 -- a diagnostic of that range and message, and nothing else
 abbrev pub simple_diagnostic : Range → String Global → Diagnostic

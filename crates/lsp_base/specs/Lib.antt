@@ -7,3 +7,4 @@ pub mod Registration
 pub mod Edit
 pub mod Resource
 pub mod WorkspaceEdit
+pub mod Capability

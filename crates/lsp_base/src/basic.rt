@@ -5,30 +5,31 @@ ghost use Rattle.std.specs.Cmp.Rules.{comparing};
 ghost use Rattle.std.specs.Ordering.{nat_cmp, on, then_cmp, as_partial_cmp, eq_of_both};
 ghost use Rattle.std.proofs.Common.{rules};
 ghost use Rattle.lsp_rpc.specs.Shown.{show_id};
-ghost use Rattle.lsp_base.specs.Basic.{number_or_string_shape, show_number_or_string, id_of, cancel_params_shape, show_cancel_params, position_shape, show_position, range_shape, show_range, location_shape, show_location, location_link_shape, show_location_link};
+ghost use Rattle.lsp_base.specs.Basic.{id_of, number_or_string_row, cancel_params_row, position_row, range_row, location_row, location_link_row};
 
 use lsp_rpc::Id;
-use lsp_shape::{Misfit, NoMemory, Wire, attempt, field, optional, put, put_optional};
+use lsp_shape::{Misfit, NoMemory, Reader, Wire, Writer, attempt};
 use lsp_uri::Uri;
 use serde_json::{Map, Value};
 use std::alloc::Global;
 use std::cmp::Ordering;
 use std::hash::Hash;
 
-/// A number or a text, as the id of a request or a code: sections "Base Protocol" and "Diagnostic" of LSP 3.17.
+/// An integer or a string, as a request id, a progress token or a diagnostic's code (LSP 3.17, "Cancellation Support",
+/// "Diagnostic").
 #[derive(Debug, PartialEq, Eq, Hash, Clone, Drop)]
 pub enum NumberOrString {
-    /// A number of 32 bits.
+    /// An integer of 32 bits.
     Number(i32),
-    /// A text.
+    /// A string.
     String(String),
 }
 
-#[tactic(auto, unfolding(crate::specs::Basic::number_or_string_shape, crate::specs::Basic::show_number_or_string))]
+#[tactic(auto, unfolding(crate::specs::Basic::number_or_string_row))]
 impl Wire for NumberOrString {
-    ghost shape = { number_or_string_shape };
+    ghost shape = { number_or_string_row.shape };
 
-    ghost shown = { show_number_or_string };
+    ghost shown = { number_or_string_row.shown };
 
     fn from_value(alloc: Global, value: &Value) -> Result<NumberOrString, Misfit> {
         if let Some(number) = attempt(alloc, value)? {
@@ -56,58 +57,55 @@ impl From<NumberOrString> for Id {
     }
 }
 
-/// Which request is to be given up: section "Cancellation Support" of LSP 3.17.
+/// The parameters of `$/cancelRequest`: which request to cancel (LSP 3.17, "Cancellation Support").
 #[derive(Debug, PartialEq, Eq, Clone, Drop)]
 pub struct CancelParams {
-    /// The id of that request.
+    /// The id of the request.
     pub id: NumberOrString,
 }
 
-#[tactic(auto, unfolding(crate::specs::Basic::cancel_params_shape, crate::specs::Basic::show_cancel_params))]
+#[tactic(auto, unfolding(crate::specs::Basic::cancel_params_row))]
 impl Wire for CancelParams {
-    ghost shape = { cancel_params_shape };
+    ghost shape = { cancel_params_row.shape };
 
-    ghost shown = { show_cancel_params };
+    ghost shown = { cancel_params_row.shown };
 
     fn from_value(alloc: Global, value: &Value) -> Result<CancelParams, Misfit> {
-        let Value::Object(object) = value else {
-            return Err(Misfit::Unfit);
-        };
+        let object = Reader::new(alloc, value)?;
         Ok(CancelParams {
-            id: field(alloc, object, "id")?,
+            id: object.field("id")?,
         })
     }
 
     fn to_value(&self, alloc: Global) -> Result<Value, NoMemory> {
-        let mut object = Map::new(alloc);
-        put(alloc, &mut object, "id", &self.id)?;
-        Ok(Value::Object(object))
+        let mut object = Writer::new(alloc);
+        object.field("id", &self.id)?;
+        Ok(object.end())
     }
 }
 
-/// Any JSON value: section "Base Types" of LSP 3.17.
+/// Any JSON value. Since 3.17 (LSP 3.17, "Base Types").
 pub type LSPAny = Value;
 
-/// An object of any members: section "Base Types" of LSP 3.17.
+/// A JSON object with any members. Since 3.17 (LSP 3.17, "Base Types").
 pub type LSPObject = Map<String, Value>;
 
-/// A list of any values: section "Base Types" of LSP 3.17.
+/// An array of any JSON values. Since 3.17 (LSP 3.17, "Base Types").
 pub type LSPArray = Vec<Value>;
 
-/// A place between two characters of a document: section "Position" of LSP 3.17.
-///
-/// Positions are ordered by line, and within a line by character.
+/// A zero-based line and offset, between two characters of a document. Ordered by line, then by character (LSP 3.17,
+/// "Position").
 #[derive(Debug, Clone, Copy, Hash, Default)]
 pub struct Position {
-    /// The line, counted from 0.
+    /// The zero-based line.
     pub line: u32,
-    /// How many code units of the line stand before the place: of UTF-16, unless another encoding was agreed on.
+    /// The zero-based offset in the line: in UTF-16 code units, unless client and server agreed on another encoding.
     /// Past the end of the line it means that end.
     pub character: u32,
 }
 
 impl Position {
-    /// The place before the code unit `character` of the line `line`, both counted from 0.
+    /// The position before the code unit `character` of the line `line`, both zero-based.
     pub fn new(line: u32, character: u32) -> Position
         ensures { result ≡ record { line = line; character = character } }
     {
@@ -155,41 +153,39 @@ impl Ord for Position {
     }
 }
 
-#[tactic(auto, unfolding(crate::specs::Basic::position_shape, crate::specs::Basic::show_position))]
+#[tactic(auto, unfolding(crate::specs::Basic::position_row))]
 impl Wire for Position {
-    ghost shape = { position_shape };
+    ghost shape = { position_row.shape };
 
-    ghost shown = { show_position };
+    ghost shown = { position_row.shown };
 
     fn from_value(alloc: Global, value: &Value) -> Result<Position, Misfit> {
-        let Value::Object(object) = value else {
-            return Err(Misfit::Unfit);
-        };
+        let object = Reader::new(alloc, value)?;
         Ok(Position {
-            line: field(alloc, object, "line")?,
-            character: field(alloc, object, "character")?,
+            line: object.field("line")?,
+            character: object.field("character")?,
         })
     }
 
     fn to_value(&self, alloc: Global) -> Result<Value, NoMemory> {
-        let mut object = Map::new(alloc);
-        put(alloc, &mut object, "line", &self.line)?;
-        put(alloc, &mut object, "character", &self.character)?;
-        Ok(Value::Object(object))
+        let mut object = Writer::new(alloc);
+        object.field("line", &self.line)?;
+        object.field("character", &self.character)?;
+        Ok(object.end())
     }
 }
 
-/// What stands from one place of a document up to another: section "Range" of LSP 3.17.
+/// The range of a document from one position to another (LSP 3.17, "Range").
 #[derive(Debug, Clone, Copy, PartialEq, Eq, Hash, Default)]
 pub struct Range {
     /// Where it begins.
     pub start: Position,
-    /// Where it ends. What stands behind this place is outside.
+    /// Where it ends, exclusive: what comes after this position is outside.
     pub end: Position,
 }
 
 impl Range {
-    /// What stands from `start` up to `end`.
+    /// The range from `start` to `end`.
     pub fn new(start: Position, end: Position) -> Range
         ensures { result ≡ record { start = start; end = end } }
     {
@@ -197,36 +193,34 @@ impl Range {
     }
 }
 
-#[tactic(auto, unfolding(crate::specs::Basic::range_shape, crate::specs::Basic::show_range))]
+#[tactic(auto, unfolding(crate::specs::Basic::range_row))]
 impl Wire for Range {
-    ghost shape = { range_shape };
+    ghost shape = { range_row.shape };
 
-    ghost shown = { show_range };
+    ghost shown = { range_row.shown };
 
     fn from_value(alloc: Global, value: &Value) -> Result<Range, Misfit> {
-        let Value::Object(object) = value else {
-            return Err(Misfit::Unfit);
-        };
+        let object = Reader::new(alloc, value)?;
         Ok(Range {
-            start: field(alloc, object, "start")?,
-            end: field(alloc, object, "end")?,
+            start: object.field("start")?,
+            end: object.field("end")?,
         })
     }
 
     fn to_value(&self, alloc: Global) -> Result<Value, NoMemory> {
-        let mut object = Map::new(alloc);
-        put(alloc, &mut object, "start", &self.start)?;
-        put(alloc, &mut object, "end", &self.end)?;
-        Ok(Value::Object(object))
+        let mut object = Writer::new(alloc);
+        object.field("start", &self.start)?;
+        object.field("end", &self.end)?;
+        Ok(object.end())
     }
 }
 
-/// A range of a document: section "Location" of LSP 3.17.
+/// A range of a document (LSP 3.17, "Location").
 #[derive(Debug, PartialEq, Eq, Hash, Clone, Drop)]
 pub struct Location {
     /// The document.
     pub uri: Uri,
-    /// The range in it.
+    /// The range in the document.
     pub range: Range,
 }
 
@@ -239,77 +233,63 @@ impl Location {
     }
 }
 
-#[tactic(auto, unfolding(crate::specs::Basic::location_shape, crate::specs::Basic::show_location))]
+#[tactic(auto, unfolding(crate::specs::Basic::location_row))]
 impl Wire for Location {
-    ghost shape = { location_shape };
+    ghost shape = { location_row.shape };
 
-    ghost shown = { show_location };
+    ghost shown = { location_row.shown };
 
     fn from_value(alloc: Global, value: &Value) -> Result<Location, Misfit> {
-        let Value::Object(object) = value else {
-            return Err(Misfit::Unfit);
-        };
+        let object = Reader::new(alloc, value)?;
         Ok(Location {
-            uri: field(alloc, object, "uri")?,
-            range: field(alloc, object, "range")?,
+            uri: object.field("uri")?,
+            range: object.field("range")?,
         })
     }
 
     fn to_value(&self, alloc: Global) -> Result<Value, NoMemory> {
-        let mut object = Map::new(alloc);
-        put(alloc, &mut object, "uri", &self.uri)?;
-        put(alloc, &mut object, "range", &self.range)?;
-        Ok(Value::Object(object))
+        let mut object = Writer::new(alloc);
+        object.field("uri", &self.uri)?;
+        object.field("range", &self.range)?;
+        Ok(object.end())
     }
 }
 
-/// A link from a range of one document to a range of another: section "LocationLink" of LSP 3.17.
+/// A link from a range of one document to a range of another. Since 3.14 (LSP 3.17, "LocationLink").
 #[derive(Debug, PartialEq, Eq, Clone, Drop)]
 pub struct LocationLink {
-    /// What is underlined as the link. Where it is absent, the word at the place that was asked for.
+    /// What the client underlines as the link. Absent: the word at the position of the request.
     pub origin_selection_range: Option<Range>,
     /// The document that the link leads to.
     pub target_uri: Uri,
     /// The whole of what the link leads to, with comments and the like.
     pub target_range: Range,
-    /// What is selected when the link is followed, as the name of a function. It lies within `target_range`.
+    /// What is selected when the link is followed, such as the name of a function. It lies within `target_range`.
     pub target_selection_range: Range,
 }
 
-#[tactic(auto, unfolding(crate::specs::Basic::location_link_shape, crate::specs::Basic::show_location_link))]
+#[tactic(auto, unfolding(crate::specs::Basic::location_link_row))]
 impl Wire for LocationLink {
-    ghost shape = { location_link_shape };
+    ghost shape = { location_link_row.shape };
 
-    ghost shown = { show_location_link };
+    ghost shown = { location_link_row.shown };
 
     fn from_value(alloc: Global, value: &Value) -> Result<LocationLink, Misfit> {
-        let Value::Object(object) = value else {
-            return Err(Misfit::Unfit);
-        };
+        let object = Reader::new(alloc, value)?;
         Ok(LocationLink {
-            origin_selection_range: optional(alloc, object, "originSelectionRange")?,
-            target_uri: field(alloc, object, "targetUri")?,
-            target_range: field(alloc, object, "targetRange")?,
-            target_selection_range: field(alloc, object, "targetSelectionRange")?,
+            origin_selection_range: object.optional("originSelectionRange")?,
+            target_uri: object.field("targetUri")?,
+            target_range: object.field("targetRange")?,
+            target_selection_range: object.field("targetSelectionRange")?,
         })
     }
 
     fn to_value(&self, alloc: Global) -> Result<Value, NoMemory> {
-        let mut object = Map::new(alloc);
-        put_optional(
-            alloc,
-            &mut object,
-            "originSelectionRange",
-            &self.origin_selection_range,
-        )?;
-        put(alloc, &mut object, "targetUri", &self.target_uri)?;
-        put(alloc, &mut object, "targetRange", &self.target_range)?;
-        put(
-            alloc,
-            &mut object,
-            "targetSelectionRange",
-            &self.target_selection_range,
-        )?;
-        Ok(Value::Object(object))
+        let mut object = Writer::new(alloc);
+        object.optional("originSelectionRange", &self.origin_selection_range)?;
+        object.field("targetUri", &self.target_uri)?;
+        object.field("targetRange", &self.target_range)?;
+        object.field("targetSelectionRange", &self.target_selection_range)?;
+        Ok(object.end())
     }
 }

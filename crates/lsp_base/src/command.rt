@@ -1,24 +1,24 @@
 // Commands.
 ghost use Rattle.std.specs.Prelude.{◌≡◌, [], string_bytes};
-ghost use Rattle.lsp_base.specs.Command.{command_shape, show_command};
+ghost use Rattle.lsp_base.specs.Command.{command_row};
 
-use lsp_shape::{Misfit, NoMemory, Wire, field, optional, put, put_optional};
-use serde_json::{Map, Value};
+use lsp_shape::{Misfit, NoMemory, Reader, Wire, Writer};
+use serde_json::Value;
 use std::alloc::Global;
 
-/// A command that an editor offers to the user: section "Command" of LSP 3.17.
+/// A command that a client offers to the user (LSP 3.17, "Command").
 #[derive(Debug, Clone, Drop)]
 pub struct Command {
-    /// What the user sees, as `save`.
+    /// The title that the user sees, such as `Save`.
     pub title: String,
-    /// What the command is called where it is carried out.
+    /// The identifier of the command.
     pub command: String,
-    /// What it is carried out with.
+    /// The arguments to execute it with. Absent: none.
     pub arguments: Option<Vec<Value>>,
 }
 
 impl Command {
-    /// The command of that title, with these arguments.
+    /// The command with that title and these arguments.
     pub fn new(title: String, command: String, arguments: Option<Vec<Value>>) -> Command
         ensures { result ≡ record { title = title; command = command; arguments = arguments } }
     {
@@ -29,7 +29,7 @@ impl Command {
         }
     }
 
-    /// A command whose texts are empty, with no arguments.
+    /// A command whose strings are empty, without arguments.
     pub fn default(alloc: Global) -> Command
         ensures title { string_bytes result.title ≡ [] }
         ensures command { string_bytes result.command ≡ [] }
@@ -39,28 +39,26 @@ impl Command {
     }
 }
 
-#[tactic(auto, unfolding(crate::specs::Command::command_shape, crate::specs::Command::show_command))]
+#[tactic(auto, unfolding(crate::specs::Command::command_row))]
 impl Wire for Command {
-    ghost shape = { command_shape };
+    ghost shape = { command_row.shape };
 
-    ghost shown = { show_command };
+    ghost shown = { command_row.shown };
 
     fn from_value(alloc: Global, value: &Value) -> Result<Command, Misfit> {
-        let Value::Object(object) = value else {
-            return Err(Misfit::Unfit);
-        };
+        let object = Reader::new(alloc, value)?;
         Ok(Command {
-            title: field(alloc, object, "title")?,
-            command: field(alloc, object, "command")?,
-            arguments: optional(alloc, object, "arguments")?,
+            title: object.field("title")?,
+            command: object.field("command")?,
+            arguments: object.optional("arguments")?,
         })
     }
 
     fn to_value(&self, alloc: Global) -> Result<Value, NoMemory> {
-        let mut object = Map::new(alloc);
-        put(alloc, &mut object, "title", &self.title)?;
-        put(alloc, &mut object, "command", &self.command)?;
-        put_optional(alloc, &mut object, "arguments", &self.arguments)?;
-        Ok(Value::Object(object))
+        let mut object = Writer::new(alloc);
+        object.field("title", &self.title)?;
+        object.field("command", &self.command)?;
+        object.optional("arguments", &self.arguments)?;
+        Ok(object.end())
     }
 }

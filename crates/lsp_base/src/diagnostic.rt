@@ -1,97 +1,94 @@
 // Diagnostics of a document.
 ghost use Rattle.std.specs.Prelude.{◌≡◌, [], string_bytes};
-ghost use Rattle.lsp_base.specs.Diagnostic.{code_description_shape, show_code_description, diagnostic_related_information_shape, show_diagnostic_related_information, diagnostic_shape, show_diagnostic, simple_diagnostic};
+ghost use Rattle.lsp_base.specs.Diagnostic.{simple_diagnostic, code_description_row, diagnostic_related_information_row, diagnostic_row};
 ghost use Rattle.lsp_base.specs.Basic.{first_range};
 
 use crate::basic::{Location, NumberOrString, Position, Range};
 use lsp_kinds::{DiagnosticSeverity, DiagnosticTag};
-use lsp_shape::{Misfit, NoMemory, Wire, field, optional, put, put_optional};
+use lsp_shape::{Misfit, NoMemory, Reader, Wire, Writer};
 use lsp_uri::Uri;
-use serde_json::{Map, Value};
+use serde_json::Value;
 use std::alloc::Global;
 
-/// Where a diagnostic's code is explained: section "Diagnostic" of LSP 3.17.
+/// Where a diagnostic's code is explained. Since 3.16 (LSP 3.17, "Diagnostic").
 #[derive(Debug, PartialEq, Eq, Clone, Drop)]
 pub struct CodeDescription {
     /// The page that explains it.
     pub href: Uri,
 }
 
-#[tactic(auto, unfolding(crate::specs::Diagnostic::code_description_shape, crate::specs::Diagnostic::show_code_description))]
+#[tactic(auto, unfolding(crate::specs::Diagnostic::code_description_row))]
 impl Wire for CodeDescription {
-    ghost shape = { code_description_shape };
+    ghost shape = { code_description_row.shape };
 
-    ghost shown = { show_code_description };
+    ghost shown = { code_description_row.shown };
 
     fn from_value(alloc: Global, value: &Value) -> Result<CodeDescription, Misfit> {
-        let Value::Object(object) = value else {
-            return Err(Misfit::Unfit);
-        };
+        let object = Reader::new(alloc, value)?;
         Ok(CodeDescription {
-            href: field(alloc, object, "href")?,
+            href: object.field("href")?,
         })
     }
 
     fn to_value(&self, alloc: Global) -> Result<Value, NoMemory> {
-        let mut object = Map::new(alloc);
-        put(alloc, &mut object, "href", &self.href)?;
-        Ok(Value::Object(object))
+        let mut object = Writer::new(alloc);
+        object.field("href", &self.href)?;
+        Ok(object.end())
     }
 }
 
-/// Another place that has to do with a diagnostic: section "Diagnostic" of LSP 3.17.
+/// Another location that has to do with a diagnostic (LSP 3.17, "Diagnostic").
 #[derive(Debug, PartialEq, Eq, Clone, Drop)]
 pub struct DiagnosticRelatedInformation {
-    /// The place.
+    /// The location.
     pub location: Location,
     /// What it has to do with the diagnostic.
     pub message: String,
 }
 
-#[tactic(auto, unfolding(crate::specs::Diagnostic::diagnostic_related_information_shape, crate::specs::Diagnostic::show_diagnostic_related_information))]
+#[tactic(auto, unfolding(crate::specs::Diagnostic::diagnostic_related_information_row))]
 impl Wire for DiagnosticRelatedInformation {
-    ghost shape = { diagnostic_related_information_shape };
+    ghost shape = { diagnostic_related_information_row.shape };
 
-    ghost shown = { show_diagnostic_related_information };
+    ghost shown = { diagnostic_related_information_row.shown };
 
     fn from_value(alloc: Global, value: &Value) -> Result<DiagnosticRelatedInformation, Misfit> {
-        let Value::Object(object) = value else {
-            return Err(Misfit::Unfit);
-        };
+        let object = Reader::new(alloc, value)?;
         Ok(DiagnosticRelatedInformation {
-            location: field(alloc, object, "location")?,
-            message: field(alloc, object, "message")?,
+            location: object.field("location")?,
+            message: object.field("message")?,
         })
     }
 
     fn to_value(&self, alloc: Global) -> Result<Value, NoMemory> {
-        let mut object = Map::new(alloc);
-        put(alloc, &mut object, "location", &self.location)?;
-        put(alloc, &mut object, "message", &self.message)?;
-        Ok(Value::Object(object))
+        let mut object = Writer::new(alloc);
+        object.field("location", &self.location)?;
+        object.field("message", &self.message)?;
+        Ok(object.end())
     }
 }
 
-/// What is found in a range of a document, as an error of a compiler: section "Diagnostic" of LSP 3.17.
+/// What is found in a range of a document, such as an error of a compiler (LSP 3.17, "Diagnostic").
 #[derive(Debug, Clone, Drop)]
 pub struct Diagnostic {
-    /// Where it is found.
+    /// The range in which it is found.
     pub range: Range,
-    /// How severe it is. Where it is absent, the editor decides.
+    /// How severe it is. Absent: the client decides.
     pub severity: Option<DiagnosticSeverity>,
-    /// Its code, which an editor may show.
+    /// Its code, which a client may show.
     pub code: Option<NumberOrString>,
-    /// Where the code is explained.
+    /// Where the code is explained. Since 3.16.
     pub code_description: Option<CodeDescription>,
-    /// What found it, as the name of a compiler.
+    /// What found it, such as the name of a compiler.
     pub source: Option<String>,
     /// What is found, for the user to read.
     pub message: String,
-    /// Other places that have to do with it.
+    /// Other locations that have to do with it. Only for clients with `relatedInformation`; since 3.7.
     pub related_information: Option<Vec<DiagnosticRelatedInformation>>,
-    /// What more is known of it.
+    /// Marks on it, such as `DiagnosticTag::UNNECESSARY`. Only for clients with `tagSupport`; since 3.15.
     pub tags: Option<Vec<DiagnosticTag>>,
-    /// Any value, which the editor sends back when it asks for code actions on the diagnostic.
+    /// Any JSON value, which a client with `dataSupport` returns unchanged in `textDocument/codeAction`. In JSON the
+    /// name is `data`. Since 3.16.
     pub payload: Option<Value>,
 }
 
@@ -152,7 +149,7 @@ impl Diagnostic {
         Diagnostic::new(range, Some(severity), code, source, message, None, None)
     }
 
-    /// A diagnostic with an empty message, at the first place of a document.
+    /// A diagnostic with an empty message and an empty range at the start of the document.
     pub fn default(alloc: Global) -> Diagnostic
         ensures message { string_bytes result.message ≡ [] }
         ensures simple { result ≡ simple_diagnostic first_range result.message }
@@ -161,50 +158,38 @@ impl Diagnostic {
     }
 }
 
-#[tactic(auto, unfolding(crate::specs::Diagnostic::diagnostic_shape, crate::specs::Diagnostic::show_diagnostic))]
+#[tactic(auto, unfolding(crate::specs::Diagnostic::diagnostic_row))]
 impl Wire for Diagnostic {
-    ghost shape = { diagnostic_shape };
+    ghost shape = { diagnostic_row.shape };
 
-    ghost shown = { show_diagnostic };
+    ghost shown = { diagnostic_row.shown };
 
     fn from_value(alloc: Global, value: &Value) -> Result<Diagnostic, Misfit> {
-        let Value::Object(object) = value else {
-            return Err(Misfit::Unfit);
-        };
+        let object = Reader::new(alloc, value)?;
         Ok(Diagnostic {
-            range: field(alloc, object, "range")?,
-            severity: optional(alloc, object, "severity")?,
-            code: optional(alloc, object, "code")?,
-            code_description: optional(alloc, object, "codeDescription")?,
-            source: optional(alloc, object, "source")?,
-            message: field(alloc, object, "message")?,
-            related_information: optional(alloc, object, "relatedInformation")?,
-            tags: optional(alloc, object, "tags")?,
-            payload: optional(alloc, object, "data")?,
+            range: object.field("range")?,
+            severity: object.optional("severity")?,
+            code: object.optional("code")?,
+            code_description: object.optional("codeDescription")?,
+            source: object.optional("source")?,
+            message: object.field("message")?,
+            related_information: object.optional("relatedInformation")?,
+            tags: object.optional("tags")?,
+            payload: object.optional("data")?,
         })
     }
 
     fn to_value(&self, alloc: Global) -> Result<Value, NoMemory> {
-        let mut object = Map::new(alloc);
-        put(alloc, &mut object, "range", &self.range)?;
-        put_optional(alloc, &mut object, "severity", &self.severity)?;
-        put_optional(alloc, &mut object, "code", &self.code)?;
-        put_optional(
-            alloc,
-            &mut object,
-            "codeDescription",
-            &self.code_description,
-        )?;
-        put_optional(alloc, &mut object, "source", &self.source)?;
-        put(alloc, &mut object, "message", &self.message)?;
-        put_optional(
-            alloc,
-            &mut object,
-            "relatedInformation",
-            &self.related_information,
-        )?;
-        put_optional(alloc, &mut object, "tags", &self.tags)?;
-        put_optional(alloc, &mut object, "data", &self.payload)?;
-        Ok(Value::Object(object))
+        let mut object = Writer::new(alloc);
+        object.field("range", &self.range)?;
+        object.optional("severity", &self.severity)?;
+        object.optional("code", &self.code)?;
+        object.optional("codeDescription", &self.code_description)?;
+        object.optional("source", &self.source)?;
+        object.field("message", &self.message)?;
+        object.optional("relatedInformation", &self.related_information)?;
+        object.optional("tags", &self.tags)?;
+        object.optional("data", &self.payload)?;
+        Ok(object.end())
     }
 }

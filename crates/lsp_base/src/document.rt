@@ -1,14 +1,14 @@
 // Documents, and what names them.
 ghost use Rattle.std.specs.Prelude.{◌≡◌};
-ghost use Rattle.lsp_base.specs.Document.{text_document_identifier_shape, show_text_document_identifier, text_document_item_shape, show_text_document_item, versioned_text_document_identifier_shape, show_versioned_text_document_identifier, optional_versioned_text_document_identifier_shape, show_optional_versioned_text_document_identifier, text_document_position_params_shape, show_text_document_position_params, document_filter_shape, show_document_filter, text_document_content_change_event_shape, show_text_document_content_change_event, workspace_folder_shape, show_workspace_folder};
+ghost use Rattle.lsp_base.specs.Document.{text_document_identifier_row, text_document_item_row, versioned_text_document_identifier_row, optional_versioned_text_document_identifier_row, text_document_position_params_row, document_filter_row, text_document_content_change_event_row, workspace_folder_row};
 
 use crate::basic::{Position, Range};
-use lsp_shape::{Misfit, NoMemory, Wire, field, optional, put, put_nullable, put_optional};
+use lsp_shape::{Misfit, NoMemory, Reader, Wire, Writer};
 use lsp_uri::Uri;
-use serde_json::{Map, Value};
+use serde_json::Value;
 use std::alloc::Global;
 
-/// Names a document by its URI: section "TextDocumentIdentifier" of LSP 3.17.
+/// Names a document by its URI (LSP 3.17, "TextDocumentIdentifier").
 #[derive(Debug, PartialEq, Eq, Clone, Drop)]
 pub struct TextDocumentIdentifier {
     /// The URI of the document.
@@ -24,36 +24,34 @@ impl TextDocumentIdentifier {
     }
 }
 
-#[tactic(auto, unfolding(crate::specs::Document::text_document_identifier_shape, crate::specs::Document::show_text_document_identifier))]
+#[tactic(auto, unfolding(crate::specs::Document::text_document_identifier_row))]
 impl Wire for TextDocumentIdentifier {
-    ghost shape = { text_document_identifier_shape };
+    ghost shape = { text_document_identifier_row.shape };
 
-    ghost shown = { show_text_document_identifier };
+    ghost shown = { text_document_identifier_row.shown };
 
     fn from_value(alloc: Global, value: &Value) -> Result<TextDocumentIdentifier, Misfit> {
-        let Value::Object(object) = value else {
-            return Err(Misfit::Unfit);
-        };
+        let object = Reader::new(alloc, value)?;
         Ok(TextDocumentIdentifier {
-            uri: field(alloc, object, "uri")?,
+            uri: object.field("uri")?,
         })
     }
 
     fn to_value(&self, alloc: Global) -> Result<Value, NoMemory> {
-        let mut object = Map::new(alloc);
-        put(alloc, &mut object, "uri", &self.uri)?;
-        Ok(Value::Object(object))
+        let mut object = Writer::new(alloc);
+        object.field("uri", &self.uri)?;
+        Ok(object.end())
     }
 }
 
-/// A document with its text, as an editor sends it when it opens it: section "TextDocumentItem" of LSP 3.17.
+/// A document with its text, as a client sends it when it opens it (LSP 3.17, "TextDocumentItem").
 #[derive(Debug, PartialEq, Eq, Clone, Drop)]
 pub struct TextDocumentItem {
     /// The URI of the document.
     pub uri: Uri,
-    /// The language that the document is in, as `rust`.
+    /// The language that the document is in, such as `rust`.
     pub language_id: String,
-    /// The number of the version. Each change, undo and redo too, makes it larger.
+    /// The version. It increases with every change, including undo and redo, but not always by 1.
     pub version: i32,
     /// The whole text.
     pub text: String,
@@ -73,40 +71,38 @@ impl TextDocumentItem {
     }
 }
 
-#[tactic(auto, unfolding(crate::specs::Document::text_document_item_shape, crate::specs::Document::show_text_document_item))]
+#[tactic(auto, unfolding(crate::specs::Document::text_document_item_row))]
 impl Wire for TextDocumentItem {
-    ghost shape = { text_document_item_shape };
+    ghost shape = { text_document_item_row.shape };
 
-    ghost shown = { show_text_document_item };
+    ghost shown = { text_document_item_row.shown };
 
     fn from_value(alloc: Global, value: &Value) -> Result<TextDocumentItem, Misfit> {
-        let Value::Object(object) = value else {
-            return Err(Misfit::Unfit);
-        };
+        let object = Reader::new(alloc, value)?;
         Ok(TextDocumentItem {
-            uri: field(alloc, object, "uri")?,
-            language_id: field(alloc, object, "languageId")?,
-            version: field(alloc, object, "version")?,
-            text: field(alloc, object, "text")?,
+            uri: object.field("uri")?,
+            language_id: object.field("languageId")?,
+            version: object.field("version")?,
+            text: object.field("text")?,
         })
     }
 
     fn to_value(&self, alloc: Global) -> Result<Value, NoMemory> {
-        let mut object = Map::new(alloc);
-        put(alloc, &mut object, "uri", &self.uri)?;
-        put(alloc, &mut object, "languageId", &self.language_id)?;
-        put(alloc, &mut object, "version", &self.version)?;
-        put(alloc, &mut object, "text", &self.text)?;
-        Ok(Value::Object(object))
+        let mut object = Writer::new(alloc);
+        object.field("uri", &self.uri)?;
+        object.field("languageId", &self.language_id)?;
+        object.field("version", &self.version)?;
+        object.field("text", &self.text)?;
+        Ok(object.end())
     }
 }
 
-/// A version of a document: section "VersionedTextDocumentIdentifier" of LSP 3.17.
+/// A version of a document (LSP 3.17, "VersionedTextDocumentIdentifier").
 #[derive(Debug, PartialEq, Eq, Clone, Drop)]
 pub struct VersionedTextDocumentIdentifier {
     /// The URI of the document.
     pub uri: Uri,
-    /// The number of the version. Each change, undo and redo too, makes it larger, not always by 1.
+    /// The version. It increases with every change, including undo and redo, but not always by 1.
     pub version: i32,
 }
 
@@ -119,36 +115,34 @@ impl VersionedTextDocumentIdentifier {
     }
 }
 
-#[tactic(auto, unfolding(crate::specs::Document::versioned_text_document_identifier_shape, crate::specs::Document::show_versioned_text_document_identifier))]
+#[tactic(auto, unfolding(crate::specs::Document::versioned_text_document_identifier_row))]
 impl Wire for VersionedTextDocumentIdentifier {
-    ghost shape = { versioned_text_document_identifier_shape };
+    ghost shape = { versioned_text_document_identifier_row.shape };
 
-    ghost shown = { show_versioned_text_document_identifier };
+    ghost shown = { versioned_text_document_identifier_row.shown };
 
     fn from_value(alloc: Global, value: &Value) -> Result<VersionedTextDocumentIdentifier, Misfit> {
-        let Value::Object(object) = value else {
-            return Err(Misfit::Unfit);
-        };
+        let object = Reader::new(alloc, value)?;
         Ok(VersionedTextDocumentIdentifier {
-            uri: field(alloc, object, "uri")?,
-            version: field(alloc, object, "version")?,
+            uri: object.field("uri")?,
+            version: object.field("version")?,
         })
     }
 
     fn to_value(&self, alloc: Global) -> Result<Value, NoMemory> {
-        let mut object = Map::new(alloc);
-        put(alloc, &mut object, "uri", &self.uri)?;
-        put(alloc, &mut object, "version", &self.version)?;
-        Ok(Value::Object(object))
+        let mut object = Writer::new(alloc);
+        object.field("uri", &self.uri)?;
+        object.field("version", &self.version)?;
+        Ok(object.end())
     }
 }
 
-/// A document, and its version where it is open: section "VersionedTextDocumentIdentifier" of LSP 3.17.
+/// A document, and its version where it is open (LSP 3.17, "VersionedTextDocumentIdentifier").
 #[derive(Debug, PartialEq, Eq, Clone, Drop)]
 pub struct OptionalVersionedTextDocumentIdentifier {
     /// The URI of the document.
     pub uri: Uri,
-    /// The number of the version. Where it is absent, the document is not open and its text is that of its file.
+    /// The version. `None`, sent as `null`: the document isn't open in the client, and its content is that on disk.
     pub version: Option<i32>,
 }
 
@@ -164,44 +158,42 @@ impl OptionalVersionedTextDocumentIdentifier {
     }
 }
 
-#[tactic(auto, unfolding(crate::specs::Document::optional_versioned_text_document_identifier_shape, crate::specs::Document::show_optional_versioned_text_document_identifier))]
+#[tactic(auto, unfolding(crate::specs::Document::optional_versioned_text_document_identifier_row))]
 impl Wire for OptionalVersionedTextDocumentIdentifier {
-    ghost shape = { optional_versioned_text_document_identifier_shape };
+    ghost shape = { optional_versioned_text_document_identifier_row.shape };
 
-    ghost shown = { show_optional_versioned_text_document_identifier };
+    ghost shown = { optional_versioned_text_document_identifier_row.shown };
 
     fn from_value(
         alloc: Global,
         value: &Value,
     ) -> Result<OptionalVersionedTextDocumentIdentifier, Misfit> {
-        let Value::Object(object) = value else {
-            return Err(Misfit::Unfit);
-        };
+        let object = Reader::new(alloc, value)?;
         Ok(OptionalVersionedTextDocumentIdentifier {
-            uri: field(alloc, object, "uri")?,
-            version: optional(alloc, object, "version")?,
+            uri: object.field("uri")?,
+            version: object.optional("version")?,
         })
     }
 
     fn to_value(&self, alloc: Global) -> Result<Value, NoMemory> {
-        let mut object = Map::new(alloc);
-        put(alloc, &mut object, "uri", &self.uri)?;
-        put_nullable(alloc, &mut object, "version", &self.version)?;
-        Ok(Value::Object(object))
+        let mut object = Writer::new(alloc);
+        object.field("uri", &self.uri)?;
+        object.nullable("version", &self.version)?;
+        Ok(object.end())
     }
 }
 
-/// A place in a document, as most requests on a document send it: section "TextDocumentPositionParams" of LSP 3.17.
+/// A position in a document, as most requests on a document send it (LSP 3.17, "TextDocumentPositionParams").
 #[derive(Debug, PartialEq, Eq, Clone, Drop)]
 pub struct TextDocumentPositionParams {
     /// The document.
     pub text_document: TextDocumentIdentifier,
-    /// The place in it.
+    /// The position in it.
     pub position: Position,
 }
 
 impl TextDocumentPositionParams {
-    /// That place in the document.
+    /// That position in the document.
     pub fn new(
         text_document: TextDocumentIdentifier,
         position: Position,
@@ -215,136 +207,129 @@ impl TextDocumentPositionParams {
     }
 }
 
-#[tactic(auto, unfolding(crate::specs::Document::text_document_position_params_shape, crate::specs::Document::show_text_document_position_params))]
+#[tactic(auto, unfolding(crate::specs::Document::text_document_position_params_row))]
 impl Wire for TextDocumentPositionParams {
-    ghost shape = { text_document_position_params_shape };
+    ghost shape = { text_document_position_params_row.shape };
 
-    ghost shown = { show_text_document_position_params };
+    ghost shown = { text_document_position_params_row.shown };
 
     fn from_value(alloc: Global, value: &Value) -> Result<TextDocumentPositionParams, Misfit> {
-        let Value::Object(object) = value else {
-            return Err(Misfit::Unfit);
-        };
+        let object = Reader::new(alloc, value)?;
         Ok(TextDocumentPositionParams {
-            text_document: field(alloc, object, "textDocument")?,
-            position: field(alloc, object, "position")?,
+            text_document: object.field("textDocument")?,
+            position: object.field("position")?,
         })
     }
 
     fn to_value(&self, alloc: Global) -> Result<Value, NoMemory> {
-        let mut object = Map::new(alloc);
-        put(alloc, &mut object, "textDocument", &self.text_document)?;
-        put(alloc, &mut object, "position", &self.position)?;
-        Ok(Value::Object(object))
+        let mut object = Writer::new(alloc);
+        object.field("textDocument", &self.text_document)?;
+        object.field("position", &self.position)?;
+        Ok(object.end())
     }
 }
 
-/// Which documents are meant, where all that is present must apply: section "DocumentFilter" of LSP 3.17.
+/// Selects documents: those to which all members that are present apply. At least one should be present (LSP 3.17,
+/// "DocumentFilter").
 #[derive(Debug, PartialEq, Eq, Clone, Drop)]
 pub struct DocumentFilter {
-    /// The language of the document, as `rust`.
+    /// The language of the document, such as `rust`.
     pub language: Option<String>,
-    /// The scheme of its URI, as `file`.
+    /// The scheme of its URI, such as `file`.
     pub scheme: Option<String>,
-    /// A glob pattern that its path matches, as `**/*.rs`.
+    /// A glob pattern that its path matches, such as `**/*.rs`.
     pub pattern: Option<String>,
 }
 
-#[tactic(auto, unfolding(crate::specs::Document::document_filter_shape, crate::specs::Document::show_document_filter))]
+#[tactic(auto, unfolding(crate::specs::Document::document_filter_row))]
 impl Wire for DocumentFilter {
-    ghost shape = { document_filter_shape };
+    ghost shape = { document_filter_row.shape };
 
-    ghost shown = { show_document_filter };
+    ghost shown = { document_filter_row.shown };
 
     fn from_value(alloc: Global, value: &Value) -> Result<DocumentFilter, Misfit> {
-        let Value::Object(object) = value else {
-            return Err(Misfit::Unfit);
-        };
+        let object = Reader::new(alloc, value)?;
         Ok(DocumentFilter {
-            language: optional(alloc, object, "language")?,
-            scheme: optional(alloc, object, "scheme")?,
-            pattern: optional(alloc, object, "pattern")?,
+            language: object.optional("language")?,
+            scheme: object.optional("scheme")?,
+            pattern: object.optional("pattern")?,
         })
     }
 
     fn to_value(&self, alloc: Global) -> Result<Value, NoMemory> {
-        let mut object = Map::new(alloc);
-        put_optional(alloc, &mut object, "language", &self.language)?;
-        put_optional(alloc, &mut object, "scheme", &self.scheme)?;
-        put_optional(alloc, &mut object, "pattern", &self.pattern)?;
-        Ok(Value::Object(object))
+        let mut object = Writer::new(alloc);
+        object.optional("language", &self.language)?;
+        object.optional("scheme", &self.scheme)?;
+        object.optional("pattern", &self.pattern)?;
+        Ok(object.end())
     }
 }
 
-/// Which documents are meant: those that pass one of the filters. Section "DocumentFilter" of LSP 3.17.
+/// Selects documents: those that pass one of the filters (LSP 3.17, "DocumentFilter").
 pub type DocumentSelector = Vec<DocumentFilter>;
 
-/// A change of the text of a document: section "DidChangeTextDocument Notification" of LSP 3.17.
+/// A change of the text of a document (LSP 3.17, "DidChangeTextDocument Notification").
 #[derive(Debug, PartialEq, Eq, Clone, Drop)]
 pub struct TextDocumentContentChangeEvent {
-    /// What is replaced. Where it is absent, the whole text.
+    /// The range to replace. Absent: the whole text.
     pub range: Option<Range>,
     /// How much is replaced, in no stated unit. LSP has deprecated it: the range says the same.
     pub range_length: Option<u32>,
-    /// The text that stands there afterwards.
+    /// The new text.
     pub text: String,
 }
 
-#[tactic(auto, unfolding(crate::specs::Document::text_document_content_change_event_shape, crate::specs::Document::show_text_document_content_change_event))]
+#[tactic(auto, unfolding(crate::specs::Document::text_document_content_change_event_row))]
 impl Wire for TextDocumentContentChangeEvent {
-    ghost shape = { text_document_content_change_event_shape };
+    ghost shape = { text_document_content_change_event_row.shape };
 
-    ghost shown = { show_text_document_content_change_event };
+    ghost shown = { text_document_content_change_event_row.shown };
 
     fn from_value(alloc: Global, value: &Value) -> Result<TextDocumentContentChangeEvent, Misfit> {
-        let Value::Object(object) = value else {
-            return Err(Misfit::Unfit);
-        };
+        let object = Reader::new(alloc, value)?;
         Ok(TextDocumentContentChangeEvent {
-            range: optional(alloc, object, "range")?,
-            range_length: optional(alloc, object, "rangeLength")?,
-            text: field(alloc, object, "text")?,
+            range: object.optional("range")?,
+            range_length: object.optional("rangeLength")?,
+            text: object.field("text")?,
         })
     }
 
     fn to_value(&self, alloc: Global) -> Result<Value, NoMemory> {
-        let mut object = Map::new(alloc);
-        put_optional(alloc, &mut object, "range", &self.range)?;
-        put_optional(alloc, &mut object, "rangeLength", &self.range_length)?;
-        put(alloc, &mut object, "text", &self.text)?;
-        Ok(Value::Object(object))
+        let mut object = Writer::new(alloc);
+        object.optional("range", &self.range)?;
+        object.optional("rangeLength", &self.range_length)?;
+        object.field("text", &self.text)?;
+        Ok(object.end())
     }
 }
 
-/// A folder that is open in the editor: section "Workspace Folders Request" of LSP 3.17.
+/// A folder of the client's workspace. Since 3.6 (LSP 3.17, "Workspace folders request").
 #[derive(Debug, PartialEq, Eq, PartialOrd, Ord, Clone, Drop)]
 pub struct WorkspaceFolder {
     /// The URI of the folder.
     pub uri: Uri,
-    /// What the editor calls it.
+    /// The name by which the client shows it.
     pub name: String,
 }
 
-#[tactic(auto, unfolding(crate::specs::Document::workspace_folder_shape, crate::specs::Document::show_workspace_folder))]
+#[tactic(auto, unfolding(crate::specs::Document::workspace_folder_row))]
 impl Wire for WorkspaceFolder {
-    ghost shape = { workspace_folder_shape };
+    ghost shape = { workspace_folder_row.shape };
 
-    ghost shown = { show_workspace_folder };
+    ghost shown = { workspace_folder_row.shown };
 
     fn from_value(alloc: Global, value: &Value) -> Result<WorkspaceFolder, Misfit> {
-        let Value::Object(object) = value else {
-            return Err(Misfit::Unfit);
-        };
+        let object = Reader::new(alloc, value)?;
         Ok(WorkspaceFolder {
-            uri: field(alloc, object, "uri")?,
-            name: field(alloc, object, "name")?,
+            uri: object.field("uri")?,
+            name: object.field("name")?,
         })
     }
 
     fn to_value(&self, alloc: Global) -> Result<Value, NoMemory> {
-        let mut object = Map::new(alloc);
-        put(alloc, &mut object, "uri", &self.uri)?;
-        put(alloc, &mut object, "name", &self.name)?;
-        Ok(Value::Object(object))
+        let mut object = Writer::new(alloc);
+        object.field("uri", &self.uri)?;
+        object.field("name", &self.name)?;
+        Ok(object.end())
     }
 }

@@ -1,12 +1,13 @@
 // Edits of a document.
 ghost use Rattle.std.specs.Prelude.{◌≡◌, [], string_bytes};
+ghost use Rattle.lsp_shape.specs.Row.{row_of};
 ghost use Rattle.lsp_base.specs.Basic.{first_range};
-ghost use Rattle.lsp_base.specs.Edit.{one_of_shape, show_one_of, text_edit_shape, show_text_edit, annotated_text_edit_shape, show_annotated_text_edit, text_document_edit_shape, show_text_document_edit, change_annotation_shape, show_change_annotation};
+ghost use Rattle.lsp_base.specs.Edit.{one_of_row, text_edit_row, annotated_text_edit_row, text_document_edit_row, change_annotation_row};
 
 use crate::basic::{Position, Range};
 use crate::document::OptionalVersionedTextDocumentIdentifier;
-use lsp_shape::{Misfit, NoMemory, Wire, attempt, field, optional, put, put_flat, put_optional};
-use serde_json::{Map, Value};
+use lsp_shape::{Misfit, NoMemory, Reader, Wire, Writer, attempt};
+use serde_json::Value;
 use std::alloc::Global;
 
 /// A value of one of two types, where LSP 3.17 has `A | B`. One that fits both is read as the first.
@@ -20,9 +21,9 @@ pub enum OneOf<A, B> {
 }
 
 impl<A: Wire, B: Wire> Wire for OneOf<A, B> {
-    ghost shape = { one_of_shape A.shape B.shape };
+    ghost shape = { (one_of_row (row_of A.shape A.shown) (row_of B.shape B.shown)).shape };
 
-    ghost shown = { show_one_of A.shown B.shown };
+    ghost shown = { (one_of_row (row_of A.shape A.shown) (row_of B.shape B.shown)).shown };
 
     fn from_value(alloc: Global, value: &Value) -> Result<OneOf<A, B>, Misfit> {
         if let Some(left) = attempt(alloc, value)? {
@@ -39,14 +40,13 @@ impl<A: Wire, B: Wire> Wire for OneOf<A, B> {
     }
 }
 
-/// A range of a document gets another text: section "TextEdit & AnnotatedTextEdit" of LSP 3.17.
-///
-/// The edits of one change all speak of the document as it was before it, and their ranges do not overlap.
+/// A range of a document and its new text. All edits of one change refer to the document before it, and their ranges
+/// must not overlap (LSP 3.17, "TextEdit & AnnotatedTextEdit").
 #[derive(Debug, PartialEq, Eq, Clone, Drop)]
 pub struct TextEdit {
-    /// What is replaced. An empty range is where text is put in.
+    /// The range to replace. An empty range inserts.
     pub range: Range,
-    /// What then stands there. An empty text deletes the range.
+    /// The new text. An empty string deletes the range.
     pub new_text: String,
 }
 
@@ -58,7 +58,7 @@ impl TextEdit {
         TextEdit { range, new_text }
     }
 
-    /// Nothing in place of nothing, at the start of the document.
+    /// An empty string in place of an empty range, at the start of the document.
     pub fn default(alloc: Global) -> TextEdit
         ensures range { result.range ≡ first_range }
         ensures new_text { string_bytes result.new_text ≡ [] }
@@ -70,34 +70,33 @@ impl TextEdit {
     }
 }
 
-#[tactic(auto, unfolding(crate::specs::Edit::text_edit_shape, crate::specs::Edit::show_text_edit))]
+#[tactic(auto, unfolding(crate::specs::Edit::text_edit_row))]
 impl Wire for TextEdit {
-    ghost shape = { text_edit_shape };
+    ghost shape = { text_edit_row.shape };
 
-    ghost shown = { show_text_edit };
+    ghost shown = { text_edit_row.shown };
 
     fn from_value(alloc: Global, value: &Value) -> Result<TextEdit, Misfit> {
-        let Value::Object(object) = value else {
-            return Err(Misfit::Unfit);
-        };
+        let object = Reader::new(alloc, value)?;
         Ok(TextEdit {
-            range: field(alloc, object, "range")?,
-            new_text: field(alloc, object, "newText")?,
+            range: object.field("range")?,
+            new_text: object.field("newText")?,
         })
     }
 
     fn to_value(&self, alloc: Global) -> Result<Value, NoMemory> {
-        let mut object = Map::new(alloc);
-        put(alloc, &mut object, "range", &self.range)?;
-        put(alloc, &mut object, "newText", &self.new_text)?;
-        Ok(Value::Object(object))
+        let mut object = Writer::new(alloc);
+        object.field("range", &self.range)?;
+        object.field("newText", &self.new_text)?;
+        Ok(object.end())
     }
 }
 
-/// Names a change annotation: section "TextEdit & AnnotatedTextEdit" of LSP 3.17.
+/// The identifier of a change annotation. Since 3.16 (LSP 3.17, "TextEdit & AnnotatedTextEdit").
 pub type ChangeAnnotationIdentifier = String;
 
-/// An edit with an annotation: section "TextEdit & AnnotatedTextEdit" of LSP 3.17.
+/// An edit with an annotation. Since 3.16. Only for clients with `changeAnnotationSupport` (LSP 3.17, "TextEdit &
+/// AnnotatedTextEdit").
 #[derive(Debug, PartialEq, Eq, Clone, Drop)]
 pub struct AnnotatedTextEdit {
     /// The edit. Its members stand among those of this type.
@@ -106,31 +105,29 @@ pub struct AnnotatedTextEdit {
     pub annotation_id: ChangeAnnotationIdentifier,
 }
 
-#[tactic(auto, unfolding(crate::specs::Edit::annotated_text_edit_shape, crate::specs::Edit::show_annotated_text_edit, crate::specs::Edit::text_edit_shape))]
+#[tactic(auto, unfolding(crate::specs::Edit::annotated_text_edit_row, crate::specs::Edit::text_edit_row))]
 impl Wire for AnnotatedTextEdit {
-    ghost shape = { annotated_text_edit_shape };
+    ghost shape = { annotated_text_edit_row.shape };
 
-    ghost shown = { show_annotated_text_edit };
+    ghost shown = { annotated_text_edit_row.shown };
 
     fn from_value(alloc: Global, value: &Value) -> Result<AnnotatedTextEdit, Misfit> {
-        let Value::Object(object) = value else {
-            return Err(Misfit::Unfit);
-        };
+        let object = Reader::new(alloc, value)?;
         Ok(AnnotatedTextEdit {
             text_edit: TextEdit::from_value(alloc, value)?,
-            annotation_id: field(alloc, object, "annotationId")?,
+            annotation_id: object.field("annotationId")?,
         })
     }
 
     fn to_value(&self, alloc: Global) -> Result<Value, NoMemory> {
-        let mut object = Map::new(alloc);
-        put_flat(alloc, &mut object, &self.text_edit)?;
-        put(alloc, &mut object, "annotationId", &self.annotation_id)?;
-        Ok(Value::Object(object))
+        let mut object = Writer::new(alloc);
+        object.flat(&self.text_edit)?;
+        object.field("annotationId", &self.annotation_id)?;
+        Ok(object.end())
     }
 }
 
-/// Edits of one version of a document: section "TextDocumentEdit" of LSP 3.17.
+/// Edits of one version of a document (LSP 3.17, "TextDocumentEdit").
 #[derive(Debug, PartialEq, Eq, Clone, Drop)]
 pub struct TextDocumentEdit {
     /// The document, and the version that the edits speak of.
@@ -139,31 +136,29 @@ pub struct TextDocumentEdit {
     pub edits: Vec<OneOf<TextEdit, AnnotatedTextEdit>>,
 }
 
-#[tactic(auto, unfolding(crate::specs::Edit::text_document_edit_shape, crate::specs::Edit::show_text_document_edit))]
+#[tactic(auto, unfolding(crate::specs::Edit::text_document_edit_row))]
 impl Wire for TextDocumentEdit {
-    ghost shape = { text_document_edit_shape };
+    ghost shape = { text_document_edit_row.shape };
 
-    ghost shown = { show_text_document_edit };
+    ghost shown = { text_document_edit_row.shown };
 
     fn from_value(alloc: Global, value: &Value) -> Result<TextDocumentEdit, Misfit> {
-        let Value::Object(object) = value else {
-            return Err(Misfit::Unfit);
-        };
+        let object = Reader::new(alloc, value)?;
         Ok(TextDocumentEdit {
-            text_document: field(alloc, object, "textDocument")?,
-            edits: field(alloc, object, "edits")?,
+            text_document: object.field("textDocument")?,
+            edits: object.field("edits")?,
         })
     }
 
     fn to_value(&self, alloc: Global) -> Result<Value, NoMemory> {
-        let mut object = Map::new(alloc);
-        put(alloc, &mut object, "textDocument", &self.text_document)?;
-        put(alloc, &mut object, "edits", &self.edits)?;
-        Ok(Value::Object(object))
+        let mut object = Writer::new(alloc);
+        object.field("textDocument", &self.text_document)?;
+        object.field("edits", &self.edits)?;
+        Ok(object.end())
     }
 }
 
-/// What a change is for, as the user is told: section "TextEdit & AnnotatedTextEdit" of LSP 3.17.
+/// What a change is for, as the user is told. Since 3.16 (LSP 3.17, "TextEdit & AnnotatedTextEdit").
 #[derive(Debug, PartialEq, Eq, Clone, Drop)]
 pub struct ChangeAnnotation {
     /// What the user sees first.
@@ -174,33 +169,26 @@ pub struct ChangeAnnotation {
     pub description: Option<String>,
 }
 
-#[tactic(auto, unfolding(crate::specs::Edit::change_annotation_shape, crate::specs::Edit::show_change_annotation))]
+#[tactic(auto, unfolding(crate::specs::Edit::change_annotation_row))]
 impl Wire for ChangeAnnotation {
-    ghost shape = { change_annotation_shape };
+    ghost shape = { change_annotation_row.shape };
 
-    ghost shown = { show_change_annotation };
+    ghost shown = { change_annotation_row.shown };
 
     fn from_value(alloc: Global, value: &Value) -> Result<ChangeAnnotation, Misfit> {
-        let Value::Object(object) = value else {
-            return Err(Misfit::Unfit);
-        };
+        let object = Reader::new(alloc, value)?;
         Ok(ChangeAnnotation {
-            label: field(alloc, object, "label")?,
-            needs_confirmation: optional(alloc, object, "needsConfirmation")?,
-            description: optional(alloc, object, "description")?,
+            label: object.field("label")?,
+            needs_confirmation: object.optional("needsConfirmation")?,
+            description: object.optional("description")?,
         })
     }
 
     fn to_value(&self, alloc: Global) -> Result<Value, NoMemory> {
-        let mut object = Map::new(alloc);
-        put(alloc, &mut object, "label", &self.label)?;
-        put_optional(
-            alloc,
-            &mut object,
-            "needsConfirmation",
-            &self.needs_confirmation,
-        )?;
-        put_optional(alloc, &mut object, "description", &self.description)?;
-        Ok(Value::Object(object))
+        let mut object = Writer::new(alloc);
+        object.field("label", &self.label)?;
+        object.optional("needsConfirmation", &self.needs_confirmation)?;
+        object.optional("description", &self.description)?;
+        Ok(object.end())
     }
 }

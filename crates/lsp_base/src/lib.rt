@@ -2,6 +2,7 @@
 #![tactic(auto)]
 
 mod basic;
+mod capability;
 mod command;
 mod diagnostic;
 mod document;
@@ -10,14 +11,13 @@ pub mod error_codes;
 mod progress;
 mod registration;
 mod resource;
-#[cfg(test)]
-mod tests;
 mod workspace_edit;
 
 pub use basic::{
     CancelParams, LSPAny, LSPArray, LSPObject, Location, LocationLink, NumberOrString, Position,
     Range,
 };
+pub use capability::SymbolKindCapability;
 pub use command::Command;
 pub use diagnostic::{CodeDescription, Diagnostic, DiagnosticRelatedInformation};
 pub use document::{

@@ -1,73 +1,66 @@
 // Tokens of progress.
-ghost use Rattle.lsp_base.specs.Progress.{partial_result_params_shape, show_partial_result_params, work_done_progress_params_shape, show_work_done_progress_params};
+ghost use Rattle.lsp_base.specs.Progress.{partial_result_params_row, work_done_progress_params_row};
 
 use crate::basic::NumberOrString;
-use lsp_shape::{Misfit, NoMemory, Wire, optional, put_optional};
-use serde_json::{Map, Value};
+use lsp_shape::{Misfit, NoMemory, Reader, Wire, Writer};
+use serde_json::Value;
 use std::alloc::Global;
 
-/// Ties a report of progress to what it is about: section "Progress Support" of LSP 3.17.
+/// Ties a `$/progress` notification to what it is about (LSP 3.17, "Progress Support").
 pub type ProgressToken = NumberOrString;
 
-/// A request for results in parts: section "PartialResultParams" of LSP 3.17.
+/// The token under which a client wants the result of its request in parts (LSP 3.17, "PartialResultParams").
 #[derive(Debug, PartialEq, Eq, Default, Clone, Drop)]
 pub struct PartialResultParams {
-    /// The token of the reports that hold the parts. Where it is absent, the result comes as a whole.
+    /// The token of the `$/progress` notifications that hold the parts; the response after them is empty. Absent: the
+    /// response has the whole result.
     pub partial_result_token: Option<ProgressToken>,
 }
 
-#[tactic(auto, unfolding(crate::specs::Progress::partial_result_params_shape, crate::specs::Progress::show_partial_result_params))]
+#[tactic(auto, unfolding(crate::specs::Progress::partial_result_params_row))]
 impl Wire for PartialResultParams {
-    ghost shape = { partial_result_params_shape };
+    ghost shape = { partial_result_params_row.shape };
 
-    ghost shown = { show_partial_result_params };
+    ghost shown = { partial_result_params_row.shown };
 
     fn from_value(alloc: Global, value: &Value) -> Result<PartialResultParams, Misfit> {
-        let Value::Object(object) = value else {
-            return Err(Misfit::Unfit);
-        };
+        let object = Reader::new(alloc, value)?;
         Ok(PartialResultParams {
-            partial_result_token: optional(alloc, object, "partialResultToken")?,
+            partial_result_token: object.optional("partialResultToken")?,
         })
     }
 
     fn to_value(&self, alloc: Global) -> Result<Value, NoMemory> {
-        let mut object = Map::new(alloc);
-        put_optional(
-            alloc,
-            &mut object,
-            "partialResultToken",
-            &self.partial_result_token,
-        )?;
-        Ok(Value::Object(object))
+        let mut object = Writer::new(alloc);
+        object.optional("partialResultToken", &self.partial_result_token)?;
+        Ok(object.end())
     }
 }
 
-/// A request for reports on how far the work is: section "WorkDoneProgressParams" of LSP 3.17.
+/// The token under which a client wants work done progress for its request. Since 3.15 (LSP 3.17, "Client Initiated
+/// Progress").
 #[derive(Debug, PartialEq, Eq, Default, Clone, Drop)]
 pub struct WorkDoneProgressParams {
-    /// The token of the reports. Where it is absent, none are wanted.
+    /// The token of the `$/progress` notifications. Absent: the client wants none.
     pub work_done_token: Option<ProgressToken>,
 }
 
-#[tactic(auto, unfolding(crate::specs::Progress::work_done_progress_params_shape, crate::specs::Progress::show_work_done_progress_params))]
+#[tactic(auto, unfolding(crate::specs::Progress::work_done_progress_params_row))]
 impl Wire for WorkDoneProgressParams {
-    ghost shape = { work_done_progress_params_shape };
+    ghost shape = { work_done_progress_params_row.shape };
 
-    ghost shown = { show_work_done_progress_params };
+    ghost shown = { work_done_progress_params_row.shown };
 
     fn from_value(alloc: Global, value: &Value) -> Result<WorkDoneProgressParams, Misfit> {
-        let Value::Object(object) = value else {
-            return Err(Misfit::Unfit);
-        };
+        let object = Reader::new(alloc, value)?;
         Ok(WorkDoneProgressParams {
-            work_done_token: optional(alloc, object, "workDoneToken")?,
+            work_done_token: object.optional("workDoneToken")?,
         })
     }
 
     fn to_value(&self, alloc: Global) -> Result<Value, NoMemory> {
-        let mut object = Map::new(alloc);
-        put_optional(alloc, &mut object, "workDoneToken", &self.work_done_token)?;
-        Ok(Value::Object(object))
+        let mut object = Writer::new(alloc);
+        object.optional("workDoneToken", &self.work_done_token)?;
+        Ok(object.end())
     }
 }

@@ -1,13 +1,15 @@
 // What an editor supports, and what a server registers for.
 ghost use Rattle.std.specs.Prelude.{◌≡◌, []};
-ghost use Rattle.lsp_base.specs.Registration.{tag_support_shape, show_tag_support, dynamic_registration_client_capabilities_shape, show_dynamic_registration_client_capabilities, goto_capability_shape, show_goto_capability, text_document_registration_options_shape, show_text_document_registration_options, static_registration_options_shape, show_static_registration_options};
+ghost use Rattle.lsp_shape.specs.Row.{row_of};
+ghost use Rattle.lsp_base.specs.Registration.{tag_support_row, dynamic_registration_client_capabilities_row, goto_capability_row, text_document_registration_options_row, static_registration_options_row};
 
 use crate::document::DocumentSelector;
-use lsp_shape::{Misfit, NoMemory, Wire, field, optional, put, put_nullable, put_optional};
-use serde_json::{Map, Value};
+use lsp_shape::{Misfit, NoMemory, Reader, Wire, Writer};
+use serde_json::Value;
 use std::alloc::Global;
 
-/// The tags that an editor knows: as in sections "Completion Request" and "PublishDiagnostics Notification" of LSP 3.17.
+/// The tags that a client supports. `true` is read as no tags and `false` as no support, as old clients send them (LSP
+/// 3.17, "Completion Request").
 #[derive(Debug, PartialEq, Eq, Clone, Drop)]
 pub struct TagSupport<T> {
     /// The tags.
@@ -26,160 +28,136 @@ impl<T> TagSupport<T> {
 }
 
 impl<T: Wire> Wire for TagSupport<T> {
-    ghost shape = { tag_support_shape T.shape };
+    ghost shape = { (tag_support_row (row_of T.shape T.shown)).shape };
 
-    ghost shown = { show_tag_support T.shown };
+    ghost shown = { (tag_support_row (row_of T.shape T.shown)).shown };
 
     fn from_value(alloc: Global, value: &Value) -> Result<TagSupport<T>, Misfit> {
-        let Value::Object(object) = value else {
-            return Err(Misfit::Unfit);
-        };
+        let object = Reader::new(alloc, value)?;
         Ok(TagSupport {
-            value_set: field(alloc, object, "valueSet")?,
+            value_set: object.field("valueSet")?,
         })
     }
 
     fn to_value(&self, alloc: Global) -> Result<Value, NoMemory> {
-        let mut object = Map::new(alloc);
-        put(alloc, &mut object, "valueSet", &self.value_set)?;
-        Ok(Value::Object(object))
+        let mut object = Writer::new(alloc);
+        object.field("valueSet", &self.value_set)?;
+        Ok(object.end())
     }
 }
 
-/// Whether a server may register for a feature while it runs: section "Register Capability" of LSP 3.17.
+/// Whether a server may register a feature after initialization (LSP 3.17, "Register Capability").
 #[derive(Debug, PartialEq, Eq, Clone, Copy, Default)]
 pub struct DynamicRegistrationClientCapabilities {
     /// Whether it may.
     pub dynamic_registration: Option<bool>,
 }
 
-#[tactic(auto, unfolding(crate::specs::Registration::dynamic_registration_client_capabilities_shape, crate::specs::Registration::show_dynamic_registration_client_capabilities))]
+#[tactic(auto, unfolding(crate::specs::Registration::dynamic_registration_client_capabilities_row))]
 impl Wire for DynamicRegistrationClientCapabilities {
-    ghost shape = { dynamic_registration_client_capabilities_shape };
+    ghost shape = { dynamic_registration_client_capabilities_row.shape };
 
-    ghost shown = { show_dynamic_registration_client_capabilities };
+    ghost shown = { dynamic_registration_client_capabilities_row.shown };
 
     fn from_value(
         alloc: Global,
         value: &Value,
     ) -> Result<DynamicRegistrationClientCapabilities, Misfit> {
-        let Value::Object(object) = value else {
-            return Err(Misfit::Unfit);
-        };
+        let object = Reader::new(alloc, value)?;
         Ok(DynamicRegistrationClientCapabilities {
-            dynamic_registration: optional(alloc, object, "dynamicRegistration")?,
+            dynamic_registration: object.optional("dynamicRegistration")?,
         })
     }
 
     fn to_value(&self, alloc: Global) -> Result<Value, NoMemory> {
-        let mut object = Map::new(alloc);
-        put_optional(
-            alloc,
-            &mut object,
-            "dynamicRegistration",
-            &self.dynamic_registration,
-        )?;
-        Ok(Value::Object(object))
+        let mut object = Writer::new(alloc);
+        object.optional("dynamicRegistration", &self.dynamic_registration)?;
+        Ok(object.end())
     }
 }
 
-/// What an editor supports of a request such as that of section "Goto Definition Request" of LSP 3.17.
+/// What a client supports of a request such as `textDocument/definition` (LSP 3.17, "Goto Definition Request").
 #[derive(Debug, PartialEq, Eq, Clone, Copy, Default)]
 pub struct GotoCapability {
-    /// Whether a server may register for the request while it runs.
+    /// Whether a server may register the request after initialization.
     pub dynamic_registration: Option<bool>,
-    /// Whether the answer may hold links, of type `LocationLink`.
+    /// Whether the result may hold links, of type `LocationLink`. Since 3.14.
     pub link_support: Option<bool>,
 }
 
-#[tactic(auto, unfolding(crate::specs::Registration::goto_capability_shape, crate::specs::Registration::show_goto_capability))]
+#[tactic(auto, unfolding(crate::specs::Registration::goto_capability_row))]
 impl Wire for GotoCapability {
-    ghost shape = { goto_capability_shape };
+    ghost shape = { goto_capability_row.shape };
 
-    ghost shown = { show_goto_capability };
+    ghost shown = { goto_capability_row.shown };
 
     fn from_value(alloc: Global, value: &Value) -> Result<GotoCapability, Misfit> {
-        let Value::Object(object) = value else {
-            return Err(Misfit::Unfit);
-        };
+        let object = Reader::new(alloc, value)?;
         Ok(GotoCapability {
-            dynamic_registration: optional(alloc, object, "dynamicRegistration")?,
-            link_support: optional(alloc, object, "linkSupport")?,
+            dynamic_registration: object.optional("dynamicRegistration")?,
+            link_support: object.optional("linkSupport")?,
         })
     }
 
     fn to_value(&self, alloc: Global) -> Result<Value, NoMemory> {
-        let mut object = Map::new(alloc);
-        put_optional(
-            alloc,
-            &mut object,
-            "dynamicRegistration",
-            &self.dynamic_registration,
-        )?;
-        put_optional(alloc, &mut object, "linkSupport", &self.link_support)?;
-        Ok(Value::Object(object))
+        let mut object = Writer::new(alloc);
+        object.optional("dynamicRegistration", &self.dynamic_registration)?;
+        object.optional("linkSupport", &self.link_support)?;
+        Ok(object.end())
     }
 }
 
-/// Which documents a registration is for: section "Register Capability" of LSP 3.17.
+/// The documents that a registration applies to (LSP 3.17, "Register Capability").
 #[derive(Debug, PartialEq, Eq, Default, Clone, Drop)]
 pub struct TextDocumentRegistrationOptions {
-    /// The documents. Where it is absent, those that the editor selects.
+    /// The documents. `None`, sent as `null`: those that the client selects itself.
     pub document_selector: Option<DocumentSelector>,
 }
 
-#[tactic(auto, unfolding(crate::specs::Registration::text_document_registration_options_shape, crate::specs::Registration::show_text_document_registration_options))]
+#[tactic(auto, unfolding(crate::specs::Registration::text_document_registration_options_row))]
 impl Wire for TextDocumentRegistrationOptions {
-    ghost shape = { text_document_registration_options_shape };
+    ghost shape = { text_document_registration_options_row.shape };
 
-    ghost shown = { show_text_document_registration_options };
+    ghost shown = { text_document_registration_options_row.shown };
 
     fn from_value(alloc: Global, value: &Value) -> Result<TextDocumentRegistrationOptions, Misfit> {
-        let Value::Object(object) = value else {
-            return Err(Misfit::Unfit);
-        };
+        let object = Reader::new(alloc, value)?;
         Ok(TextDocumentRegistrationOptions {
-            document_selector: optional(alloc, object, "documentSelector")?,
+            document_selector: object.optional("documentSelector")?,
         })
     }
 
     fn to_value(&self, alloc: Global) -> Result<Value, NoMemory> {
-        let mut object = Map::new(alloc);
-        put_nullable(
-            alloc,
-            &mut object,
-            "documentSelector",
-            &self.document_selector,
-        )?;
-        Ok(Value::Object(object))
+        let mut object = Writer::new(alloc);
+        object.nullable("documentSelector", &self.document_selector)?;
+        Ok(object.end())
     }
 }
 
-/// By what id a registration is withdrawn: section "Register Capability" of LSP 3.17.
+/// The id of a registration that a server makes in its capabilities (LSP 3.17, "Register Capability").
 #[derive(Debug, PartialEq, Eq, Default, Clone, Drop)]
 pub struct StaticRegistrationOptions {
-    /// The id. Where it is absent, the registration can't be withdrawn.
+    /// The id with which the server can unregister the feature later, using `client/unregisterCapability`. Absent: it
+    /// can't.
     pub id: Option<String>,
 }
 
-#[tactic(auto, unfolding(crate::specs::Registration::static_registration_options_shape, crate::specs::Registration::show_static_registration_options))]
+#[tactic(auto, unfolding(crate::specs::Registration::static_registration_options_row))]
 impl Wire for StaticRegistrationOptions {
-    ghost shape = { static_registration_options_shape };
+    ghost shape = { static_registration_options_row.shape };
 
-    ghost shown = { show_static_registration_options };
+    ghost shown = { static_registration_options_row.shown };
 
     fn from_value(alloc: Global, value: &Value) -> Result<StaticRegistrationOptions, Misfit> {
-        let Value::Object(object) = value else {
-            return Err(Misfit::Unfit);
-        };
+        let object = Reader::new(alloc, value)?;
         Ok(StaticRegistrationOptions {
-            id: optional(alloc, object, "id")?,
+            id: object.optional("id")?,
         })
     }
 
     fn to_value(&self, alloc: Global) -> Result<Value, NoMemory> {
-        let mut object = Map::new(alloc);
-        put_optional(alloc, &mut object, "id", &self.id)?;
-        Ok(Value::Object(object))
+        let mut object = Writer::new(alloc);
+        object.optional("id", &self.id)?;
+        Ok(object.end())
     }
 }

@@ -1,247 +1,231 @@
 // Changes of files and folders.
-ghost use Rattle.lsp_base.specs.Resource.{create_file_options_shape, show_create_file_options, create_file_shape, show_create_file, rename_file_options_shape, show_rename_file_options, rename_file_shape, show_rename_file, delete_file_options_shape, show_delete_file_options, delete_file_shape, show_delete_file, resource_op_shape, show_resource_op};
+ghost use Rattle.lsp_base.specs.Resource.{create_file_options_row, create_file_row, rename_file_options_row, rename_file_row, delete_file_options_row, delete_file_row, resource_op_row};
 
 use crate::edit::ChangeAnnotationIdentifier;
-use lsp_shape::{Misfit, NoMemory, Wire, field, optional, put, put_optional, put_tag, tag};
+use lsp_shape::{Misfit, NoMemory, Reader, Wire, Writer, put_tag, tag};
 use lsp_uri::Uri;
-use serde_json::{Map, Value};
+use serde_json::Value;
 use std::alloc::Global;
 
-/// What is done where the file is there already: section "File Resource changes" of LSP 3.17.
+/// What to do where the file is there already. Since 3.13 (LSP 3.17, "File Resource changes").
 #[derive(Debug, PartialEq, Eq, Clone, Drop)]
 pub struct CreateFileOptions {
-    /// Whether the file that is there is overwritten. This goes before `ignore_if_exists`.
+    /// Whether to overwrite what is there. Takes precedence over `ignore_if_exists`.
     pub overwrite: Option<bool>,
-    /// Whether the file that is there is left as it is.
+    /// Whether to leave what is there as it is.
     pub ignore_if_exists: Option<bool>,
 }
 
-#[tactic(auto, unfolding(crate::specs::Resource::create_file_options_shape, crate::specs::Resource::show_create_file_options))]
+#[tactic(auto, unfolding(crate::specs::Resource::create_file_options_row))]
 impl Wire for CreateFileOptions {
-    ghost shape = { create_file_options_shape };
+    ghost shape = { create_file_options_row.shape };
 
-    ghost shown = { show_create_file_options };
+    ghost shown = { create_file_options_row.shown };
 
     fn from_value(alloc: Global, value: &Value) -> Result<CreateFileOptions, Misfit> {
-        let Value::Object(object) = value else {
-            return Err(Misfit::Unfit);
-        };
+        let object = Reader::new(alloc, value)?;
         Ok(CreateFileOptions {
-            overwrite: optional(alloc, object, "overwrite")?,
-            ignore_if_exists: optional(alloc, object, "ignoreIfExists")?,
+            overwrite: object.optional("overwrite")?,
+            ignore_if_exists: object.optional("ignoreIfExists")?,
         })
     }
 
     fn to_value(&self, alloc: Global) -> Result<Value, NoMemory> {
-        let mut object = Map::new(alloc);
-        put_optional(alloc, &mut object, "overwrite", &self.overwrite)?;
-        put_optional(alloc, &mut object, "ignoreIfExists", &self.ignore_if_exists)?;
-        Ok(Value::Object(object))
+        let mut object = Writer::new(alloc);
+        object.optional("overwrite", &self.overwrite)?;
+        object.optional("ignoreIfExists", &self.ignore_if_exists)?;
+        Ok(object.end())
     }
 }
 
-/// A file or folder is made: section "File Resource changes" of LSP 3.17.
+/// A file or folder to create. Since 3.13 (LSP 3.17, "File Resource changes").
 #[derive(Debug, PartialEq, Eq, Clone, Drop)]
 pub struct CreateFile {
     /// The file or folder.
     pub uri: Uri,
-    /// What is done where it is there already.
+    /// What to do where it is there already.
     pub options: Option<CreateFileOptions>,
-    /// The annotation that says what the change is for.
+    /// The annotation that says what the change is for. Since 3.16.
     pub annotation_id: Option<ChangeAnnotationIdentifier>,
 }
 
-#[tactic(auto, unfolding(crate::specs::Resource::create_file_shape, crate::specs::Resource::show_create_file))]
+#[tactic(auto, unfolding(crate::specs::Resource::create_file_row))]
 impl Wire for CreateFile {
-    ghost shape = { create_file_shape };
+    ghost shape = { create_file_row.shape };
 
-    ghost shown = { show_create_file };
+    ghost shown = { create_file_row.shown };
 
     fn from_value(alloc: Global, value: &Value) -> Result<CreateFile, Misfit> {
-        let Value::Object(object) = value else {
-            return Err(Misfit::Unfit);
-        };
+        let object = Reader::new(alloc, value)?;
         Ok(CreateFile {
-            uri: field(alloc, object, "uri")?,
-            options: optional(alloc, object, "options")?,
-            annotation_id: optional(alloc, object, "annotationId")?,
+            uri: object.field("uri")?,
+            options: object.optional("options")?,
+            annotation_id: object.optional("annotationId")?,
         })
     }
 
     fn to_value(&self, alloc: Global) -> Result<Value, NoMemory> {
-        let mut object = Map::new(alloc);
-        put(alloc, &mut object, "uri", &self.uri)?;
-        put_optional(alloc, &mut object, "options", &self.options)?;
-        put_optional(alloc, &mut object, "annotationId", &self.annotation_id)?;
-        Ok(Value::Object(object))
+        let mut object = Writer::new(alloc);
+        object.field("uri", &self.uri)?;
+        object.optional("options", &self.options)?;
+        object.optional("annotationId", &self.annotation_id)?;
+        Ok(object.end())
     }
 }
 
-/// What is done where a file of the new name is there already: section "File Resource changes" of LSP 3.17.
+/// What to do where something of the new name is there already. Since 3.13 (LSP 3.17, "File Resource changes").
 #[derive(Debug, PartialEq, Eq, Clone, Drop)]
 pub struct RenameFileOptions {
-    /// Whether the file that is there is overwritten. This goes before `ignore_if_exists`.
+    /// Whether to overwrite what is there. Takes precedence over `ignore_if_exists`.
     pub overwrite: Option<bool>,
-    /// Whether the file that is there is left as it is.
+    /// Whether to leave what is there as it is.
     pub ignore_if_exists: Option<bool>,
 }
 
-#[tactic(auto, unfolding(crate::specs::Resource::rename_file_options_shape, crate::specs::Resource::show_rename_file_options))]
+#[tactic(auto, unfolding(crate::specs::Resource::rename_file_options_row))]
 impl Wire for RenameFileOptions {
-    ghost shape = { rename_file_options_shape };
+    ghost shape = { rename_file_options_row.shape };
 
-    ghost shown = { show_rename_file_options };
+    ghost shown = { rename_file_options_row.shown };
 
     fn from_value(alloc: Global, value: &Value) -> Result<RenameFileOptions, Misfit> {
-        let Value::Object(object) = value else {
-            return Err(Misfit::Unfit);
-        };
+        let object = Reader::new(alloc, value)?;
         Ok(RenameFileOptions {
-            overwrite: optional(alloc, object, "overwrite")?,
-            ignore_if_exists: optional(alloc, object, "ignoreIfExists")?,
+            overwrite: object.optional("overwrite")?,
+            ignore_if_exists: object.optional("ignoreIfExists")?,
         })
     }
 
     fn to_value(&self, alloc: Global) -> Result<Value, NoMemory> {
-        let mut object = Map::new(alloc);
-        put_optional(alloc, &mut object, "overwrite", &self.overwrite)?;
-        put_optional(alloc, &mut object, "ignoreIfExists", &self.ignore_if_exists)?;
-        Ok(Value::Object(object))
+        let mut object = Writer::new(alloc);
+        object.optional("overwrite", &self.overwrite)?;
+        object.optional("ignoreIfExists", &self.ignore_if_exists)?;
+        Ok(object.end())
     }
 }
 
-/// A file or folder gets another name: section "File Resource changes" of LSP 3.17.
+/// A file or folder to rename. Since 3.13 (LSP 3.17, "File Resource changes").
 #[derive(Debug, PartialEq, Eq, Clone, Drop)]
 pub struct RenameFile {
-    /// Where it is.
+    /// Its present URI.
     pub old_uri: Uri,
-    /// Where it then is.
+    /// Its new URI.
     pub new_uri: Uri,
-    /// What is done where something of the new name is there already.
+    /// What to do where something of the new name is there already.
     pub options: Option<RenameFileOptions>,
-    /// The annotation that says what the change is for.
+    /// The annotation that says what the change is for. Since 3.16.
     pub annotation_id: Option<ChangeAnnotationIdentifier>,
 }
 
-#[tactic(auto, unfolding(crate::specs::Resource::rename_file_shape, crate::specs::Resource::show_rename_file))]
+#[tactic(auto, unfolding(crate::specs::Resource::rename_file_row))]
 impl Wire for RenameFile {
-    ghost shape = { rename_file_shape };
+    ghost shape = { rename_file_row.shape };
 
-    ghost shown = { show_rename_file };
+    ghost shown = { rename_file_row.shown };
 
     fn from_value(alloc: Global, value: &Value) -> Result<RenameFile, Misfit> {
-        let Value::Object(object) = value else {
-            return Err(Misfit::Unfit);
-        };
+        let object = Reader::new(alloc, value)?;
         Ok(RenameFile {
-            old_uri: field(alloc, object, "oldUri")?,
-            new_uri: field(alloc, object, "newUri")?,
-            options: optional(alloc, object, "options")?,
-            annotation_id: optional(alloc, object, "annotationId")?,
+            old_uri: object.field("oldUri")?,
+            new_uri: object.field("newUri")?,
+            options: object.optional("options")?,
+            annotation_id: object.optional("annotationId")?,
         })
     }
 
     fn to_value(&self, alloc: Global) -> Result<Value, NoMemory> {
-        let mut object = Map::new(alloc);
-        put(alloc, &mut object, "oldUri", &self.old_uri)?;
-        put(alloc, &mut object, "newUri", &self.new_uri)?;
-        put_optional(alloc, &mut object, "options", &self.options)?;
-        put_optional(alloc, &mut object, "annotationId", &self.annotation_id)?;
-        Ok(Value::Object(object))
+        let mut object = Writer::new(alloc);
+        object.field("oldUri", &self.old_uri)?;
+        object.field("newUri", &self.new_uri)?;
+        object.optional("options", &self.options)?;
+        object.optional("annotationId", &self.annotation_id)?;
+        Ok(object.end())
     }
 }
 
-/// How much is deleted, and what is done where nothing is there: section "File Resource changes" of LSP 3.17.
+/// How much to delete, and what to do where nothing is there. Since 3.13 (LSP 3.17, "File Resource changes").
 #[derive(Debug, PartialEq, Eq, Clone, Drop)]
 pub struct DeleteFileOptions {
-    /// Whether what a folder holds is deleted with it.
+    /// Whether to delete what a folder holds with it.
     pub recursive: Option<bool>,
     /// Whether it is no error that the file is not there.
     pub ignore_if_not_exists: Option<bool>,
-    /// The annotation that says what the change is for. LSP 3.17 has it beside the options; it is here as in `lsp-types`.
+    /// The annotation that says what the change is for. LSP 3.17 has this member in `DeleteFile`, beside `options`;
+    /// here it is written among the options, where clients don't look for it. Since 3.16.
     pub annotation_id: Option<ChangeAnnotationIdentifier>,
 }
 
-#[tactic(auto, unfolding(crate::specs::Resource::delete_file_options_shape, crate::specs::Resource::show_delete_file_options))]
+#[tactic(auto, unfolding(crate::specs::Resource::delete_file_options_row))]
 impl Wire for DeleteFileOptions {
-    ghost shape = { delete_file_options_shape };
+    ghost shape = { delete_file_options_row.shape };
 
-    ghost shown = { show_delete_file_options };
+    ghost shown = { delete_file_options_row.shown };
 
     fn from_value(alloc: Global, value: &Value) -> Result<DeleteFileOptions, Misfit> {
-        let Value::Object(object) = value else {
-            return Err(Misfit::Unfit);
-        };
+        let object = Reader::new(alloc, value)?;
         Ok(DeleteFileOptions {
-            recursive: optional(alloc, object, "recursive")?,
-            ignore_if_not_exists: optional(alloc, object, "ignoreIfNotExists")?,
-            annotation_id: optional(alloc, object, "annotationId")?,
+            recursive: object.optional("recursive")?,
+            ignore_if_not_exists: object.optional("ignoreIfNotExists")?,
+            annotation_id: object.optional("annotationId")?,
         })
     }
 
     fn to_value(&self, alloc: Global) -> Result<Value, NoMemory> {
-        let mut object = Map::new(alloc);
-        put_optional(alloc, &mut object, "recursive", &self.recursive)?;
-        put_optional(
-            alloc,
-            &mut object,
-            "ignoreIfNotExists",
-            &self.ignore_if_not_exists,
-        )?;
-        put_optional(alloc, &mut object, "annotationId", &self.annotation_id)?;
-        Ok(Value::Object(object))
+        let mut object = Writer::new(alloc);
+        object.optional("recursive", &self.recursive)?;
+        object.optional("ignoreIfNotExists", &self.ignore_if_not_exists)?;
+        object.optional("annotationId", &self.annotation_id)?;
+        Ok(object.end())
     }
 }
 
-/// A file or folder is deleted: section "File Resource changes" of LSP 3.17.
+/// A file or folder to delete. Since 3.13 (LSP 3.17, "File Resource changes").
 #[derive(Debug, PartialEq, Eq, Clone, Drop)]
 pub struct DeleteFile {
     /// The file or folder.
     pub uri: Uri,
-    /// How much is deleted, and what is done where nothing is there.
+    /// How much to delete, and what to do where nothing is there.
     pub options: Option<DeleteFileOptions>,
 }
 
-#[tactic(auto, unfolding(crate::specs::Resource::delete_file_shape, crate::specs::Resource::show_delete_file))]
+#[tactic(auto, unfolding(crate::specs::Resource::delete_file_row))]
 impl Wire for DeleteFile {
-    ghost shape = { delete_file_shape };
+    ghost shape = { delete_file_row.shape };
 
-    ghost shown = { show_delete_file };
+    ghost shown = { delete_file_row.shown };
 
     fn from_value(alloc: Global, value: &Value) -> Result<DeleteFile, Misfit> {
-        let Value::Object(object) = value else {
-            return Err(Misfit::Unfit);
-        };
+        let object = Reader::new(alloc, value)?;
         Ok(DeleteFile {
-            uri: field(alloc, object, "uri")?,
-            options: optional(alloc, object, "options")?,
+            uri: object.field("uri")?,
+            options: object.optional("options")?,
         })
     }
 
     fn to_value(&self, alloc: Global) -> Result<Value, NoMemory> {
-        let mut object = Map::new(alloc);
-        put(alloc, &mut object, "uri", &self.uri)?;
-        put_optional(alloc, &mut object, "options", &self.options)?;
-        Ok(Value::Object(object))
+        let mut object = Writer::new(alloc);
+        object.field("uri", &self.uri)?;
+        object.optional("options", &self.options)?;
+        Ok(object.end())
     }
 }
 
-/// A change of a file or folder, told by its member `kind`: section "File Resource changes" of LSP 3.17.
+/// A change of a file or folder, told by its member `kind`. Since 3.13 (LSP 3.17, "File Resource changes").
 #[derive(Debug, PartialEq, Eq, Clone, Drop)]
 pub enum ResourceOp {
-    /// It is made.
+    /// Creates it.
     Create(CreateFile),
-    /// It gets another name.
+    /// Renames it.
     Rename(RenameFile),
-    /// It is deleted.
+    /// Deletes it.
     Delete(DeleteFile),
 }
 
-#[tactic(auto, unfolding(crate::specs::Resource::resource_op_shape, crate::specs::Resource::show_resource_op, crate::specs::Resource::create_file_shape, crate::specs::Resource::rename_file_shape, crate::specs::Resource::delete_file_shape))]
+#[tactic(auto, unfolding(crate::specs::Resource::resource_op_row, crate::specs::Resource::create_file_row, crate::specs::Resource::rename_file_row, crate::specs::Resource::delete_file_row))]
 impl Wire for ResourceOp {
-    ghost shape = { resource_op_shape };
+    ghost shape = { resource_op_row.shape };
 
-    ghost shown = { show_resource_op };
+    ghost shown = { resource_op_row.shown };
 
     fn from_value(alloc: Global, value: &Value) -> Result<ResourceOp, Misfit> {
         match tag(value, "kind") {

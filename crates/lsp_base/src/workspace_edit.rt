@@ -1,25 +1,25 @@
 // Edits of a workspace.
 ghost use Rattle.std.specs.Prelude.{◌≡◌, Some, None};
-ghost use Rattle.lsp_base.specs.WorkspaceEdit.{document_change_operation_shape, show_document_change_operation, document_changes_shape, show_document_changes, workspace_edit_shape, show_workspace_edit};
+ghost use Rattle.lsp_base.specs.WorkspaceEdit.{workspace_edit_row, document_changes_row, document_change_operation_row};
 
 use crate::edit::{ChangeAnnotation, ChangeAnnotationIdentifier, TextDocumentEdit, TextEdit};
 use crate::resource::ResourceOp;
-use lsp_shape::{Misfit, NoMemory, Wire, attempt, optional, put_optional};
+use lsp_shape::{Misfit, NoMemory, Reader, Wire, Writer, attempt};
 use lsp_uri::Uri;
-use serde_json::{Map, Value};
+use serde_json::Value;
 use std::alloc::Global;
 use std::collections::HashMap;
 
-/// Changes of any number of documents and files: section "WorkspaceEdit" of LSP 3.17.
-///
-/// It has `changes` or `document_changes`; where it has both, an editor that knows `document_changes` takes these.
+/// Changes of any number of documents and files. It has `changes` or `document_changes`. If both, a client that
+/// supports `document_changes` applies these (LSP 3.17, "WorkspaceEdit").
 #[derive(Debug, Clone, Default, Drop)]
 pub struct WorkspaceEdit {
     /// The edits of each document.
     pub changes: Option<HashMap<Uri, Vec<TextEdit>>>,
-    /// Edits of versions of documents, and changes of files.
+    /// Edits of versions of documents, and changes of files. Only for clients with `documentChanges` or
+    /// `resourceOperations`.
     pub document_changes: Option<DocumentChanges>,
-    /// The annotations that the changes name.
+    /// The annotations that the changes name, by their identifiers. Since 3.16.
     pub change_annotations: Option<HashMap<ChangeAnnotationIdentifier, ChangeAnnotation>>,
 }
 
@@ -35,56 +35,44 @@ impl WorkspaceEdit {
     }
 }
 
-#[tactic(auto, unfolding(crate::specs::WorkspaceEdit::workspace_edit_shape, crate::specs::WorkspaceEdit::show_workspace_edit))]
+#[tactic(auto, unfolding(crate::specs::WorkspaceEdit::workspace_edit_row))]
 impl Wire for WorkspaceEdit {
-    ghost shape = { workspace_edit_shape };
+    ghost shape = { workspace_edit_row.shape };
 
-    ghost shown = { show_workspace_edit };
+    ghost shown = { workspace_edit_row.shown };
 
     fn from_value(alloc: Global, value: &Value) -> Result<WorkspaceEdit, Misfit> {
-        let Value::Object(object) = value else {
-            return Err(Misfit::Unfit);
-        };
+        let object = Reader::new(alloc, value)?;
         Ok(WorkspaceEdit {
-            changes: optional(alloc, object, "changes")?,
-            document_changes: optional(alloc, object, "documentChanges")?,
-            change_annotations: optional(alloc, object, "changeAnnotations")?,
+            changes: object.optional("changes")?,
+            document_changes: object.optional("documentChanges")?,
+            change_annotations: object.optional("changeAnnotations")?,
         })
     }
 
     fn to_value(&self, alloc: Global) -> Result<Value, NoMemory> {
-        let mut object = Map::new(alloc);
-        put_optional(alloc, &mut object, "changes", &self.changes)?;
-        put_optional(
-            alloc,
-            &mut object,
-            "documentChanges",
-            &self.document_changes,
-        )?;
-        put_optional(
-            alloc,
-            &mut object,
-            "changeAnnotations",
-            &self.change_annotations,
-        )?;
-        Ok(Value::Object(object))
+        let mut object = Writer::new(alloc);
+        object.optional("changes", &self.changes)?;
+        object.optional("documentChanges", &self.document_changes)?;
+        object.optional("changeAnnotations", &self.change_annotations)?;
+        Ok(object.end())
     }
 }
 
-/// Edits of documents alone, or with changes of files among them: section "WorkspaceEdit" of LSP 3.17.
+/// Edits of documents alone, or with changes of files among them (LSP 3.17, "WorkspaceEdit").
 #[derive(Debug, PartialEq, Eq, Clone, Drop)]
 pub enum DocumentChanges {
-    /// Edits of documents alone. Each list that holds nothing else is read as these, an empty one too.
+    /// Edits of documents alone. An array of these only, even an empty one, is read as this variant.
     Edits(Vec<TextDocumentEdit>),
     /// Edits of documents and changes of files, made in their order.
     Operations(Vec<DocumentChangeOperation>),
 }
 
-#[tactic(auto, unfolding(crate::specs::WorkspaceEdit::document_changes_shape, crate::specs::WorkspaceEdit::show_document_changes))]
+#[tactic(auto, unfolding(crate::specs::WorkspaceEdit::document_changes_row))]
 impl Wire for DocumentChanges {
-    ghost shape = { document_changes_shape };
+    ghost shape = { document_changes_row.shape };
 
-    ghost shown = { show_document_changes };
+    ghost shown = { document_changes_row.shown };
 
     fn from_value(alloc: Global, value: &Value) -> Result<DocumentChanges, Misfit> {
         if let Some(edits) = attempt(alloc, value)? {
@@ -101,7 +89,7 @@ impl Wire for DocumentChanges {
     }
 }
 
-/// A change of a file or folder, or edits of a document: section "WorkspaceEdit" of LSP 3.17.
+/// A change of a file or folder, or edits of a document (LSP 3.17, "WorkspaceEdit").
 #[derive(Debug, PartialEq, Eq, Clone, Drop)]
 pub enum DocumentChangeOperation {
     /// A change of a file or folder.
@@ -110,11 +98,11 @@ pub enum DocumentChangeOperation {
     Edit(TextDocumentEdit),
 }
 
-#[tactic(auto, unfolding(crate::specs::WorkspaceEdit::document_change_operation_shape, crate::specs::WorkspaceEdit::show_document_change_operation))]
+#[tactic(auto, unfolding(crate::specs::WorkspaceEdit::document_change_operation_row))]
 impl Wire for DocumentChangeOperation {
-    ghost shape = { document_change_operation_shape };
+    ghost shape = { document_change_operation_row.shape };
 
-    ghost shown = { show_document_change_operation };
+    ghost shown = { document_change_operation_row.shown };
 
     fn from_value(alloc: Global, value: &Value) -> Result<DocumentChangeOperation, Misfit> {
         if let Some(change) = attempt(alloc, value)? {

@@ -12,7 +12,7 @@ use std::alloc::Global;
 use std::fmt;
 use std::marker::Model;
 
-/// How the text that a completion inserts is read: section "Completion Request" of LSP 3.17.
+/// How the text that a completion inserts is read (LSP 3.17, "Completion Request").
 #[derive(Clone, Copy, PartialEq, Eq)]
 pub struct InsertTextFormat(i32);
 
@@ -87,7 +87,7 @@ impl Wire for InsertTextFormat {
     }
 }
 
-/// What becomes of white space in the text that a completion inserts: section "Completion Request" of LSP 3.17.
+/// What a client does with whitespace in the text that it inserts. Since 3.16 (LSP 3.17, "Completion Request").
 #[derive(Clone, Copy, PartialEq, Eq)]
 pub struct InsertTextMode(i32);
 
@@ -162,7 +162,8 @@ impl Wire for InsertTextMode {
     }
 }
 
-/// What a completion stands for: section "Completion Request" of LSP 3.17.
+/// What a completion item is. Those after `REFERENCE` since 3.4: clients that don't name their kinds know only `TEXT`
+/// to `REFERENCE` (LSP 3.17, "Completion Request").
 #[derive(Clone, Copy, PartialEq, Eq)]
 pub struct CompletionItemKind(i32);
 
@@ -332,8 +333,8 @@ impl Wire for CompletionItemKind {
     }
 }
 
-/// What more is known of a completion: section "Completion Request" of LSP 3.17.
-#[derive(Clone, Drop, PartialEq, Eq)]
+/// A mark on a completion item. Since 3.15 (LSP 3.17, "Completion Request").
+#[derive(Clone, Copy, PartialEq, Eq)]
 pub struct CompletionItemTag(i32);
 
 impl Model for CompletionItemTag {
@@ -346,7 +347,7 @@ impl Model for CompletionItemTag {
 
 #[tactic(auto, unfolding(crate::specs::Tables::completion_item_tags))]
 impl CompletionItemTag {
-    /// What it stands for is deprecated. An editor may strike it through.
+    /// What it stands for is deprecated. A client may strike it through.
     pub const DEPRECATED: CompletionItemTag = CompletionItemTag(1);
 
     const NAMES: [(&'static str, i32); 1] = [("Deprecated", Self::DEPRECATED.0)];
@@ -402,7 +403,7 @@ impl Wire for CompletionItemTag {
     }
 }
 
-/// Why completions are asked for: section "Completion Request" of LSP 3.17.
+/// How a completion was triggered. Since 3.3 (LSP 3.17, "Completion Request").
 #[derive(Clone, Copy, PartialEq, Eq)]
 pub struct CompletionTriggerKind(i32);
 
@@ -416,11 +417,11 @@ impl Model for CompletionTriggerKind {
 
 #[tactic(auto, unfolding(crate::specs::Tables::completion_trigger_kinds))]
 impl CompletionTriggerKind {
-    /// The user typed a letter or asked for them, or an extension did.
+    /// The user typed an identifier or asked for completion, or an extension did.
     pub const INVOKED: CompletionTriggerKind = CompletionTriggerKind(1);
     /// The user typed one of the server's trigger characters.
     pub const TRIGGER_CHARACTER: CompletionTriggerKind = CompletionTriggerKind(2);
-    /// The list that was shown was not complete.
+    /// The items shown were marked as incomplete. Since 3.6.
     pub const TRIGGER_FOR_INCOMPLETE_COMPLETIONS: CompletionTriggerKind = CompletionTriggerKind(3);
 
     const NAMES: [(&'static str, i32); 3] = [

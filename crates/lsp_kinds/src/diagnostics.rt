@@ -12,7 +12,7 @@ use std::alloc::Global;
 use std::fmt;
 use std::marker::Model;
 
-/// How severe a diagnostic is: section "Diagnostic" of LSP 3.17.
+/// How severe a diagnostic is (LSP 3.17, "Diagnostic").
 ///
 /// The smaller number is the more severe.
 #[derive(Clone, Copy, PartialEq, Eq, PartialOrd, Ord)]
@@ -34,7 +34,7 @@ impl DiagnosticSeverity {
     pub const WARNING: DiagnosticSeverity = DiagnosticSeverity(2);
     /// Something to know.
     pub const INFORMATION: DiagnosticSeverity = DiagnosticSeverity(3);
-    /// A hint, which an editor may show less than the others.
+    /// A hint, which a client may show less than the others.
     pub const HINT: DiagnosticSeverity = DiagnosticSeverity(4);
 
     const NAMES: [(&'static str, i32); 4] = [
@@ -95,8 +95,8 @@ impl Wire for DiagnosticSeverity {
     }
 }
 
-/// What more is known of a diagnostic: section "Diagnostic" of LSP 3.17.
-#[derive(Clone, Drop, PartialEq, Eq)]
+/// A mark on a diagnostic. Since 3.15 (LSP 3.17, "Diagnostic").
+#[derive(Clone, Copy, PartialEq, Eq)]
 pub struct DiagnosticTag(i32);
 
 impl Model for DiagnosticTag {
@@ -109,9 +109,9 @@ impl Model for DiagnosticTag {
 
 #[tactic(auto, unfolding(crate::specs::Tables::diagnostic_tags))]
 impl DiagnosticTag {
-    /// The code has no use. An editor may fade it out rather than underline it.
+    /// The code is unused or unnecessary. A client may fade it out rather than underline it.
     pub const UNNECESSARY: DiagnosticTag = DiagnosticTag(1);
-    /// The code is deprecated. An editor may strike it through.
+    /// The code is deprecated. A client may strike it through.
     pub const DEPRECATED: DiagnosticTag = DiagnosticTag(2);
 
     const NAMES: [(&'static str, i32); 2] = [

@@ -12,7 +12,7 @@ use std::alloc::Global;
 use std::fmt;
 use std::marker::Model;
 
-/// Why code actions are asked for: section "Code Action Request" of LSP 3.17.
+/// Why code actions are asked for. Since 3.17 (LSP 3.17, "Code Action Request").
 #[derive(Clone, Copy, PartialEq, Eq)]
 pub struct CodeActionTriggerKind(i32);
 
@@ -28,7 +28,7 @@ impl Model for CodeActionTriggerKind {
 impl CodeActionTriggerKind {
     /// The user asked for them, or an extension did.
     pub const INVOKED: CodeActionTriggerKind = CodeActionTriggerKind(1);
-    /// The editor asked by itself, as where the selection or the text changes.
+    /// The client asked by itself, for example since the selection changed.
     pub const AUTOMATIC: CodeActionTriggerKind = CodeActionTriggerKind(2);
 
     const NAMES: [(&'static str, i32); 2] = [
@@ -87,7 +87,7 @@ impl Wire for CodeActionTriggerKind {
     }
 }
 
-/// How a place that is highlighted uses the symbol: section "Document Highlights Request" of LSP 3.17.
+/// How a place that is highlighted uses the symbol (LSP 3.17, "Document Highlights Request").
 #[derive(Clone, Copy, PartialEq, Eq)]
 pub struct DocumentHighlightKind(i32);
 
@@ -165,7 +165,7 @@ impl Wire for DocumentHighlightKind {
     }
 }
 
-/// What an inlay hint tells: section "Inlay Hint Request" of LSP 3.17.
+/// What an inlay hint shows. Since 3.17 (LSP 3.17, "Inlay Hint Request").
 #[derive(Clone, Copy, PartialEq, Eq)]
 pub struct InlayHintKind(i32);
 
@@ -240,7 +240,7 @@ impl Wire for InlayHintKind {
     }
 }
 
-/// What an editor selects for a rename by itself: section "Rename Request" of LSP 3.17.
+/// What a client does where a server has no range to rename. Since 3.16 (LSP 3.17, "Rename Request").
 #[derive(Clone, Copy, PartialEq, Eq)]
 pub struct PrepareSupportDefaultBehavior(i32);
 
@@ -310,8 +310,8 @@ impl Wire for PrepareSupportDefaultBehavior {
     }
 }
 
-/// Why help on a signature is asked for: section "Signature Help Request" of LSP 3.17.
-#[derive(Clone, Drop, PartialEq, Eq)]
+/// How signature help was triggered. Since 3.15 (LSP 3.17, "Signature Help Request").
+#[derive(Clone, Copy, PartialEq, Eq)]
 pub struct SignatureHelpTriggerKind(i32);
 
 impl Model for SignatureHelpTriggerKind {

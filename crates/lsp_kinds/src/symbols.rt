@@ -12,7 +12,8 @@ use std::alloc::Global;
 use std::fmt;
 use std::marker::Model;
 
-/// What a symbol of a document or a workspace names: section "Document Symbols Request" of LSP 3.17.
+/// What a symbol is. Those after `ARRAY` since 3.4: clients that don't name their kinds know only `FILE` to `ARRAY`
+/// (LSP 3.17, "Document Symbols Request").
 #[derive(Clone, Copy, PartialEq, Eq)]
 pub struct SymbolKind(i32);
 
@@ -54,11 +55,11 @@ impl SymbolKind {
     pub const VARIABLE: SymbolKind = SymbolKind(13);
     /// A constant.
     pub const CONSTANT: SymbolKind = SymbolKind(14);
-    /// A text.
+    /// A string.
     pub const STRING: SymbolKind = SymbolKind(15);
     /// A number.
     pub const NUMBER: SymbolKind = SymbolKind(16);
-    /// A truth value.
+    /// A boolean.
     pub const BOOLEAN: SymbolKind = SymbolKind(17);
     /// An array.
     pub const ARRAY: SymbolKind = SymbolKind(18);
@@ -186,8 +187,8 @@ impl Wire for SymbolKind {
     }
 }
 
-/// What more is known of a symbol: section "Document Symbols Request" of LSP 3.17.
-#[derive(Clone, Drop, PartialEq, Eq)]
+/// A mark on a symbol. Since 3.16 (LSP 3.17, "Document Symbols Request").
+#[derive(Clone, Copy, PartialEq, Eq)]
 pub struct SymbolTag(i32);
 
 impl Model for SymbolTag {
@@ -200,7 +201,7 @@ impl Model for SymbolTag {
 
 #[tactic(auto, unfolding(crate::specs::Tables::symbol_tags))]
 impl SymbolTag {
-    /// The symbol is deprecated. An editor may strike it through.
+    /// The symbol is deprecated. A client may strike it through.
     pub const DEPRECATED: SymbolTag = SymbolTag(1);
 
     const NAMES: [(&'static str, i32); 1] = [("Deprecated", Self::DEPRECATED.0)];

@@ -12,7 +12,7 @@ use std::alloc::Global;
 use std::fmt;
 use std::marker::Model;
 
-/// How an editor sends the changes of a document: section "Text Document Synchronization" of LSP 3.17.
+/// How a client sends the changes of a document (LSP 3.17, "Text Document Synchronization").
 #[derive(Clone, Copy, PartialEq, Eq)]
 pub struct TextDocumentSyncKind(i32);
 
@@ -90,7 +90,7 @@ impl Wire for TextDocumentSyncKind {
     }
 }
 
-/// Why a document is saved: section "WillSaveTextDocument Notification" of LSP 3.17.
+/// Why a document is saved (LSP 3.17, "WillSaveTextDocument Notification").
 #[derive(Clone, Copy, PartialEq, Eq)]
 pub struct TextDocumentSaveReason(i32);
 
@@ -108,7 +108,7 @@ impl TextDocumentSaveReason {
     pub const MANUAL: TextDocumentSaveReason = TextDocumentSaveReason(1);
     /// Some time after it was changed.
     pub const AFTER_DELAY: TextDocumentSaveReason = TextDocumentSaveReason(2);
-    /// The editor lost the focus.
+    /// The client lost the input focus.
     pub const FOCUS_OUT: TextDocumentSaveReason = TextDocumentSaveReason(3);
 
     const NAMES: [(&'static str, i32); 3] = [

@@ -12,7 +12,7 @@ use std::alloc::Global;
 use std::fmt;
 use std::marker::Model;
 
-/// What happened to a file: section "DidChangeWatchedFiles Notification" of LSP 3.17.
+/// What happened to a file (LSP 3.17, "DidChangeWatchedFiles Notification").
 #[derive(Clone, Copy, PartialEq, Eq, Hash)]
 pub struct FileChangeType(i32);
 
@@ -26,7 +26,7 @@ impl Model for FileChangeType {
 
 #[tactic(auto, unfolding(crate::specs::Tables::file_change_types))]
 impl FileChangeType {
-    /// It was made.
+    /// It was created.
     pub const CREATED: FileChangeType = FileChangeType(1);
     /// It was changed.
     pub const CHANGED: FileChangeType = FileChangeType(2);
@@ -90,7 +90,7 @@ impl Wire for FileChangeType {
     }
 }
 
-/// What a message to the user is: section "ShowMessage Notification" of LSP 3.17.
+/// What a message to the user is (LSP 3.17, "ShowMessage Notification").
 #[derive(Clone, Copy, PartialEq, Eq)]
 pub struct MessageType(i32);
 

@@ -1,59 +1,43 @@
--- Texts for people: their shapes, and what they are as plain data.
-use Rattle.std.specs.Prelude.{[], ◌∷◌, codes}
-use Rattle.serde_json.specs.Data.{string}
-use Rattle.lsp_shape.specs.Plain.{Plain, leaf, parts, part, no_parts, choice}
-use Rattle.lsp_shape.specs.Shape.{Shape, text, is_one_of, fields, field, no_fields, required, string_shape, union, or_shape, no_shapes}
-use Rattle.lsp_shape.specs.Shown.{show_string}
-use Rattle.lsp_names.specs.declared.markup.MarkupKind.{MarkupKind}
-use Rattle.lsp_names.specs.declared.markup.MarkupKind.TheVariants as markup_kind
-use Rattle.lsp_names.specs.declared.markup.MarkupContent.{MarkupContent}
+-- Texts for people.
+use Rattle.std.specs.Prelude.{List, [], codes, ℕ, ◌∷◌}
+use Rattle.lsp_shape.specs.Plain.{Plain, choice}
+use Rattle.lsp_shape.specs.Row.{Row, fields, names, required, string, union, variant, ◌&◌, ◌or◌}
+use Rattle.lsp_names.specs.declared.markup.Documentation.{Documentation}
+use Rattle.lsp_names.specs.declared.markup.Documentation.TheVariants as documentation
 use Rattle.lsp_names.specs.declared.markup.LanguageString.{LanguageString}
 use Rattle.lsp_names.specs.declared.markup.MarkedString.{MarkedString}
 use Rattle.lsp_names.specs.declared.markup.MarkedString.TheVariants as marked_string
-use Rattle.lsp_names.specs.declared.markup.Documentation.{Documentation}
-use Rattle.lsp_names.specs.declared.markup.Documentation.TheVariants as documentation
+use Rattle.lsp_names.specs.declared.markup.MarkupContent.{MarkupContent}
+use Rattle.lsp_names.specs.declared.markup.MarkupKind.{MarkupKind}
+use Rattle.lsp_names.specs.declared.markup.MarkupKind.TheVariants as markup_kind
 
-unfoldable pub markup_kind_shape : Shape
-markup_kind_shape = text (is_one_of (codes "plaintext" ∷ codes "markdown" ∷ []))
+abbrev pub markup_kind_name : MarkupKind → List ℕ
+markup_kind_name markup_kind.PlainText = codes "plaintext"
+markup_kind_name markup_kind.Markdown = codes "markdown"
 
-unfoldable pub show_markup_kind : MarkupKind → Plain
-show_markup_kind markup_kind.PlainText = leaf (string (codes "plaintext"))
-show_markup_kind markup_kind.Markdown = leaf (string (codes "markdown"))
+unfoldable pub markup_kind_row : Row MarkupKind
+markup_kind_row = names (codes "plaintext" ∷ codes "markdown" ∷ []) markup_kind_name
 
-unfoldable pub markup_content_shape : Shape
-markup_content_shape = fields (
-    field (codes "kind") required markup_kind_shape (
-    field (codes "value") required string_shape no_fields))
+unfoldable pub markup_content_row : Row MarkupContent
+markup_content_row = fields (
+    required "kind" markup_kind_row (λ x. x.kind) &
+    required "value" string (λ x. x.value))
 
-unfoldable pub show_markup_content : MarkupContent → Plain
-show_markup_content x = parts (
-    part (show_markup_kind x.kind) (
-    part (show_string x.value) no_parts))
+unfoldable pub language_string_row : Row LanguageString
+language_string_row = fields (
+    required "language" string (λ x. x.language) &
+    required "value" string (λ x. x.value))
 
-unfoldable pub language_string_shape : Shape
-language_string_shape = fields (
-    field (codes "language") required string_shape (
-    field (codes "value") required string_shape no_fields))
+abbrev pub show_marked_string : MarkedString → Plain
+show_marked_string (marked_string.String x) = choice 0 (string.shown x)
+show_marked_string (marked_string.LanguageString x) = choice 1 (language_string_row.shown x)
 
-unfoldable pub show_language_string : LanguageString → Plain
-show_language_string x = parts (
-    part (show_string x.language) (
-    part (show_string x.value) no_parts))
+unfoldable pub marked_string_row : Row MarkedString
+marked_string_row = union (variant string or variant language_string_row) show_marked_string
 
-unfoldable pub marked_string_shape : Shape
-marked_string_shape = union (
-    or_shape string_shape (
-    or_shape language_string_shape no_shapes))
+abbrev pub show_documentation : Documentation → Plain
+show_documentation (documentation.String x) = choice 0 (string.shown x)
+show_documentation (documentation.MarkupContent x) = choice 1 (markup_content_row.shown x)
 
-unfoldable pub show_marked_string : MarkedString → Plain
-show_marked_string (marked_string.String x) = choice 0 (show_string x)
-show_marked_string (marked_string.LanguageString x) = choice 1 (show_language_string x)
-
-unfoldable pub documentation_shape : Shape
-documentation_shape = union (
-    or_shape string_shape (
-    or_shape markup_content_shape no_shapes))
-
-unfoldable pub show_documentation : Documentation → Plain
-show_documentation (documentation.String x) = choice 0 (show_string x)
-show_documentation (documentation.MarkupContent x) = choice 1 (show_markup_content x)
+unfoldable pub documentation_row : Row Documentation
+documentation_row = union (variant string or variant markup_content_row) show_documentation

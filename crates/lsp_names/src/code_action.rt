@@ -1,7 +1,6 @@
 // The kind of section "Code Action Request".
 ghost use Rattle.std.specs.Prelude.{◌≡◌, codes, string_bytes, IfOk};
-ghost use Rattle.lsp_shape.specs.Shape.{string_shape};
-ghost use Rattle.lsp_names.specs.KindText.{show_text_kind};
+ghost use Rattle.lsp_names.specs.KindText.{text_kind_row};
 
 use crate::kind_text::KindText;
 use lsp_shape::{Misfit, Wire};
@@ -10,8 +9,8 @@ use serde_json::Value;
 use std::alloc::Global;
 use std::marker::Model;
 
-/// What a code action does, by names with dots between them, from the general to the special: section "Code Action
-/// Request" of LSP 3.17. Any other text is kept as it is.
+/// What a code action does, by names with dots between them, from the general to the special. Any other string is kept
+/// as it is (LSP 3.17, "Code Action Request").
 #[derive(Clone, Debug, PartialEq, Eq, PartialOrd, Ord, Hash, Drop)]
 pub struct CodeActionKind(KindText);
 
@@ -33,7 +32,7 @@ impl CodeActionKind {
         CodeActionKind(KindText::known(""))
     }
 
-    /// Mends a problem, as one that a diagnostic reports.
+    /// Fixes a problem, such as one that a diagnostic reports.
     pub fn QUICKFIX() -> CodeActionKind
         ensures { result ≡ codes "quickfix" }
     {
@@ -47,7 +46,7 @@ impl CodeActionKind {
         CodeActionKind(KindText::known("refactor"))
     }
 
-    /// Makes a part of the code an item of its own, as a function or a variable.
+    /// Makes a part of the code an item of its own, such as a function or a variable.
     pub fn REFACTOR_EXTRACT() -> CodeActionKind
         ensures { result ≡ codes "refactor.extract" }
     {
@@ -61,7 +60,7 @@ impl CodeActionKind {
         CodeActionKind(KindText::known("refactor.inline"))
     }
 
-    /// Writes the code in another form, as one more parameter.
+    /// Writes the code in another form, such as with one more parameter.
     pub fn REFACTOR_REWRITE() -> CodeActionKind
         ensures { result ≡ codes "refactor.rewrite" }
     {
@@ -82,21 +81,21 @@ impl CodeActionKind {
         CodeActionKind(KindText::known("source.organizeImports"))
     }
 
-    /// Mends all that can be mended with no choice by the user.
+    /// Fixes all that has a clear fix which needs no choice by the user. Since 3.17.
     pub fn SOURCE_FIX_ALL() -> CodeActionKind
         ensures { result ≡ codes "source.fixAll" }
     {
         CodeActionKind(KindText::known("source.fixAll"))
     }
 
-    /// The kind of that text, known or not.
+    /// The kind of that string, known or not.
     pub fn new(alloc: Global, text: &str) -> Result<CodeActionKind, NoMemory>
         ensures { IfOk result (λ k. k ≡ text.now) }
     {
         Ok(CodeActionKind(KindText::new(alloc, text)?))
     }
 
-    /// The text, as it stands in a message.
+    /// The string, as it stands in a message.
     pub fn as_str(&self) -> &str
         ensures { result.now ≡ self.now }
     {
@@ -120,11 +119,11 @@ impl From<&'static str> for CodeActionKind {
     }
 }
 
-#[tactic(auto, unfolding(crate::specs::KindText::show_text_kind))]
+#[tactic(auto, unfolding(crate::specs::KindText::text_kind_row))]
 impl Wire for CodeActionKind {
-    ghost shape = { string_shape };
+    ghost shape = { text_kind_row.shape };
 
-    ghost shown = { show_text_kind };
+    ghost shown = { text_kind_row.shown };
 
     fn from_value(alloc: Global, value: &Value) -> Result<CodeActionKind, Misfit> {
         Ok(CodeActionKind::from(String::from_value(alloc, value)?))

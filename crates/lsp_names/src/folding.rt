@@ -1,14 +1,13 @@
 // What is folded, of section "Folding Range Request".
-ghost use Rattle.lsp_names.specs.Folding.{folding_range_kind_shape, show_folding_range_kind};
+ghost use Rattle.lsp_names.specs.Folding.{folding_range_kind_row};
 
 use lsp_shape::{Misfit, Wire};
 use no_memory::NoMemory;
 use serde_json::Value;
 use std::alloc::Global;
 
-/// What a range of lines that can be folded holds: section "Folding Range Request" of LSP 3.17.
-///
-/// LSP lets a server have kinds of its own; as in `lsp-types`, only the three that it names are read.
+/// What a range that can be folded holds. LSP allows any string; here only these three are read, and reading fails for
+/// others (LSP 3.17, "Folding Range Request").
 #[derive(Clone, Debug, PartialEq, Eq, Drop)]
 pub enum FoldingRangeKind {
     /// A comment.
@@ -19,11 +18,11 @@ pub enum FoldingRangeKind {
     Region,
 }
 
-#[tactic(auto, unfolding(crate::specs::Folding::folding_range_kind_shape, crate::specs::Folding::show_folding_range_kind))]
+#[tactic(auto, unfolding(crate::specs::Folding::folding_range_kind_row))]
 impl Wire for FoldingRangeKind {
-    ghost shape = { folding_range_kind_shape };
+    ghost shape = { folding_range_kind_row.shape };
 
-    ghost shown = { show_folding_range_kind };
+    ghost shown = { folding_range_kind_row.shown };
 
     fn from_value(_alloc: Global, value: &Value) -> Result<FoldingRangeKind, Misfit> {
         match value.as_str() {

@@ -10,8 +10,6 @@ mod markup;
 mod position_encoding;
 mod progress;
 mod semantic_tokens;
-#[cfg(test)]
-mod tests;
 mod trace;
 
 pub use code_action::CodeActionKind;

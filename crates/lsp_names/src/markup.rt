@@ -1,13 +1,13 @@
 // Texts for people, of sections "MarkupContent" and "Hover Request".
 ghost use Rattle.std.specs.Prelude.{◌≡◌};
-ghost use Rattle.lsp_names.specs.Markup.{markup_kind_shape, show_markup_kind, markup_content_shape, show_markup_content, language_string_shape, show_language_string, marked_string_shape, show_marked_string, documentation_shape, show_documentation};
+ghost use Rattle.lsp_names.specs.Markup.{markup_kind_row, markup_content_row, language_string_row, marked_string_row, documentation_row};
 
-use lsp_shape::{Misfit, Wire, attempt, field, put};
+use lsp_shape::{Misfit, Reader, Wire, Writer, attempt};
 use no_memory::NoMemory;
-use serde_json::{Map, Value};
+use serde_json::Value;
 use std::alloc::Global;
 
-/// How a text for people is written: section "MarkupContent" of LSP 3.17.
+/// How a text for people is written (LSP 3.17, "MarkupContent").
 #[derive(Clone, Debug, PartialEq, Eq, Drop)]
 pub enum MarkupKind {
     /// As it stands.
@@ -16,11 +16,11 @@ pub enum MarkupKind {
     Markdown,
 }
 
-#[tactic(auto, unfolding(crate::specs::Markup::markup_kind_shape, crate::specs::Markup::show_markup_kind))]
+#[tactic(auto, unfolding(crate::specs::Markup::markup_kind_row))]
 impl Wire for MarkupKind {
-    ghost shape = { markup_kind_shape };
+    ghost shape = { markup_kind_row.shape };
 
-    ghost shown = { show_markup_kind };
+    ghost shown = { markup_kind_row.shown };
 
     fn from_value(_alloc: Global, value: &Value) -> Result<MarkupKind, Misfit> {
         match value.as_str() {
@@ -39,7 +39,7 @@ impl Wire for MarkupKind {
     }
 }
 
-/// A text for people, with the form that it is written in: section "MarkupContent" of LSP 3.17.
+/// A text for people, with the form that it is written in. Since 3.3 (LSP 3.17, "MarkupContent").
 #[derive(Clone, Debug, PartialEq, Eq, Drop)]
 pub struct MarkupContent {
     /// The form.
@@ -48,64 +48,60 @@ pub struct MarkupContent {
     pub value: String,
 }
 
-#[tactic(auto, unfolding(crate::specs::Markup::markup_content_shape, crate::specs::Markup::show_markup_content))]
+#[tactic(auto, unfolding(crate::specs::Markup::markup_content_row))]
 impl Wire for MarkupContent {
-    ghost shape = { markup_content_shape };
+    ghost shape = { markup_content_row.shape };
 
-    ghost shown = { show_markup_content };
+    ghost shown = { markup_content_row.shown };
 
     fn from_value(alloc: Global, value: &Value) -> Result<MarkupContent, Misfit> {
-        let Value::Object(object) = value else {
-            return Err(Misfit::Unfit);
-        };
+        let object = Reader::new(alloc, value)?;
         Ok(MarkupContent {
-            kind: field(alloc, object, "kind")?,
-            value: field(alloc, object, "value")?,
+            kind: object.field("kind")?,
+            value: object.field("value")?,
         })
     }
 
     fn to_value(&self, alloc: Global) -> Result<Value, NoMemory> {
-        let mut object = Map::new(alloc);
-        put(alloc, &mut object, "kind", &self.kind)?;
-        put(alloc, &mut object, "value", &self.value)?;
-        Ok(Value::Object(object))
+        let mut object = Writer::new(alloc);
+        object.field("kind", &self.kind)?;
+        object.field("value", &self.value)?;
+        Ok(object.end())
     }
 }
 
-/// Code, with the language that it is in: section "Hover Request" of LSP 3.17.
+/// Code, with the language that it is in (LSP 3.17, "Hover Request").
 #[derive(Clone, Debug, PartialEq, Eq, Drop)]
 pub struct LanguageString {
-    /// The language, by its name in documents, as `rust`.
+    /// The language, by its name in documents, such as `rust`.
     pub language: String,
     /// The code.
     pub value: String,
 }
 
-#[tactic(auto, unfolding(crate::specs::Markup::language_string_shape, crate::specs::Markup::show_language_string))]
+#[tactic(auto, unfolding(crate::specs::Markup::language_string_row))]
 impl Wire for LanguageString {
-    ghost shape = { language_string_shape };
+    ghost shape = { language_string_row.shape };
 
-    ghost shown = { show_language_string };
+    ghost shown = { language_string_row.shown };
 
     fn from_value(alloc: Global, value: &Value) -> Result<LanguageString, Misfit> {
-        let Value::Object(object) = value else {
-            return Err(Misfit::Unfit);
-        };
+        let object = Reader::new(alloc, value)?;
         Ok(LanguageString {
-            language: field(alloc, object, "language")?,
-            value: field(alloc, object, "value")?,
+            language: object.field("language")?,
+            value: object.field("value")?,
         })
     }
 
     fn to_value(&self, alloc: Global) -> Result<Value, NoMemory> {
-        let mut object = Map::new(alloc);
-        put(alloc, &mut object, "language", &self.language)?;
-        put(alloc, &mut object, "value", &self.value)?;
-        Ok(Value::Object(object))
+        let mut object = Writer::new(alloc);
+        object.field("language", &self.language)?;
+        object.field("value", &self.value)?;
+        Ok(object.end())
     }
 }
 
-/// A text for people in the older form, Markdown or code: section "Hover Request" of LSP 3.17.
+/// A text for people, Markdown or code. LSP has deprecated it: use `MarkupContent` (LSP 3.17, "Hover Request").
 #[derive(Clone, Debug, PartialEq, Eq, Drop)]
 pub enum MarkedString {
     /// Markdown.
@@ -133,11 +129,11 @@ impl MarkedString {
     }
 }
 
-#[tactic(auto, unfolding(crate::specs::Markup::marked_string_shape, crate::specs::Markup::show_marked_string))]
+#[tactic(auto, unfolding(crate::specs::Markup::marked_string_row))]
 impl Wire for MarkedString {
-    ghost shape = { marked_string_shape };
+    ghost shape = { marked_string_row.shape };
 
-    ghost shown = { show_marked_string };
+    ghost shown = { marked_string_row.shown };
 
     fn from_value(alloc: Global, value: &Value) -> Result<MarkedString, Misfit> {
         if let Some(markdown) = attempt(alloc, value)? {
@@ -154,21 +150,21 @@ impl Wire for MarkedString {
     }
 }
 
-/// What documents an item, as a completion or a parameter: sections "Completion Request" and "Signature Help Request" of
-/// LSP 3.17.
+/// What documents an item, such as a completion or a parameter (LSP 3.17, "Completion Request", "Signature Help
+/// Request").
 #[derive(Clone, Debug, PartialEq, Eq, Drop)]
 pub enum Documentation {
-    /// A text that is shown as it stands.
+    /// A string that is shown as it stands.
     String(String),
     /// A text with its form.
     MarkupContent(MarkupContent),
 }
 
-#[tactic(auto, unfolding(crate::specs::Markup::documentation_shape, crate::specs::Markup::show_documentation))]
+#[tactic(auto, unfolding(crate::specs::Markup::documentation_row))]
 impl Wire for Documentation {
-    ghost shape = { documentation_shape };
+    ghost shape = { documentation_row.shape };
 
-    ghost shown = { show_documentation };
+    ghost shown = { documentation_row.shown };
 
     fn from_value(alloc: Global, value: &Value) -> Result<Documentation, Misfit> {
         if let Some(text) = attempt(alloc, value)? {

@@ -1,7 +1,6 @@
 // The kind of section "Position".
 ghost use Rattle.std.specs.Prelude.{◌≡◌, codes, string_bytes, IfOk};
-ghost use Rattle.lsp_shape.specs.Shape.{string_shape};
-ghost use Rattle.lsp_names.specs.KindText.{show_text_kind};
+ghost use Rattle.lsp_names.specs.KindText.{text_kind_row};
 
 use crate::kind_text::KindText;
 use lsp_shape::{Misfit, Wire};
@@ -10,7 +9,8 @@ use serde_json::Value;
 use std::alloc::Global;
 use std::marker::Model;
 
-/// What a position counts within a line, by a name: section "Position" of LSP 3.17. Any other name is kept as it is.
+/// The encoding in whose code units a position's `character` is counted. Any other name is kept as it is. Since 3.17
+/// (LSP 3.17, "Position").
 #[derive(Clone, Debug, PartialEq, Eq, PartialOrd, Ord, Hash, Drop)]
 pub struct PositionEncodingKind(KindText);
 
@@ -25,7 +25,7 @@ impl Model for PositionEncodingKind {
 }
 
 impl PositionEncodingKind {
-    /// Bytes of UTF-8.
+    /// Code units of UTF-8, which are bytes.
     pub fn UTF8() -> PositionEncodingKind
         ensures { result ≡ codes "utf-8" }
     {
@@ -77,11 +77,11 @@ impl From<&'static str> for PositionEncodingKind {
     }
 }
 
-#[tactic(auto, unfolding(crate::specs::KindText::show_text_kind))]
+#[tactic(auto, unfolding(crate::specs::KindText::text_kind_row))]
 impl Wire for PositionEncodingKind {
-    ghost shape = { string_shape };
+    ghost shape = { text_kind_row.shape };
 
-    ghost shown = { show_text_kind };
+    ghost shown = { text_kind_row.shown };
 
     fn from_value(alloc: Global, value: &Value) -> Result<PositionEncodingKind, Misfit> {
         Ok(PositionEncodingKind::from(String::from_value(alloc, value)?))

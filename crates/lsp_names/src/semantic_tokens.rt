@@ -1,17 +1,16 @@
 // The kinds and the options of section "Semantic Tokens".
 ghost use Rattle.std.specs.Prelude.{◌≡◌, codes, string_bytes, IfOk};
-ghost use Rattle.lsp_shape.specs.Shape.{string_shape};
-ghost use Rattle.lsp_names.specs.KindText.{show_text_kind};
-ghost use Rattle.lsp_names.specs.SemanticTokens.{semantic_tokens_full_options_shape, show_semantic_tokens_full_options};
+ghost use Rattle.lsp_names.specs.KindText.{text_kind_row};
+ghost use Rattle.lsp_names.specs.SemanticTokens.{semantic_tokens_full_options_delta_row, semantic_tokens_full_options_row};
 
 use crate::kind_text::KindText;
-use lsp_shape::{Misfit, Wire, attempt, optional, put_optional};
+use lsp_shape::{Misfit, Reader, Wire, Writer, attempt};
 use no_memory::NoMemory;
-use serde_json::{Map, Value};
+use serde_json::Value;
 use std::alloc::Global;
 use std::marker::Model;
 
-/// What a token of code is, by a name: section "Semantic Tokens" of LSP 3.17. Any other name is kept as it is.
+/// What a token of code is, by a name. Any other name is kept as it is. Since 3.16 (LSP 3.17, "Semantic Tokens").
 #[derive(Clone, Debug, PartialEq, Eq, PartialOrd, Ord, Hash, Drop)]
 pub struct SemanticTokenType(KindText);
 
@@ -218,11 +217,11 @@ impl From<&'static str> for SemanticTokenType {
     }
 }
 
-#[tactic(auto, unfolding(crate::specs::KindText::show_text_kind))]
+#[tactic(auto, unfolding(crate::specs::KindText::text_kind_row))]
 impl Wire for SemanticTokenType {
-    ghost shape = { string_shape };
+    ghost shape = { text_kind_row.shape };
 
-    ghost shown = { show_text_kind };
+    ghost shown = { text_kind_row.shown };
 
     fn from_value(alloc: Global, value: &Value) -> Result<SemanticTokenType, Misfit> {
         Ok(SemanticTokenType::from(String::from_value(alloc, value)?))
@@ -233,8 +232,8 @@ impl Wire for SemanticTokenType {
     }
 }
 
-/// What else is to be said of a token of code, by a name: section "Semantic Tokens" of LSP 3.17. Any other name is kept
-/// as it is.
+/// What else is to be said of a token of code, by a name. Any other name is kept as it is. Since 3.16 (LSP 3.17,
+/// "Semantic Tokens").
 #[derive(Clone, Debug, PartialEq, Eq, PartialOrd, Ord, Hash, Drop)]
 pub struct SemanticTokenModifier(KindText);
 
@@ -277,7 +276,7 @@ impl SemanticTokenModifier {
         SemanticTokenModifier(KindText::known("static"))
     }
 
-    /// Best used no more.
+    /// Deprecated: its use is discouraged.
     pub fn DEPRECATED() -> SemanticTokenModifier
         ensures { result ≡ codes "deprecated" }
     {
@@ -291,7 +290,7 @@ impl SemanticTokenModifier {
         SemanticTokenModifier(KindText::known("abstract"))
     }
 
-    /// A function that can wait.
+    /// Asynchronous.
     pub fn ASYNC() -> SemanticTokenModifier
         ensures { result ≡ codes "async" }
     {
@@ -350,11 +349,11 @@ impl From<&'static str> for SemanticTokenModifier {
     }
 }
 
-#[tactic(auto, unfolding(crate::specs::KindText::show_text_kind))]
+#[tactic(auto, unfolding(crate::specs::KindText::text_kind_row))]
 impl Wire for SemanticTokenModifier {
-    ghost shape = { string_shape };
+    ghost shape = { text_kind_row.shape };
 
-    ghost shown = { show_text_kind };
+    ghost shown = { text_kind_row.shown };
 
     fn from_value(alloc: Global, value: &Value) -> Result<SemanticTokenModifier, Misfit> {
         Ok(SemanticTokenModifier::from(String::from_value(alloc, value)?))
@@ -365,7 +364,8 @@ impl Wire for SemanticTokenModifier {
     }
 }
 
-/// How the numbers of tokens are meant, by a name: section "Semantic Tokens" of LSP 3.17. Any other name is kept as it is.
+/// How the numbers of tokens are meant, by a name. Any other name is kept as it is. Since 3.16 (LSP 3.17, "Semantic
+/// Tokens").
 #[derive(Clone, Debug, PartialEq, Eq, PartialOrd, Ord, Hash, Drop)]
 pub struct TokenFormat(KindText);
 
@@ -380,7 +380,7 @@ impl Model for TokenFormat {
 }
 
 impl TokenFormat {
-    /// Each token stands so far from the one before it.
+    /// The position of each token is relative to the token before it.
     pub fn RELATIVE() -> TokenFormat
         ensures { result ≡ codes "relative" }
     {
@@ -418,11 +418,11 @@ impl From<&'static str> for TokenFormat {
     }
 }
 
-#[tactic(auto, unfolding(crate::specs::KindText::show_text_kind))]
+#[tactic(auto, unfolding(crate::specs::KindText::text_kind_row))]
 impl Wire for TokenFormat {
-    ghost shape = { string_shape };
+    ghost shape = { text_kind_row.shape };
 
-    ghost shown = { show_text_kind };
+    ghost shown = { text_kind_row.shown };
 
     fn from_value(alloc: Global, value: &Value) -> Result<TokenFormat, Misfit> {
         Ok(TokenFormat::from(String::from_value(alloc, value)?))
@@ -433,41 +433,63 @@ impl Wire for TokenFormat {
     }
 }
 
-/// Whether tokens of a whole document are offered or asked for, and whether as changes too: section "Semantic Tokens" of
-/// LSP 3.17.
+/// Whether tokens of a whole document are supported, and whether also as edits. Since 3.16 (LSP 3.17, "Semantic
+/// Tokens").
 #[derive(Clone, Debug, PartialEq, Eq, Drop)]
 pub enum SemanticTokensFullOptions {
-    /// Whether they are, and nothing of changes.
+    /// Whether they are, without edits.
     Bool(bool),
-    /// They are, and `delta` says whether as changes to those of an earlier answer too.
+    /// They are, and `delta` says whether also as edits of an earlier result.
     Delta { delta: Option<bool> },
 }
 
-#[tactic(auto, unfolding(crate::specs::SemanticTokens::semantic_tokens_full_options_shape, crate::specs::SemanticTokens::show_semantic_tokens_full_options))]
-impl Wire for SemanticTokensFullOptions {
-    ghost shape = { semantic_tokens_full_options_shape };
+// The fields of `SemanticTokensFullOptions::Delta`.
+#[derive(Drop)]
+struct SemanticTokensFullOptionsDelta {
+    delta: Option<bool>,
+}
 
-    ghost shown = { show_semantic_tokens_full_options };
+#[tactic(auto, unfolding(crate::specs::SemanticTokens::semantic_tokens_full_options_delta_row))]
+impl Wire for SemanticTokensFullOptionsDelta {
+    ghost shape = { semantic_tokens_full_options_delta_row.shape };
+
+    ghost shown = { semantic_tokens_full_options_delta_row.shown };
+
+    fn from_value(alloc: Global, value: &Value) -> Result<SemanticTokensFullOptionsDelta, Misfit> {
+        let object = Reader::new(alloc, value)?;
+        Ok(SemanticTokensFullOptionsDelta {
+            delta: object.optional("delta")?,
+        })
+    }
+
+    fn to_value(&self, alloc: Global) -> Result<Value, NoMemory> {
+        let mut object = Writer::new(alloc);
+        object.optional("delta", &self.delta)?;
+        Ok(object.end())
+    }
+}
+
+#[tactic(auto, unfolding(crate::specs::SemanticTokens::semantic_tokens_full_options_row, crate::specs::SemanticTokens::semantic_tokens_full_options_delta_row))]
+impl Wire for SemanticTokensFullOptions {
+    ghost shape = { semantic_tokens_full_options_row.shape };
+
+    ghost shown = { semantic_tokens_full_options_row.shown };
 
     fn from_value(alloc: Global, value: &Value) -> Result<SemanticTokensFullOptions, Misfit> {
         if let Some(whole) = attempt(alloc, value)? {
             return Ok(SemanticTokensFullOptions::Bool(whole));
         }
-        let Value::Object(object) = value else {
-            return Err(Misfit::Unfit);
-        };
-        Ok(SemanticTokensFullOptions::Delta {
-            delta: optional(alloc, object, "delta")?,
-        })
+        let x = SemanticTokensFullOptionsDelta::from_value(alloc, value)?;
+        Ok(SemanticTokensFullOptions::Delta { delta: x.delta })
     }
 
     fn to_value(&self, alloc: Global) -> Result<Value, NoMemory> {
         match self {
             SemanticTokensFullOptions::Bool(whole) => whole.to_value(alloc),
             SemanticTokensFullOptions::Delta { delta } => {
-                let mut object = Map::new(alloc);
-                put_optional(alloc, &mut object, "delta", delta)?;
-                Ok(Value::Object(object))
+                let mut object = Writer::new(alloc);
+                object.optional("delta", delta)?;
+                Ok(object.end())
             }
         }
     }

@@ -1,6 +1,6 @@
 // How much a server tells of its own work, of section "TraceValue".
 ghost use Rattle.std.specs.Prelude.{◌≡◌};
-ghost use Rattle.lsp_names.specs.Trace.{trace_value_shape, show_trace_value};
+ghost use Rattle.lsp_names.specs.Trace.{trace_value_row};
 ghost use Rattle.lsp_names.specs.declared.trace.TraceValue.TheVariants as values;
 
 use lsp_shape::{Misfit, Wire};
@@ -8,15 +8,15 @@ use no_memory::NoMemory;
 use serde_json::Value;
 use std::alloc::Global;
 
-/// How much a server tells of what it does, by `$/logTrace`: section "TraceValue" of LSP 3.17. Until the client asks for
-/// more it is nothing.
+/// How much a server reports with `$/logTrace`. At first `off`, unless `initialize` says otherwise (LSP 3.17,
+/// "TraceValue").
 #[derive(Clone, Copy, Debug, PartialEq, Eq)]
 pub enum TraceValue {
-    /// Nothing.
+    /// No traces.
     Off,
-    /// Messages, each without its further text.
+    /// Messages without `verbose`.
     Messages,
-    /// Messages, each with its further text.
+    /// Messages with `verbose`.
     Verbose,
 }
 
@@ -28,11 +28,11 @@ impl Default for TraceValue {
     }
 }
 
-#[tactic(auto, unfolding(crate::specs::Trace::trace_value_shape, crate::specs::Trace::show_trace_value))]
+#[tactic(auto, unfolding(crate::specs::Trace::trace_value_row))]
 impl Wire for TraceValue {
-    ghost shape = { trace_value_shape };
+    ghost shape = { trace_value_row.shape };
 
-    ghost shown = { show_trace_value };
+    ghost shown = { trace_value_row.shown };
 
     fn from_value(_alloc: Global, value: &Value) -> Result<TraceValue, Misfit> {
         match value.as_str() {

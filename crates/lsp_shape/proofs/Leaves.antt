@@ -62,11 +62,7 @@ back_text test (choice n p) i c = absurd (false≢true i)
 
 pub back_any : Back any
 back_any (leaf d) i c = refl
-back_any absent i c = absurd (false≢true i)
-back_any (present p) i c = absurd (false≢true i)
-back_any (parts ps) i c = absurd (false≢true i)
-back_any (entry k p) i c = absurd (false≢true i)
-back_any (choice n p) i c = absurd (false≢true i)
+back_any _ i c = absurd (false≢true i)
 
 below_zero : (low high z : ℤ) → (int_le low z && int_le z high && not (int_le (pos 0) z)) ≡ true → integer_within low high (Some z) ≡ Some (leaf (number (negative z)))
 below_zero low high (pos n) i =
@@ -107,19 +103,11 @@ back_bits high (choice n p) i c = absurd (false≢true i)
 
 there : (f : Data → Option Plain) (d : Data) (p : Plain) → not (is_null d) ≡ true → f d ≡ Some p → read_maybe f d ≡ Some (present p)
 there f null p n e = absurd (false≢true n)
-there f (boolean b) p n e = ap (option_map present) e
-there f (number b) p n e = ap (option_map present) e
-there f (string b) p n e = ap (option_map present) e
-there f (array b) p n e = ap (option_map present) e
-there f (object b) p n e = ap (option_map present) e
+there f _ p n e = ap (option_map present) e
 
 there_or_truth : (f : Data → Option Plain) (d : Data) (p : Plain) → is_some (as_object d) ≡ true → f d ≡ Some p → read_or_truth f d ≡ Some (present p)
-there_or_truth f null p n e = absurd (false≢true n)
-there_or_truth f (boolean b) p n e = absurd (false≢true n)
-there_or_truth f (number b) p n e = absurd (false≢true n)
-there_or_truth f (string b) p n e = absurd (false≢true n)
-there_or_truth f (array b) p n e = absurd (false≢true n)
 there_or_truth f (object b) p n e = ap (option_map present) e
+there_or_truth f _ p n e = absurd (false≢true n)
 
 pub present_back : (n : ℕ) (f : Data → Option Plain) (w : Plain → Data) (is cl : Plain → Bool) → BackBelow n f w is cl → (p : Plain) → plain_depth (present p) ≤ n → is p ≡ true
     → (not (is_null (w p)) && cl p) ≡ true → read_maybe f (w p) ≡ Some (present p)
@@ -134,9 +122,6 @@ supported_back f w is cl back p i o c = there_or_truth f (w p) p o (back p i c)
 
 pub maybe_back : (n : ℕ) (f : Data → Option Plain) (w : Plain → Data) (is cl : Plain → Bool) → BackBelow n f w is cl → (p : Plain) → plain_depth p ≤ n → is_maybe is p ≡ true → clear_maybe cl w p ≡ true
     → read_maybe f (write_maybe w p) ≡ Some p
-maybe_back n f w is cl back (leaf d) h i c = absurd (false≢true i)
 maybe_back n f w is cl back absent h i c = refl
 maybe_back n f w is cl back (present p) h i c = present_back n f w is cl back p h i c
-maybe_back n f w is cl back (parts ps) h i c = absurd (false≢true i)
-maybe_back n f w is cl back (entry k p) h i c = absurd (false≢true i)
-maybe_back n f w is cl back (choice m p) h i c = absurd (false≢true i)
+maybe_back n f w is cl back _ h i c = absurd (false≢true i)

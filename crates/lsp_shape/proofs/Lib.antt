@@ -9,8 +9,6 @@ pub mod Members
 pub mod Lists
 pub mod Recursive
 pub mod ReadsBack
-pub mod FloatsRead
-pub mod FloatsWritten
 pub mod Settled
 pub mod Entries
 pub mod Tables

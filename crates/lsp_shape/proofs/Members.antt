@@ -48,12 +48,9 @@ pub member_back : (r : Rule) (n : ℕ) (f : Data → Option Plain) (w : Plain �
     → by_rule r is p ≡ true → clear_member r cl w p ≡ true → (name : List ℕ) (ms : Members) → get_member name ms ≡ None
     → read_member r f (get_member name (write_member name r w p ms)) ≡ Some p
 member_back required n f w is cl back p h i c name ms none = found (read_member required f) name (w p) ms (Some p) (back p h i c)
-member_back omitted n f w is cl back (leaf d) h i c name ms none = absurd (false≢true i)
 member_back omitted n f w is cl back absent h i c name ms none = ap (read_member omitted f) none
 member_back omitted n f w is cl back (present p) h i c name ms none = found (read_member omitted f) name (w p) ms (Some (present p)) (present_back n f w is cl back p h i c)
-member_back omitted n f w is cl back (parts ps) h i c name ms none = absurd (false≢true i)
-member_back omitted n f w is cl back (entry k p) h i c name ms none = absurd (false≢true i)
-member_back omitted n f w is cl back (choice m p) h i c name ms none = absurd (false≢true i)
+member_back omitted n f w is cl back _ h i c name ms none = absurd (false≢true i)
 member_back nullable n f w is cl back p h i c name ms none = found (read_member nullable f) name _ ms (Some p) (maybe_back n f w is cl back p h i c)
 member_back or_empty n f w is cl back p h i c name ms none = found (read_member or_empty f) name (w p) ms (Some p) (back p h i c)
 member_back or_false n f w is cl back p h i c name ms none = found (read_member or_false f) name (w p) ms (Some p) (back p h i c)
@@ -64,9 +61,6 @@ pub supported_member_back : (f : Data → Option Plain) (w : Plain → Data) (is
     → ((p : Plain) → is p ≡ true → is_some (as_object (w p)) ≡ true) → (p : Plain)
     → is_maybe is p ≡ true → clear_present cl p ≡ true → (name : List ℕ) (ms : Members) → get_member name ms ≡ None
     → read_supported f (get_member name (write_member name omitted w p ms)) ≡ Some p
-supported_member_back f w is cl back whole (leaf d) i c name ms none = absurd (false≢true i)
 supported_member_back f w is cl back whole absent i c name ms none = ap (read_supported f) none
 supported_member_back f w is cl back whole (present p) i c name ms none = found (read_supported f) name (w p) ms (Some (present p)) (supported_back f w is cl back p i (whole p i) c)
-supported_member_back f w is cl back whole (parts ps) i c name ms none = absurd (false≢true i)
-supported_member_back f w is cl back whole (entry k p) i c name ms none = absurd (false≢true i)
-supported_member_back f w is cl back whole (choice m p) i c name ms none = absurd (false≢true i)
+supported_member_back f w is cl back whole _ i c name ms none = absurd (false≢true i)

@@ -9,7 +9,7 @@ use Rattle.lsp_shape.specs.Shape.{Shape, nil, truth, integer, bits, text, any, l
 use Rattle.lsp_shape.specs.Read.{read, read_fields, read_first, read_tagged, read_nil, read_truth, read_integer, integer_within, read_text, read_list, read_items, item_count, read_maybe, read_record, first_of_two, text_is, read_entries, read_map, and_rest, read_with_rest, reads_none}
 use Rattle.lsp_shape.specs.Write.{write, write_leaf, write_list, write_maybe, write_map, write_choice, write_nth, write_tagged}
 use Rattle.lsp_shape.specs.Values.{is_null}
-use Rattle.lsp_shape.proofs.FloatsRead.{mapped}
+use Rattle.lsp_shape.specs.FloatsRead.{mapped}
 use Rattle.lsp_shape.proofs.Recursive.{read-recursive}
 
 abbrev pub NotNull : (Data → Option Plain) → (Plain → Data) → Type 0
@@ -36,39 +36,23 @@ whole_number z = refl
 
 not_null_nil : NotNull read_nil write_leaf
 not_null_nil null p n e = absurd (false≢true n)
-not_null_nil (boolean x) p n e = cc
-not_null_nil (number x) p n e = cc
-not_null_nil (string x) p n e = cc
-not_null_nil (array x) p n e = cc
-not_null_nil (object x) p n e = cc
+not_null_nil _ p n e = cc
 
 not_null_truth : NotNull read_truth write_leaf
-not_null_truth null p n e = cc
 not_null_truth (boolean x) p n e = written_as write_leaf (leaf (boolean x)) p e refl
-not_null_truth (number x) p n e = cc
-not_null_truth (string x) p n e = cc
-not_null_truth (array x) p n e = cc
-not_null_truth (object x) p n e = cc
+not_null_truth _ p n e = cc
 
 not_null_within : (low high : ℤ) (o : Option ℤ) (p : Plain) → integer_within low high o ≡ Some p → not (is_null (write_leaf p)) ≡ true
 not_null_within low high None p e = cc
 not_null_within low high (Some z) p e = written_as write_leaf (leaf (number (of_integer z))) p (chosen (int_le low z && int_le z high) _ p e).1 (whole_number z)
 
 not_null_integer : (low high : ℤ) → NotNull (read_integer low high) write_leaf
-not_null_integer low high null p n e = cc
-not_null_integer low high (boolean x) p n e = cc
 not_null_integer low high (number x) p n e = not_null_within low high (as_integer x) p e
-not_null_integer low high (string x) p n e = cc
-not_null_integer low high (array x) p n e = cc
-not_null_integer low high (object x) p n e = cc
+not_null_integer low high _ p n e = cc
 
 not_null_text : (test : List ℕ → Bool) → NotNull (read_text test) write_leaf
-not_null_text test null p n e = cc
-not_null_text test (boolean x) p n e = cc
-not_null_text test (number x) p n e = cc
 not_null_text test (string x) p n e = written_as write_leaf (leaf (string x)) p (chosen (test x) _ p e).1 refl
-not_null_text test (array x) p n e = cc
-not_null_text test (object x) p n e = cc
+not_null_text test _ p n e = cc
 
 not_null_any : NotNull (λ d. Some (leaf d)) write_leaf
 not_null_any d p n e = written_as write_leaf (leaf d) p e n
@@ -78,47 +62,27 @@ from_parts : (w : Plain → Data) → ((ps : Parts) → not (is_null (w (parts p
 from_parts w k o p e = let m = mapped parts o p e in subst (λ x. not (is_null (w x)) ≡ true) m.2 (k m.0)
 
 not_null_list : (test : ℕ → Bool) (f : Data → Option Plain) (w : Plain → Data) → NotNull (read_list test f) (write_list w)
-not_null_list test f w null p n e = cc
-not_null_list test f w (boolean x) p n e = cc
-not_null_list test f w (number x) p n e = cc
-not_null_list test f w (string x) p n e = cc
 not_null_list test f w (array x) p n e = from_parts (write_list w) (λ ps. refl) (read_items f x) p (chosen (test (item_count x)) _ p e).1
-not_null_list test f w (object x) p n e = cc
+not_null_list test f w _ p n e = cc
 
 not_null_present : (f : Data → Option Plain) (w : Plain → Data) → NotNull f w → (d : Data) (p : Plain) → not (is_null d) ≡ true → option_map present (f d) ≡ Some p → not (is_null (write_maybe w p)) ≡ true
 not_null_present f w k d p n e = let m = mapped present (f d) p e in subst (λ x. not (is_null (write_maybe w x)) ≡ true) m.2 (k d m.0 n m.1)
 
 not_null_maybe : (f : Data → Option Plain) (w : Plain → Data) → NotNull f w → NotNull (read_maybe f) (write_maybe w)
 not_null_maybe f w k null p n e = absurd (false≢true n)
-not_null_maybe f w k (boolean x) p n e = not_null_present f w k (boolean x) p n e
-not_null_maybe f w k (number x) p n e = not_null_present f w k (number x) p n e
-not_null_maybe f w k (string x) p n e = not_null_present f w k (string x) p n e
-not_null_maybe f w k (array x) p n e = not_null_present f w k (array x) p n e
-not_null_maybe f w k (object x) p n e = not_null_present f w k (object x) p n e
+not_null_maybe f w k other p n e = not_null_present f w k other p n e
 
 not_null_map : (f : Members → Option Parts) (w : Plain → Data) → NotNull (read_map f) (write_map w)
-not_null_map f w null p n e = cc
-not_null_map f w (boolean x) p n e = cc
-not_null_map f w (number x) p n e = cc
-not_null_map f w (string x) p n e = cc
-not_null_map f w (array x) p n e = cc
 not_null_map f w (object x) p n e = from_parts (write_map w) (λ ps. refl) (f x) p e
+not_null_map f w _ p n e = cc
 
 pub not_null_record : (g : Data → Option Parts) (w : Plain → Data) → ((ps : Parts) → not (is_null (w (parts ps))) ≡ true) → NotNull (read_record g) w
-not_null_record g w k null p n e = cc
-not_null_record g w k (boolean x) p n e = cc
-not_null_record g w k (number x) p n e = cc
-not_null_record g w k (string x) p n e = cc
-not_null_record g w k (array x) p n e = cc
 not_null_record g w k (object x) p n e = from_parts w k (g (object x)) p e
+not_null_record g w k _ p n e = cc
 
 not_null_with_rest : (f : Members → Option Parts) (g : Data → Option Parts) (w : Plain → Data) → ((ps : Parts) → not (is_null (w (parts ps))) ≡ true) → NotNull (read_with_rest f g) w
-not_null_with_rest f g w k null p n e = cc
-not_null_with_rest f g w k (boolean x) p n e = cc
-not_null_with_rest f g w k (number x) p n e = cc
-not_null_with_rest f g w k (string x) p n e = cc
-not_null_with_rest f g w k (array x) p n e = cc
 not_null_with_rest f g w k (object x) p n e = from_parts w k (and_rest (f x) (g (object x))) p e
+not_null_with_rest f g w k _ p n e = cc
 
 pub not_null_itself : (fs : Fields) → NotNull (read (recursive fs)) (write (recursive fs))
 not_null_itself fs d p n e = not_null_record (read_fields fs (read (recursive fs))) (write (recursive fs)) (λ ps. refl) d p n (sym (read-recursive fs d) ∙ e)

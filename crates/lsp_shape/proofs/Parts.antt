@@ -67,6 +67,14 @@ none_at (suc k) (again name r c fs) d a = none_right _ _ (none_at k fs d a)
 pub record_none_at : (k : ℕ) (fs : Fields) (v : Value) (m : BTreeMap (String Global) Value) → v ≡ Object m → field_read k fs (object (members_view m.entries)) ≡ None → read (fields fs) (view v) ≡ None
 record_none_at k fs v m e a = record_none fs v m e (none_at k fs (object (members_view m.entries)) a)
 
+-- ---- the same, of the data alone
+
+pub fields_some : (fs : Fields) (d : Data) (ms : Members) (ps : Parts) → d ≡ object ms → read_fields fs reads_none (object ms) ≡ Some ps → read (fields fs) d ≡ Some (parts ps)
+fields_some fs d ms ps e a = rw (e, a) refl
+
+pub fields_none_at : (k : ℕ) (fs : Fields) (d : Data) (ms : Members) → d ≡ object ms → field_read k fs (object ms) ≡ None → read (fields fs) d ≡ None
+fields_none_at k fs d ms e a = rw (e, none_at k fs (object ms) a) refl
+
 -- ---- writing
 
 abbrev pub drop_fields : ℕ → Fields → Fields

@@ -10,7 +10,7 @@ use Rattle.lsp_shape.specs.Read.{read, read_fields, read_first, read_tagged, rea
 use Rattle.lsp_shape.specs.Write.{write, write_list, write_count, writes_null}
 use Rattle.lsp_shape.specs.Values.{is_null, clear, clear_fields, clear_nth, clear_nth_variant, clear_member, clear_maybe, clear_present, clear_entry, clear_parts, clear_first, clear_count, clear_choice, clear_leaf, clear_bits, every, is_any, settled_member, is_settled, are_settled, is_settled_nth, is_settled_variant}
 use Rattle.lsp_shape.proofs.Names.{both}
-use Rattle.lsp_shape.proofs.FloatsRead.{mapped, split, split_rest}
+use Rattle.lsp_shape.specs.FloatsRead.{mapped, split, split_rest}
 use Rattle.lsp_shape.proofs.NotNull.{NotNull, not_null, not_null_itself, chosen, count_up, count_up-add}
 use Rattle.lsp_shape.proofs.Recursive.{read-recursive, clear-recursive, settled-recursive}
 
@@ -29,12 +29,8 @@ bits_within high (Some (pos n)) p e =
 bits_within high (Some (negsuc n)) p e = let h : None ≡ Some p = e in absurd cc
 
 clears_bits : (high : ℕ) (d : Data) (p : Plain) → read_integer (pos 0) (pos high) d ≡ Some p → clear_leaf (clear_bits high) p ≡ true
-clears_bits high null p e = cc
-clears_bits high (boolean x) p e = cc
 clears_bits high (number x) p e = bits_within high (as_integer x) p e
-clears_bits high (string x) p e = cc
-clears_bits high (array x) p e = cc
-clears_bits high (object x) p e = cc
+clears_bits high _ p e = cc
 
 -- ---- lists and maps
 
@@ -54,12 +50,8 @@ parts_clear n test other o p h k e s =
     subst (λ x. clear_parts other x ≡ true) m.2 (k m.0 (omega arith) m.1 (subst (λ x. clear_parts test x ≡ true) (sym m.2) s))
 
 list_clear : (test : ℕ → Bool) (n : ℕ) (f : Data → Option Plain) (st cl : Plain → Bool) → Clears n f st cl → Clears n (read_list test f) (clear_parts (every st)) (clear_parts (every cl))
-list_clear test n f st cl k null p h e s = cc
-list_clear test n f st cl k (boolean x) p h e s = cc
-list_clear test n f st cl k (number x) p h e s = cc
-list_clear test n f st cl k (string x) p h e s = cc
 list_clear test n f st cl k (array x) p h e s = parts_clear n (every st) (every cl) (read_items f x) p h (λ ps g r t. items_clear n f st cl k x ps g r t) (chosen (test (item_count x)) _ p e).1 s
-list_clear test n f st cl k (object x) p h e s = cc
+list_clear test n f st cl k _ p h e s = cc
 
 entry_clear : (ns : List (List ℕ)) (test : List ℕ → Bool) (f : Data → Option Plain) (st cl : Plain → Bool) → ((d : Data) (p : Plain) → f d ≡ Some p → st p ≡ true → cl p ≡ true) → (k : List ℕ) (d : Data) (p : Plain) → has_name k ns ≡ false
     → read_entry test f k d ≡ Some p → clear_entry [] st p ≡ true → clear_entry ns cl p ≡ true
@@ -107,11 +99,7 @@ absent_clear w cl p e = let is : absent ≡ p = cc in subst (λ x. clear_maybe c
 
 maybe_clear : (n : ℕ) (f : Data → Option Plain) (w : Plain → Data) (st cl : Plain → Bool) → Clears n f st cl → NotNull f w → Clears n (read_maybe f) (clear_present st) (clear_maybe cl w)
 maybe_clear n f w st cl k nn null p h e s = absent_clear w cl p e
-maybe_clear n f w st cl k nn (boolean x) p h e s = present_clear n f w st cl k nn (boolean x) p h refl e s
-maybe_clear n f w st cl k nn (number x) p h e s = present_clear n f w st cl k nn (number x) p h refl e s
-maybe_clear n f w st cl k nn (string x) p h e s = present_clear n f w st cl k nn (string x) p h refl e s
-maybe_clear n f w st cl k nn (array x) p h e s = present_clear n f w st cl k nn (array x) p h refl e s
-maybe_clear n f w st cl k nn (object x) p h e s = present_clear n f w st cl k nn (object x) p h refl e s
+maybe_clear n f w st cl k nn other p h e s = present_clear n f w st cl k nn other p h refl e s
 
 -- what is read where a member is missing
 pub record ClearOfDefaults (cl : Plain → Bool) : Type 0 where
@@ -177,12 +165,8 @@ count_clear one n f st cl k = k
 count_clear many n f st cl k = λ d p h e s. list_clear (λ m. true) n f st cl k d p h e s
 
 array_not_null : (f : Data → Option Plain) (w : Plain → Data) → NotNull (read_list (λ m. true) f) (write_list w)
-array_not_null f w null p n e = cc
-array_not_null f w (boolean x) p n e = cc
-array_not_null f w (number x) p n e = cc
-array_not_null f w (string x) p n e = cc
 array_not_null f w (array x) p n e = let m = mapped parts (read_items f x) p e in subst (λ y. not (is_null (write_list w y)) ≡ true) m.2 refl
-array_not_null f w (object x) p n e = cc
+array_not_null f w _ p n e = cc
 
 count_not_null : (c : Count) (f : Data → Option Plain) (w : Plain → Data) → NotNull f w → NotNull (read_count c f) (write_count c w)
 count_not_null one f w k = k
@@ -200,20 +184,9 @@ first_part (supported name s fs) cl w = refl
 first_part (again name r c fs) cl w = refl
 
 defaults : (s : Shape) → ClearOfDefaults (clear s)
-defaults nil = record { empty = refl; no = refl }
-defaults truth = record { empty = refl; no = refl }
-defaults (integer low high) = record { empty = refl; no = refl }
-defaults (bits high) = record { empty = refl; no = refl }
-defaults (text test) = record { empty = refl; no = refl }
-defaults any = record { empty = refl; no = refl }
-defaults (list_of test s) = record { empty = refl; no = refl }
-defaults (maybe s) = record { empty = refl; no = refl }
-defaults (map_of test s) = record { empty = refl; no = refl }
 defaults (fields fs) = record { empty = first_part fs is_any writes_null; no = refl }
-defaults (fields_and s fs) = record { empty = refl; no = refl }
 defaults (recursive fs) = record { empty = first_part fs _ _; no = refl }
-defaults (union ss) = record { empty = refl; no = refl }
-defaults (tagged tag vs) = record { empty = refl; no = refl }
+defaults _ = record { empty = refl; no = refl }
 
 field_clear : (name : List ℕ) (r : Rule) (s : Shape) (fs : Fields) → ShapeClears s → FieldsClear fs → FieldsClear (field name r s fs)
 field_clear name r s fs own later n f w st cl k nn df d ps h e t =
@@ -285,12 +258,8 @@ levels_clear : (fs : Fields) → FieldsClear fs → (n : ℕ) → Clears n (read
 levels_clear fs k zero d p h e s = level_zero p h
   where
     level_zero : (p : Plain) → plain_depth p ≤ 0 → clear (recursive fs) p ≡ true
-    level_zero (leaf x) h = refl
-    level_zero absent h = refl
-    level_zero (present q) h = refl
     level_zero (parts ps) h = absurd (omega arith)
-    level_zero (entry l q) h = refl
-    level_zero (choice i q) h = refl
+    level_zero _ h = refl
 levels_clear fs k (suc n) d p h e s =
     clear-recursive fs p
     ∙ record_clear n (read_fields fs (read (recursive fs))) (are_settled fs (is_settled (recursive fs))) (clear_fields fs (clear (recursive fs)) (write (recursive fs)))
@@ -327,12 +296,7 @@ choice_clear test other n q p e k s =
 mutual
   -- what is read of a value
   pub read_clear : (s : Shape) → ShapeClears s
-  read_clear nil = λ d p e t. refl
-  read_clear truth = λ d p e t. refl
-  read_clear (integer low high) = λ d p e t. refl
   read_clear (bits high) = λ d p e t. clears_bits high d p e
-  read_clear (text test) = λ d p e t. refl
-  read_clear any = λ d p e t. refl
   read_clear (list_of test s) = λ d p e t. list_clear test (plain_depth p) (read s) (is_settled s) (clear s) (λ x q h. read_clear s x q) d p (omega arith) e t
   read_clear (maybe s) = λ d p e t. maybe_clear (plain_depth p) (read s) (write s) (is_settled s) (clear s) (λ x q h. read_clear s x q) (not_null s) d p (omega arith) e t
   read_clear (map_of test s) = map_clear test s (read_clear s)
@@ -341,6 +305,7 @@ mutual
   read_clear (recursive fs) = λ d p e t. levels_clear fs (all_clear fs) (plain_depth p) d p (omega arith) e t
   read_clear (union ss) = λ d p e t. let m = first_clear ss 0 d p e in choice_clear (is_settled_nth ss) (clear_nth ss) m.0 m.1 p m.2 m.3 t
   read_clear (tagged tag vs) = λ d p e t. let m = variants_clear vs 0 (option_and_then as_str (get tag d)) d p e in choice_clear (is_settled_variant vs) (clear_nth_variant vs) m.0 m.1 p m.2 m.3 t
+  read_clear _ = λ d p e t. refl
 
   all_clear : (fs : Fields) → FieldsClear fs
   all_clear no_fields = λ n f w st cl k nn df d ps h e t. refl

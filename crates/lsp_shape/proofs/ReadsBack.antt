@@ -301,11 +301,7 @@ union_back ss back (entry k p) i c = absurd (false≢true i)
 
 map_back : (test : List ℕ → Bool) (s : Shape) → Back s → Back (map_of test s)
 map_back test s own (parts ps) i c = ap (option_map parts) (entries_back [] test (read s) (write s) (is_of s) (clear s) own ps i c)
-map_back test s own (leaf d) i c = absurd (false≢true i)
-map_back test s own absent i c = absurd (false≢true i)
-map_back test s own (present p) i c = absurd (false≢true i)
-map_back test s own (entry k p) i c = absurd (false≢true i)
-map_back test s own (choice n p) i c = absurd (false≢true i)
+map_back test s own _ i c = absurd (false≢true i)
 
 unfit_is : (o : Option Plain) → not (is_some o) ≡ true → o ≡ None
 unfit_is None e = refl

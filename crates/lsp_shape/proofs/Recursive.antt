@@ -43,20 +43,12 @@ items_same a b (item d ds) e = rw (e d (omega arith), items_same a b ds (λ c h.
 
 count_same : (c : Count) (a b : Data → Option Plain) (d : Data) → ((e : Data) → depth e ≤ depth d → a e ≡ b e) → read_count c a d ≡ read_count c b d
 count_same one a b d e = e d (omega arith)
-count_same many a b null e = refl
-count_same many a b (boolean x) e = refl
-count_same many a b (number x) e = refl
-count_same many a b (string x) e = refl
 count_same many a b (array ds) e = ap (option_map parts) (items_same a b ds (λ c h. e c (omega arith)))
-count_same many a b (object x) e = refl
+count_same many a b _ e = refl
 
 maybe_same : (a b : Data → Option Plain) (d : Data) → a d ≡ b d → read_maybe a d ≡ read_maybe b d
 maybe_same a b null e = refl
-maybe_same a b (boolean x) e = ap (option_map present) e
-maybe_same a b (number x) e = ap (option_map present) e
-maybe_same a b (string x) e = ap (option_map present) e
-maybe_same a b (array x) e = ap (option_map present) e
-maybe_same a b (object x) e = ap (option_map present) e
+maybe_same a b _ e = ap (option_map present) e
 
 member_same : (r : Rule) (a b : Data → Option Plain) (o : Option Data) → ((d : Data) → o ≡ Some d → a d ≡ b d) → read_member r a o ≡ read_member r b o
 member_same required a b None e = refl
@@ -85,12 +77,8 @@ fields_same (again name r c fs) a b ms e =
     rw (here, fields_same fs a b ms e) refl
 
 record_same : (fs : Fields) (d : Data) (a b : Data → Option Plain) → ((e : Data) → depth e < depth d → a e ≡ b e) → read_record (read_fields fs a) d ≡ read_record (read_fields fs b) d
-record_same fs null a b e = refl
-record_same fs (boolean x) a b e = refl
-record_same fs (number x) a b e = refl
-record_same fs (string x) a b e = refl
-record_same fs (array x) a b e = refl
 record_same fs (object ms) a b e = ap (option_map parts) (fields_same fs a b ms (λ d h. e d (omega arith)))
+record_same fs _ a b e = refl
 
 -- what a record that holds itself reads as
 pub read-recursive : (fs : Fields) (d : Data) → read (recursive fs) d ≡ read_record (read_fields fs (read (recursive fs))) d
@@ -104,37 +92,23 @@ write_items_same a b (part p ps) e = rw (e p (omega arith), write_items_same a b
 
 write_count_same : (c : Count) (a b : Plain → Data) (p : Plain) → ((q : Plain) → plain_depth q ≤ plain_depth p → a q ≡ b q) → write_count c a p ≡ write_count c b p
 write_count_same one a b p e = e p (omega arith)
-write_count_same many a b (leaf d) e = refl
-write_count_same many a b absent e = refl
-write_count_same many a b (present p) e = refl
 write_count_same many a b (parts ps) e = ap array (write_items_same a b ps (λ q h. e q (omega arith)))
-write_count_same many a b (entry k p) e = refl
-write_count_same many a b (choice n p) e = refl
+write_count_same many a b _ e = refl
 
 present_same : (name : List ℕ) (a b : Plain → Data) (p : Plain) (ms : Members) → ((q : Plain) → plain_depth q ≤ plain_depth p → a q ≡ b q) → put_present name a p ms ≡ put_present name b p ms
-present_same name a b (leaf d) ms e = refl
-present_same name a b absent ms e = refl
 present_same name a b (present p) ms e = ap (λ d. put name d ms) (e p (omega arith))
-present_same name a b (parts ps) ms e = refl
-present_same name a b (entry k p) ms e = refl
-present_same name a b (choice n p) ms e = refl
+present_same name a b _ ms e = refl
 
 write_maybe_same : (a b : Plain → Data) (p : Plain) → ((q : Plain) → plain_depth q ≤ plain_depth p → a q ≡ b q) → write_maybe a p ≡ write_maybe b p
-write_maybe_same a b (leaf d) e = refl
-write_maybe_same a b absent e = refl
 write_maybe_same a b (present p) e = e p (omega arith)
-write_maybe_same a b (parts ps) e = refl
-write_maybe_same a b (entry k p) e = refl
-write_maybe_same a b (choice n p) e = refl
+write_maybe_same a b _ e = refl
 
 write_member_same : (name : List ℕ) (r : Rule) (a b : Plain → Data) (p : Plain) (ms : Members) → ((q : Plain) → plain_depth q ≤ plain_depth p → a q ≡ b q) → write_member name r a p ms ≡ write_member name r b p ms
-write_member_same name required a b p ms e = ap (λ d. put name d ms) (e p (omega arith))
 write_member_same name omitted a b p ms e = present_same name a b p ms e
 write_member_same name nullable a b p ms e = ap (λ d. put name d ms) (write_maybe_same a b p e)
-write_member_same name or_empty a b p ms e = ap (λ d. put name d ms) (e p (omega arith))
-write_member_same name or_false a b p ms e = ap (λ d. put name d ms) (e p (omega arith))
 write_member_same name unless_empty a b p ms e = ap (λ d. put_unless (is_empty p) name d ms) (e p (omega arith))
 write_member_same name unless_false a b p ms e = ap (λ d. put_unless (is_false p) name d ms) (e p (omega arith))
+write_member_same name _ a b p ms e = ap (λ d. put name d ms) (e p (omega arith))
 
 counted_deeper : (c : Count) (a b : Plain → Data) (p : Plain) → ((q : Plain) → plain_depth q ≤ plain_depth p → a q ≡ b q) → (q : Plain) → plain_depth q ≤ plain_depth p → write_count c a q ≡ write_count c b q
 counted_deeper c a b p e q h = write_count_same c a b q (λ x k. e x (omega arith))
@@ -153,12 +127,8 @@ write_fields_same (again name r c fs) a b (part p ps) ms e =
     ap (write_fields fs a ps) here ∙ write_fields_same fs a b ps _ (λ q h. e q (omega arith))
 
 write_record_same : (fs : Fields) (p : Plain) (a b : Plain → Data) → ((q : Plain) → plain_depth q < plain_depth p → a q ≡ b q) → write_record (write_fields fs a) p ≡ write_record (write_fields fs b) p
-write_record_same fs (leaf d) a b e = refl
-write_record_same fs absent a b e = refl
-write_record_same fs (present p) a b e = refl
 write_record_same fs (parts ps) a b e = ap object (write_fields_same fs a b ps no_members (λ q h. e q (omega arith)))
-write_record_same fs (entry k p) a b e = refl
-write_record_same fs (choice n p) a b e = refl
+write_record_same fs _ a b e = refl
 
 pub write-recursive : (fs : Fields) (p : Plain) → write (recursive fs) p ≡ write_record (write_fields fs (write (recursive fs))) p
 write-recursive fs p = one_level Plain Data plain_depth writes_null (λ self. write_record (write_fields fs self)) (write_record_same fs) p
@@ -171,29 +141,17 @@ every_same a b (part p ps) e = rw (e p (omega arith), every_same a b ps (λ q h.
 
 is_count_same : (c : Count) (a b : Plain → Bool) (p : Plain) → ((q : Plain) → plain_depth q ≤ plain_depth p → a q ≡ b q) → is_count c a p ≡ is_count c b p
 is_count_same one a b p e = e p (omega arith)
-is_count_same many a b (leaf d) e = refl
-is_count_same many a b absent e = refl
-is_count_same many a b (present p) e = refl
 is_count_same many a b (parts ps) e = every_same a b ps (λ q h. e q (omega arith))
-is_count_same many a b (entry k p) e = refl
-is_count_same many a b (choice n p) e = refl
+is_count_same many a b _ e = refl
 
 is_maybe_same : (a b : Plain → Bool) (p : Plain) → ((q : Plain) → plain_depth q ≤ plain_depth p → a q ≡ b q) → is_maybe a p ≡ is_maybe b p
-is_maybe_same a b (leaf d) e = refl
-is_maybe_same a b absent e = refl
 is_maybe_same a b (present p) e = e p (omega arith)
-is_maybe_same a b (parts ps) e = refl
-is_maybe_same a b (entry k p) e = refl
-is_maybe_same a b (choice n p) e = refl
+is_maybe_same a b _ e = refl
 
 by_rule_same : (r : Rule) (a b : Plain → Bool) (p : Plain) → ((q : Plain) → plain_depth q ≤ plain_depth p → a q ≡ b q) → by_rule r a p ≡ by_rule r b p
-by_rule_same required a b p e = e p (omega arith)
 by_rule_same omitted a b p e = is_maybe_same a b p e
 by_rule_same nullable a b p e = is_maybe_same a b p e
-by_rule_same or_empty a b p e = e p (omega arith)
-by_rule_same or_false a b p e = e p (omega arith)
-by_rule_same unless_empty a b p e = e p (omega arith)
-by_rule_same unless_false a b p e = e p (omega arith)
+by_rule_same _ a b p e = e p (omega arith)
 
 are_fields_same : (fs : Fields) (a b : Plain → Bool) (ps : Parts) → ((q : Plain) → plain_depth q ≤ parts_depth ps → a q ≡ b q) → are_fields fs a ps ≡ are_fields fs b ps
 are_fields_same no_fields a b ps e = refl
@@ -209,12 +167,8 @@ are_fields_same (again name r c fs) a b (part p ps) e =
     rw (here, are_fields_same fs a b ps (λ q h. e q (omega arith))) refl
 
 is_parts_same : (fs : Fields) (p : Plain) (a b : Plain → Bool) → ((q : Plain) → plain_depth q < plain_depth p → a q ≡ b q) → is_parts (are_fields fs a) p ≡ is_parts (are_fields fs b) p
-is_parts_same fs (leaf d) a b e = refl
-is_parts_same fs absent a b e = refl
-is_parts_same fs (present p) a b e = refl
 is_parts_same fs (parts ps) a b e = are_fields_same fs a b ps (λ q h. e q (omega arith))
-is_parts_same fs (entry k p) a b e = refl
-is_parts_same fs (choice n p) a b e = refl
+is_parts_same fs _ a b e = refl
 
 -- the test of a record that holds itself, without that of its names
 abbrev pub is_itself : Fields → Plain → Bool
@@ -227,29 +181,17 @@ is_itself-one_level fs p = one_level Plain Bool plain_depth is_none (λ self. is
 
 clear_count_same : (c : Count) (a b : Plain → Bool) (p : Plain) → ((q : Plain) → plain_depth q ≤ plain_depth p → a q ≡ b q) → clear_count c a p ≡ clear_count c b p
 clear_count_same one a b p e = e p (omega arith)
-clear_count_same many a b (leaf d) e = refl
-clear_count_same many a b absent e = refl
-clear_count_same many a b (present p) e = refl
 clear_count_same many a b (parts ps) e = every_same a b ps (λ q h. e q (omega arith))
-clear_count_same many a b (entry k p) e = refl
-clear_count_same many a b (choice n p) e = refl
+clear_count_same many a b _ e = refl
 
 clear_maybe_same : (w : Plain → Data) (a b : Plain → Bool) (p : Plain) → ((q : Plain) → plain_depth q ≤ plain_depth p → a q ≡ b q) → clear_maybe a w p ≡ clear_maybe b w p
-clear_maybe_same w a b (leaf d) e = refl
-clear_maybe_same w a b absent e = refl
 clear_maybe_same w a b (present p) e = ap (λ t. not (is_null (w p)) && t) (e p (omega arith))
-clear_maybe_same w a b (parts ps) e = refl
-clear_maybe_same w a b (entry k p) e = refl
-clear_maybe_same w a b (choice n p) e = refl
+clear_maybe_same w a b _ e = refl
 
 clear_member_same : (r : Rule) (w : Plain → Data) (a b : Plain → Bool) (p : Plain) → ((q : Plain) → plain_depth q ≤ plain_depth p → a q ≡ b q) → clear_member r a w p ≡ clear_member r b w p
-clear_member_same required w a b p e = e p (omega arith)
 clear_member_same omitted w a b p e = clear_maybe_same w a b p e
 clear_member_same nullable w a b p e = clear_maybe_same w a b p e
-clear_member_same or_empty w a b p e = e p (omega arith)
-clear_member_same or_false w a b p e = e p (omega arith)
-clear_member_same unless_empty w a b p e = e p (omega arith)
-clear_member_same unless_false w a b p e = e p (omega arith)
+clear_member_same _ w a b p e = e p (omega arith)
 
 clear_fields_same : (fs : Fields) (w : Plain → Data) (a b : Plain → Bool) (ps : Parts) → ((q : Plain) → plain_depth q ≤ parts_depth ps → a q ≡ b q) → clear_fields fs a w ps ≡ clear_fields fs b w ps
 clear_fields_same no_fields w a b ps e = refl
@@ -265,12 +207,8 @@ clear_fields_same (again name r c fs) w a b (part p ps) e =
     rw (here, clear_fields_same fs w a b ps (λ q h. e q (omega arith))) refl
 
 clear_parts_same : (fs : Fields) (w : Plain → Data) (p : Plain) (a b : Plain → Bool) → ((q : Plain) → plain_depth q < plain_depth p → a q ≡ b q) → clear_parts (clear_fields fs a w) p ≡ clear_parts (clear_fields fs b w) p
-clear_parts_same fs w (leaf d) a b e = refl
-clear_parts_same fs w absent a b e = refl
-clear_parts_same fs w (present p) a b e = refl
 clear_parts_same fs w (parts ps) a b e = clear_fields_same fs w a b ps (λ q h. e q (omega arith))
-clear_parts_same fs w (entry k p) a b e = refl
-clear_parts_same fs w (choice n p) a b e = refl
+clear_parts_same fs w _ a b e = refl
 
 pub clear-recursive : (fs : Fields) (p : Plain) → clear (recursive fs) p ≡ clear_parts (clear_fields fs (clear (recursive fs)) (write (recursive fs))) p
 clear-recursive fs p = one_level Plain Bool plain_depth is_any (λ self. clear_parts (clear_fields fs self (write (recursive fs)))) (clear_parts_same fs (write (recursive fs))) p
@@ -286,12 +224,8 @@ read_fields-unrolled s (again name r one fs) f d = ap (and_part (read_member r (
 read_fields-unrolled s (again name r many fs) f d = ap (and_part (read_member r (read_list (λ n. true) (read s)) (get name d))) (read_fields-unrolled s fs f d)
 
 record_unrolled : (s : Shape) (fs : Fields) (d : Data) → read_record (read_fields fs (read s)) d ≡ read (fields (unrolled s fs)) d
-record_unrolled s fs null = refl
-record_unrolled s fs (boolean x) = refl
-record_unrolled s fs (number x) = refl
-record_unrolled s fs (string x) = refl
-record_unrolled s fs (array x) = refl
 record_unrolled s fs (object ms) = ap (option_map parts) (read_fields-unrolled s fs reads_none (object ms))
+record_unrolled s fs _ = refl
 
 pub read-unrolled : (fs : Fields) (d : Data) → read (recursive fs) d ≡ read (fields (unrolled (recursive fs) fs)) d
 read-unrolled fs d = read-recursive fs d ∙ record_unrolled (recursive fs) fs d
@@ -310,12 +244,8 @@ write_fields-unrolled s (again name r many fs) w no_parts ms = refl
 write_fields-unrolled s (again name r many fs) w (part p ps) ms = write_fields-unrolled s fs w ps _
 
 write_record-unrolled : (s : Shape) (fs : Fields) (p : Plain) → write_record (write_fields fs (write s)) p ≡ write (fields (unrolled s fs)) p
-write_record-unrolled s fs (leaf d) = refl
-write_record-unrolled s fs absent = refl
-write_record-unrolled s fs (present p) = refl
 write_record-unrolled s fs (parts ps) = ap object (write_fields-unrolled s fs writes_null ps no_members)
-write_record-unrolled s fs (entry k p) = refl
-write_record-unrolled s fs (choice n p) = refl
+write_record-unrolled s fs _ = refl
 
 pub write-unrolled : (fs : Fields) (p : Plain) → write (recursive fs) p ≡ write (fields (unrolled (recursive fs) fs)) p
 write-unrolled fs p = write-recursive fs p ∙ write_record-unrolled (recursive fs) fs p
@@ -350,12 +280,8 @@ are_fields-unrolled s (again name r many fs) is no_parts = refl
 are_fields-unrolled s (again name r many fs) is (part p ps) = ap (λ b. by_rule r (is_parts (every (is_of s))) p && b) (are_fields-unrolled s fs is ps)
 
 is_parts-unrolled : (s : Shape) (fs : Fields) (p : Plain) → is_parts (are_fields fs (is_of s)) p ≡ is_parts (are_fields (unrolled s fs) is_none) p
-is_parts-unrolled s fs (leaf d) = refl
-is_parts-unrolled s fs absent = refl
-is_parts-unrolled s fs (present p) = refl
 is_parts-unrolled s fs (parts ps) = are_fields-unrolled s fs is_none ps
-is_parts-unrolled s fs (entry k p) = refl
-is_parts-unrolled s fs (choice n p) = refl
+is_parts-unrolled s fs _ = refl
 
 is_of_at : (fs : Fields) (b : Bool) → are_distinct fs ≡ b → (p : Plain) → (b && is_itself fs p) ≡ (b && is_parts (are_fields fs (is_of (recursive fs))) p)
 is_of_at fs true d p = is_itself-one_level fs p ∙ ap (λ (c : Bool). is_parts (are_fields fs (λ q. c && is_itself fs q)) p) (sym d)
@@ -369,21 +295,13 @@ is_of-unrolled fs p =
 -- ---- what is trimmed once and for all
 
 settled_present_same : (a b : Plain → Bool) (p : Plain) → ((q : Plain) → plain_depth q ≤ plain_depth p → a q ≡ b q) → clear_present a p ≡ clear_present b p
-settled_present_same a b (leaf d) e = refl
-settled_present_same a b absent e = refl
 settled_present_same a b (present p) e = e p (omega arith)
-settled_present_same a b (parts ps) e = refl
-settled_present_same a b (entry k p) e = refl
-settled_present_same a b (choice n p) e = refl
+settled_present_same a b _ e = refl
 
 settled_member_same : (r : Rule) (a b : Plain → Bool) (p : Plain) → ((q : Plain) → plain_depth q ≤ plain_depth p → a q ≡ b q) → settled_member r a p ≡ settled_member r b p
-settled_member_same required a b p e = e p (omega arith)
 settled_member_same omitted a b p e = settled_present_same a b p e
 settled_member_same nullable a b p e = settled_present_same a b p e
-settled_member_same or_empty a b p e = e p (omega arith)
-settled_member_same or_false a b p e = e p (omega arith)
-settled_member_same unless_empty a b p e = e p (omega arith)
-settled_member_same unless_false a b p e = e p (omega arith)
+settled_member_same _ a b p e = e p (omega arith)
 
 are_settled_same : (fs : Fields) (a b : Plain → Bool) (ps : Parts) → ((q : Plain) → plain_depth q ≤ parts_depth ps → a q ≡ b q) → are_settled fs a ps ≡ are_settled fs b ps
 are_settled_same no_fields a b ps e = refl
@@ -399,12 +317,8 @@ are_settled_same (again name r c fs) a b (part p ps) e =
     rw (here, are_settled_same fs a b ps (λ q h. e q (omega arith))) refl
 
 settled_parts_same : (fs : Fields) (p : Plain) (a b : Plain → Bool) → ((q : Plain) → plain_depth q < plain_depth p → a q ≡ b q) → clear_parts (are_settled fs a) p ≡ clear_parts (are_settled fs b) p
-settled_parts_same fs (leaf d) a b e = refl
-settled_parts_same fs absent a b e = refl
-settled_parts_same fs (present p) a b e = refl
 settled_parts_same fs (parts ps) a b e = are_settled_same fs a b ps (λ q h. e q (omega arith))
-settled_parts_same fs (entry k p) a b e = refl
-settled_parts_same fs (choice n p) a b e = refl
+settled_parts_same fs _ a b e = refl
 
 pub settled-recursive : (fs : Fields) (p : Plain) → is_settled (recursive fs) p ≡ clear_parts (are_settled fs (is_settled (recursive fs))) p
 settled-recursive fs p = one_level Plain Bool plain_depth is_any (λ self. clear_parts (are_settled fs self)) (settled_parts_same fs) p

@@ -17,12 +17,8 @@ use Rattle.lsp_shape.proofs.Names.{both, same_bytes, are_same}
 -- ---- entries in order
 
 abbrev pub IsAbove : List ℕ → Plain → Type 0
-IsAbove k (leaf d) = ⊥
-IsAbove k absent = ⊥
-IsAbove k (present p) = ⊥
-IsAbove k (parts ps) = ⊥
 IsAbove k (entry l p) = slice_cmp nat_cmp k l ≡ Less
-IsAbove k (choice n p) = ⊥
+IsAbove k _ = ⊥
 
 abbrev pub AllAbove : List ℕ → Parts → Type 0
 AllAbove k no_parts = Unit {0}
@@ -42,12 +38,8 @@ reversed : (k l : List ℕ) → slice_cmp nat_cmp k l ≡ Greater → slice_cmp 
 reversed k l e = nat_list_cmp_total.antisymm l k ∙ ap ordering_reverse e
 
 above_lower : (j k : List ℕ) (p : Plain) → slice_cmp nat_cmp j k ≡ Less → IsAbove k p → IsAbove j p
-above_lower j k (leaf d) e b = b
-above_lower j k absent e b = b
-above_lower j k (present p) e b = b
-above_lower j k (parts ps) e b = b
 above_lower j k (entry l p) e b = nat_list_cmp_total.trans j k l e b
-above_lower j k (choice n p) e b = b
+above_lower j k _ e b = b
 
 all_above_lower : (j k : List ℕ) (ps : Parts) → slice_cmp nat_cmp j k ≡ Less → AllAbove k ps → AllAbove j ps
 all_above_lower j k no_parts e b = tt
@@ -87,12 +79,8 @@ in_order_put k p (part (choice n q) ps) a = absurd a
 -- ---- the value at a key
 
 abbrev value_or : List ℕ → Plain → Option Plain → Option Plain
-value_or q (leaf d) o = o
-value_or q absent o = o
-value_or q (present p) o = o
-value_or q (parts ps) o = o
 value_or q (entry k p) o = match_ordering (slice_cmp nat_cmp q k) o (Some p) o
-value_or q (choice n p) o = o
+value_or q _ o = o
 
 abbrev pub value_at : List ℕ → Parts → Option Plain
 value_at q no_parts = None

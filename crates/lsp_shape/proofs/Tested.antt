@@ -3,8 +3,8 @@ use Rattle.std.proofs.Common.{◌≡◌, ℕ, ◌+◌, List, [], ◌∷◌, leng
 use Rattle.serde_json.specs.Data.{Data, null, boolean, number, string, array, object, Items, no_items, item}
 use Rattle.lsp_shape.specs.Plain.{Plain, parts, parts_of, Parts, no_parts, part}
 use Rattle.lsp_shape.specs.Read.{read_items, read_list, item_count}
-use Rattle.lsp_shape.specs.Values.{part_count}
-use Rattle.lsp_shape.proofs.FloatsRead.{mapped, split}
+use Rattle.lsp_shape.specs.Values.{part_count, counted, every}
+use Rattle.lsp_shape.specs.FloatsRead.{mapped, split}
 
 counted_parts : (f : Data → Option Plain) (ds : Items) (ps : Parts) → read_items f ds ≡ Some ps → item_count ds ≡ part_count ps
 counted_parts f no_items ps e = let is : no_parts ≡ ps = cc in ap part_count is
@@ -42,13 +42,14 @@ unread_at true o e = e
 unread_at false o e = refl
 
 pub never_read : (test : ℕ → Bool) (f : Data → Option Plain) (d : Data) → read_list (λ n. true) f d ≡ None → read_list test f d ≡ None
-never_read test f null e = refl
-never_read test f (boolean x) e = refl
-never_read test f (number x) e = refl
-never_read test f (string x) e = refl
 never_read test f (array x) e = unread_at (test (item_count x)) (option_map parts (read_items f x)) e
-never_read test f (object x) e = refl
+never_read test f _ e = refl
 
 pub part_count-map : {A : Type 0} (show : A → Plain) (xs : List A) → part_count (parts_of (map show xs)) ≡ length xs
 part_count-map show [] = refl
 part_count-map show (x ∷ xs) = ap (λ n. n + 1) (part_count-map show xs) ∙ (omega arith)
+
+-- plain data of a list of any length, where the length passes
+pub tested_of : {A : Type 0} (test : ℕ → Bool) (is : Plain → Bool) (show : A → Plain) (xs : List A)
+    → test (length xs) ≡ true → every is (parts_of (map show xs)) ≡ true → counted test is (parts_of (map show xs)) ≡ true
+tested_of test is show xs a b = rw (part_count-map show xs, a, b) refl

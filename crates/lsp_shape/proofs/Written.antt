@@ -8,7 +8,8 @@ use Rattle.lsp_shape.specs.Plain.{Plain, leaf, absent, present, parts, entry, ch
 use Rattle.lsp_shape.specs.Shape.{Rule, required, omitted, nullable, or_empty, or_false, unless_empty, unless_false, Shape, nil, truth, integer, bits, text, any, list_of, maybe, map_of, fields, fields_and, recursive, union, tagged, Fields, no_fields, field, flat, supported, again, Variants, no_variants, variant, has_name, names, field_names, variant_names, is_open, are_distinct, are_apart}
 use Rattle.lsp_shape.specs.Write.{write, write_fields, write_tagged, write_member, write_part, write_count, put_unless, put_all, members_in, is_empty, is_false, writes_null}
 use Rattle.lsp_shape.specs.Values.{is_of, are_fields, by_rule, is_count, first_and, is_maybe, is_nth_variant, is_none, leaves_room, are_told_apart, tags}
-use Rattle.lsp_shape.proofs.Names.{or_false_left, or_false_right, neither, not_first, not_later, not_append_left, not_append_right}
+use Rattle.lsp_shape.specs.FloatsRead.{or_false_left, or_false_right, neither}
+use Rattle.lsp_shape.proofs.Names.{not_first, not_later, not_append_left, not_append_right}
 use Rattle.lsp_shape.proofs.Ascending.{Ascending, ascending_put, ascending_put_all}
 use Rattle.lsp_shape.proofs.PutAll.{get-put_all_other}
 
@@ -22,22 +23,16 @@ unless_kept true P name d ms same more = same
 unless_kept false P name d ms same more = more
 
 present_kept : (P : Members → Type 0) (name : List ℕ) (r : Rule) (w : Plain → Data) (p : Plain) (ms : Members) → P ms → ((d : Data) → P (put name d ms)) → P (write_member name omitted w p ms)
-present_kept P name r w (leaf d) ms same more = same
-present_kept P name r w absent ms same more = same
 present_kept P name r w (present p) ms same more = more (w p)
-present_kept P name r w (parts ps) ms same more = same
-present_kept P name r w (entry k p) ms same more = same
-present_kept P name r w (choice n p) ms same more = same
+present_kept P name r w _ ms same more = same
 
 -- writing a field changes nothing, or puts a member of its name
 pub member_kept : (P : Members → Type 0) (name : List ℕ) (r : Rule) (w : Plain → Data) (p : Plain) (ms : Members) → P ms → ((d : Data) → P (put name d ms)) → P (write_member name r w p ms)
-member_kept P name required w p ms same more = more (w p)
 member_kept P name omitted w p ms same more = present_kept P name omitted w p ms same more
 member_kept P name nullable w p ms same more = more _
-member_kept P name or_empty w p ms same more = more (w p)
-member_kept P name or_false w p ms same more = more (w p)
 member_kept P name unless_empty w p ms same more = unless_kept (is_empty p) P name (w p) ms same (more (w p))
 member_kept P name unless_false w p ms same more = unless_kept (is_false p) P name (w p) ms same (more (w p))
+member_kept P name _ w p ms same more = more (w p)
 
 pub ascending_member : (name : List ℕ) (r : Rule) (w : Plain → Data) (p : Plain) (ms : Members) → Ascending ms → Ascending (write_member name r w p ms)
 ascending_member name r w p ms a = member_kept Ascending name r w p ms a (λ d. ascending_put name d ms a)
@@ -75,11 +70,7 @@ fields_shape fs w (choice n p) o i = absurd (false≢true (and_parts (are_distin
 
 tagged_shape : (tag : List ℕ) (vs : Variants) → VariantsWritten vs → ShapeWritten (tagged tag vs)
 tagged_shape tag vs w (choice n p) o i = w tag n p (and_parts (are_told_apart (tags vs)) _ i).1
-tagged_shape tag vs w (parts ps) o i = absurd (false≢true (and_parts (are_told_apart (tags vs)) false i).1)
-tagged_shape tag vs w (leaf d) o i = absurd (false≢true (and_parts (are_told_apart (tags vs)) false i).1)
-tagged_shape tag vs w absent o i = absurd (false≢true (and_parts (are_told_apart (tags vs)) false i).1)
-tagged_shape tag vs w (present p) o i = absurd (false≢true (and_parts (are_told_apart (tags vs)) false i).1)
-tagged_shape tag vs w (entry k p) o i = absurd (false≢true (and_parts (are_told_apart (tags vs)) false i).1)
+tagged_shape tag vs w _ o i = absurd (false≢true (and_parts (are_told_apart (tags vs)) false i).1)
 
 one_field : (name : List ℕ) (r : Rule) (w : Plain → Data) (fs : Fields) (self_is : Plain → Bool) (self_write : Plain → Data) (test : Plain → Bool) (p : Plain) (ps : Parts) (ms : Members) → FieldsWritten fs
     → (not (has_name name (field_names fs)) && are_distinct fs) ≡ true → (test p && are_fields fs self_is ps) ≡ true
@@ -144,18 +135,10 @@ mutual
   pub shape_written : (s : Shape) → ShapeWritten s
   shape_written nil = closed nil refl
   shape_written truth = closed truth refl
-  shape_written (integer low high) = closed (integer low high) refl
-  shape_written (bits high) = closed (bits high) refl
-  shape_written (text test) = closed (text test) refl
   shape_written any = closed any refl
-  shape_written (list_of test s) = closed (list_of test s) refl
-  shape_written (maybe s) = closed (maybe s) refl
-  shape_written (map_of test s) = closed (map_of test s) refl
   shape_written (fields fs) = fields_shape fs (fields_written fs)
-  shape_written (fields_and s fs) = closed (fields_and s fs) refl
-  shape_written (recursive fs) = closed (recursive fs) refl
-  shape_written (union ss) = closed (union ss) refl
   shape_written (tagged tag vs) = tagged_shape tag vs (variants_written vs)
+  shape_written other = closed other refl
 
   pub fields_written : (fs : Fields) → FieldsWritten fs
   fields_written no_fields = λ self_is self_write ps ms d i. (λ a. a, λ q absent. refl)

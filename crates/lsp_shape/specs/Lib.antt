@@ -5,3 +5,7 @@ pub mod Write
 pub mod Values
 pub mod Shown
 pub mod Laws
+pub mod Row
+pub mod FloatsRead
+pub mod FloatsWritten
+pub mod Object

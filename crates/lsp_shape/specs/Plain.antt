@@ -37,12 +37,11 @@ maybe_of (Some p) = present p
 -- how deep plain data nests
 abbrev mutual
   pub plain_depth : Plain → ℕ
-  plain_depth (leaf d) = 0
-  plain_depth absent = 0
   plain_depth (present p) = suc (plain_depth p)
   plain_depth (parts ps) = suc (parts_depth ps)
   plain_depth (entry k p) = suc (plain_depth p)
   plain_depth (choice n p) = suc (plain_depth p)
+  plain_depth _ = 0
 
   pub parts_depth : Parts → ℕ
   parts_depth no_parts = 0
@@ -66,12 +65,8 @@ abbrev mutual
 
 -- where the key stands to that of the entry
 abbrev pub order_of : List ℕ → Plain → Ordering
-order_of k (leaf d) = Greater
-order_of k absent = Greater
-order_of k (present p) = Greater
-order_of k (parts ps) = Greater
 order_of k (entry l p) = slice_cmp nat_cmp k l
-order_of k (choice n p) = Greater
+order_of k _ = Greater
 
 -- the entry with that value
 abbrev pub with_value : Plain → Plain → Plain

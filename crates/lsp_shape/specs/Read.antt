@@ -7,39 +7,23 @@ use Rattle.lsp_shape.specs.Shape.{Rule, required, omitted, nullable, or_empty, o
 
 abbrev pub read_nil : Data → Option Plain
 read_nil null = Some (leaf null)
-read_nil (boolean b) = None
-read_nil (number n) = None
-read_nil (string s) = None
-read_nil (array ds) = None
-read_nil (object ms) = None
+read_nil _ = None
 
 abbrev pub read_truth : Data → Option Plain
-read_truth null = None
 read_truth (boolean b) = Some (leaf (boolean b))
-read_truth (number n) = None
-read_truth (string s) = None
-read_truth (array ds) = None
-read_truth (object ms) = None
+read_truth _ = None
 
 abbrev pub integer_within : ℤ → ℤ → Option ℤ → Option Plain
 integer_within low high None = None
 integer_within low high (Some z) = if int_le low z && int_le z high then Some (leaf (number (of_integer z))) else None
 
 abbrev pub read_integer : ℤ → ℤ → Data → Option Plain
-read_integer low high null = None
-read_integer low high (boolean b) = None
 read_integer low high (number n) = integer_within low high (as_integer n)
-read_integer low high (string s) = None
-read_integer low high (array ds) = None
-read_integer low high (object ms) = None
+read_integer low high _ = None
 
 abbrev pub read_text : (List ℕ → Bool) → Data → Option Plain
-read_text test null = None
-read_text test (boolean b) = None
-read_text test (number n) = None
 read_text test (string s) = if test s then Some (leaf (string s)) else None
-read_text test (array ds) = None
-read_text test (object ms) = None
+read_text test _ = None
 
 -- a part before others
 abbrev pub and_part : Option Plain → Option Parts → Option Parts
@@ -56,20 +40,12 @@ item_count no_items = 0
 item_count (item d ds) = item_count ds + 1
 
 abbrev pub read_list : (ℕ → Bool) → (Data → Option Plain) → Data → Option Plain
-read_list test f null = None
-read_list test f (boolean b) = None
-read_list test f (number n) = None
-read_list test f (string s) = None
 read_list test f (array ds) = if test (item_count ds) then option_map parts (read_items f ds) else None
-read_list test f (object ms) = None
+read_list test f _ = None
 
 abbrev pub read_maybe : (Data → Option Plain) → Data → Option Plain
 read_maybe f null = Some absent
-read_maybe f (boolean b) = option_map present (f (boolean b))
-read_maybe f (number n) = option_map present (f (number n))
-read_maybe f (string s) = option_map present (f (string s))
-read_maybe f (array ds) = option_map present (f (array ds))
-read_maybe f (object ms) = option_map present (f (object ms))
+read_maybe f other = option_map present (f other)
 
 -- a member as an entry
 abbrev pub read_entry : (List ℕ → Bool) → (Data → Option Plain) → List ℕ → Data → Option Plain
@@ -82,12 +58,8 @@ read_entries ns test f (member k d ms) =
     if has_name k ns then read_entries ns test f ms else and_part (read_entry test f k d) (read_entries ns test f ms)
 
 abbrev pub read_map : (Members → Option Parts) → Data → Option Plain
-read_map f null = None
-read_map f (boolean b) = None
-read_map f (number n) = None
-read_map f (string s) = None
-read_map f (array ds) = None
 read_map f (object ms) = option_map parts (f ms)
+read_map f _ = None
 
 -- an object with an empty list as its value set
 abbrev pub empty_set : Data
@@ -100,10 +72,7 @@ or_absent true f = option_map present (f empty_set)
 abbrev pub read_or_truth : (Data → Option Plain) → Data → Option Plain
 read_or_truth f null = Some absent
 read_or_truth f (boolean b) = or_absent b f
-read_or_truth f (number n) = option_map present (f (number n))
-read_or_truth f (string s) = option_map present (f (string s))
-read_or_truth f (array ds) = option_map present (f (array ds))
-read_or_truth f (object ms) = option_map present (f (object ms))
+read_or_truth f other = option_map present (f other)
 
 abbrev pub read_member : Rule → (Data → Option Plain) → Option Data → Option Plain
 read_member required f None = None
@@ -127,12 +96,8 @@ read_supported f None = Some absent
 read_supported f (Some d) = read_or_truth f d
 
 abbrev pub read_record : (Data → Option Parts) → Data → Option Plain
-read_record f null = None
-read_record f (boolean b) = None
-read_record f (number n) = None
-read_record f (string s) = None
-read_record f (array ds) = None
 read_record f (object ms) = option_map parts (f (object ms))
+read_record f _ = None
 
 -- the parts, behind a map of the members that are not named
 abbrev pub and_rest : Option Parts → Option Parts → Option Parts
@@ -142,12 +107,8 @@ and_rest (Some es) (Some ps) = Some (part (parts es) ps)
 
 -- members that a record names, and the rest of them
 abbrev pub read_with_rest : (Members → Option Parts) → (Data → Option Parts) → Data → Option Plain
-read_with_rest f g null = None
-read_with_rest f g (boolean b) = None
-read_with_rest f g (number n) = None
-read_with_rest f g (string s) = None
-read_with_rest f g (array ds) = None
 read_with_rest f g (object ms) = option_map parts (and_rest (f ms) (g (object ms)))
+read_with_rest f g _ = None
 
 -- this, or else that
 abbrev pub first_of_two : Option Plain → Option Plain → Option Plain

@@ -83,20 +83,9 @@ are_apart (m ∷ ms) ns = not (has_name m ns) && are_apart ms ns
 -- the members that a value of the shape may have, where it can stand among others
 abbrev mutual
   pub names : Shape → List (List ℕ)
-  names nil = []
-  names truth = []
-  names (integer low high) = []
-  names (bits high) = []
-  names (text test) = []
-  names any = []
-  names (list_of test s) = []
-  names (maybe s) = []
-  names (map_of test s) = []
   names (fields fs) = field_names fs
-  names (fields_and s fs) = []
-  names (recursive fs) = []
-  names (union ss) = []
   names (tagged tag vs) = tag ∷ variant_names vs
+  names _ = []
 
   pub field_names : Fields → List (List ℕ)
   field_names no_fields = []
@@ -111,20 +100,9 @@ abbrev mutual
 
 -- a shape whose members can stand among others
 abbrev pub is_open : Shape → Bool
-is_open nil = false
-is_open truth = false
-is_open (integer low high) = false
-is_open (bits high) = false
-is_open (text test) = false
-is_open any = false
-is_open (list_of test s) = false
-is_open (maybe s) = false
-is_open (map_of test s) = false
 is_open (fields fs) = true
-is_open (fields_and s fs) = false
-is_open (recursive fs) = false
-is_open (union ss) = false
 is_open (tagged tag vs) = true
+is_open _ = false
 
 -- no two fields have a name in common
 abbrev pub are_distinct : Fields → Bool

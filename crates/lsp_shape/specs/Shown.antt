@@ -34,6 +34,10 @@ show_list show v = parts (parts_of (map show v.items))
 abbrev pub show_pair : List ℕ → Plain
 show_pair xs = parts (part (show_unsigned (slice_index xs 0)) (part (show_unsigned (slice_index xs 1)) no_parts))
 
+-- the numbers of tokens
+abbrev pub show_tokens : List ℕ → Plain
+show_tokens xs = parts (parts_of (map show_unsigned xs))
+
 -- the entries of a map, in the order of their keys
 abbrev pub show_map : {K X S : Type 0} → (K → List ℕ) → (X → Plain) → HashMap K X S → Plain
 show_map text show m = parts (entries_of text show m.entries)

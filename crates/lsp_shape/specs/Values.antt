@@ -10,11 +10,7 @@ use Rattle.lsp_shape.specs.Write.{write, write_nth, write_count, writes_null, pi
 
 abbrev pub is_leaf : (Data → Bool) → Plain → Bool
 is_leaf test (leaf d) = test d
-is_leaf test absent = false
-is_leaf test (present p) = false
-is_leaf test (parts ps) = false
-is_leaf test (entry k p) = false
-is_leaf test (choice n p) = false
+is_leaf test _ = false
 
 abbrev pub is_null : Data → Bool
 is_null d = is_some (read_nil d)
@@ -29,12 +25,8 @@ is_number_within low high (negative z) = int_le low z && int_le z high && not (i
 is_number_within low high (float x) = false
 
 abbrev pub is_integer_within : ℤ → ℤ → Data → Bool
-is_integer_within low high null = false
-is_integer_within low high (boolean b) = false
 is_integer_within low high (number n) = is_number_within low high n
-is_integer_within low high (string s) = false
-is_integer_within low high (array ds) = false
-is_integer_within low high (object ms) = false
+is_integer_within low high _ = false
 
 abbrev pub is_unsigned_number : Num → Bool
 is_unsigned_number (unsigned n) = true
@@ -42,12 +34,8 @@ is_unsigned_number (negative z) = false
 is_unsigned_number (float x) = false
 
 abbrev pub is_unsigned : Data → Bool
-is_unsigned null = false
-is_unsigned (boolean b) = false
 is_unsigned (number n) = is_unsigned_number n
-is_unsigned (string s) = false
-is_unsigned (array ds) = false
-is_unsigned (object ms) = false
+is_unsigned _ = false
 
 abbrev pub is_text_of : (List ℕ → Bool) → Data → Bool
 is_text_of test d = is_some (read_text test d)
@@ -65,45 +53,26 @@ abbrev pub counted : (ℕ → Bool) → (Plain → Bool) → Parts → Bool
 counted length_test test ps = length_test (part_count ps) && every test ps
 
 abbrev pub is_parts : (Parts → Bool) → Plain → Bool
-is_parts test (leaf d) = false
-is_parts test absent = false
-is_parts test (present p) = false
 is_parts test (parts ps) = test ps
-is_parts test (entry k p) = false
-is_parts test (choice n p) = false
+is_parts test _ = false
 
 abbrev pub is_maybe : (Plain → Bool) → Plain → Bool
-is_maybe test (leaf d) = false
 is_maybe test absent = true
 is_maybe test (present p) = test p
-is_maybe test (parts ps) = false
-is_maybe test (entry k p) = false
-is_maybe test (choice n p) = false
+is_maybe test _ = false
 
 abbrev pub is_entry : (List ℕ → Bool) → (Plain → Bool) → Plain → Bool
-is_entry key_test test (leaf d) = false
-is_entry key_test test absent = false
-is_entry key_test test (present p) = false
-is_entry key_test test (parts ps) = false
 is_entry key_test test (entry k p) = key_test k && test p
-is_entry key_test test (choice n p) = false
+is_entry key_test test _ = false
 
 abbrev pub is_choice : (ℕ → Plain → Bool) → Plain → Bool
-is_choice test (leaf d) = false
-is_choice test absent = false
-is_choice test (present p) = false
-is_choice test (parts ps) = false
-is_choice test (entry k p) = false
 is_choice test (choice n p) = test n p
+is_choice test _ = false
 
 abbrev pub by_rule : Rule → (Plain → Bool) → Plain → Bool
-by_rule required test = test
 by_rule omitted test = is_maybe test
 by_rule nullable test = is_maybe test
-by_rule or_empty test = test
-by_rule or_false test = test
-by_rule unless_empty test = test
-by_rule unless_false test = test
+by_rule _ test = test
 
 abbrev pub first_and : (Plain → Bool) → (Parts → Bool) → Parts → Bool
 first_and test more no_parts = false
@@ -170,75 +139,43 @@ abbrev mutual
 
 -- what is there is not written as null
 abbrev pub clear_maybe : (Plain → Bool) → (Plain → Data) → Plain → Bool
-clear_maybe test f (leaf d) = true
-clear_maybe test f absent = true
 clear_maybe test f (present p) = not (is_null (f p)) && test p
-clear_maybe test f (parts ps) = true
-clear_maybe test f (entry k p) = true
-clear_maybe test f (choice n p) = true
+clear_maybe test f _ = true
 
 -- what is there passes
 abbrev pub clear_present : (Plain → Bool) → Plain → Bool
-clear_present test (leaf d) = true
-clear_present test absent = true
 clear_present test (present p) = test p
-clear_present test (parts ps) = true
-clear_present test (entry k p) = true
-clear_present test (choice n p) = true
+clear_present test _ = true
 
 abbrev pub clear_bits : ℕ → Data → Bool
-clear_bits high null = true
-clear_bits high (boolean b) = true
 clear_bits high (number n) = is_number_within (pos 0) (pos high) n
-clear_bits high (string s) = true
-clear_bits high (array ds) = true
-clear_bits high (object ms) = true
+clear_bits high _ = true
 
 abbrev pub clear_leaf : (Data → Bool) → Plain → Bool
 clear_leaf test (leaf d) = test d
-clear_leaf test absent = true
-clear_leaf test (present p) = true
-clear_leaf test (parts ps) = true
-clear_leaf test (entry k p) = true
-clear_leaf test (choice n p) = true
+clear_leaf test _ = true
 
 abbrev pub clear_member : Rule → (Plain → Bool) → (Plain → Data) → Plain → Bool
-clear_member required test f = test
 clear_member omitted test f = clear_maybe test f
 clear_member nullable test f = clear_maybe test f
-clear_member or_empty test f = test
-clear_member or_false test f = test
-clear_member unless_empty test f = test
-clear_member unless_false test f = test
+clear_member _ test f = test
 
 -- the value of each entry passes, and no key is one of the names
 abbrev pub clear_entry : List (List ℕ) → (Plain → Bool) → Plain → Bool
-clear_entry ns test (leaf d) = true
-clear_entry ns test absent = true
-clear_entry ns test (present p) = true
-clear_entry ns test (parts ps) = true
 clear_entry ns test (entry k p) = not (has_name k ns) && test p
-clear_entry ns test (choice n p) = true
+clear_entry ns test _ = true
 
 abbrev pub clear_parts : (Parts → Bool) → Plain → Bool
-clear_parts test (leaf d) = true
-clear_parts test absent = true
-clear_parts test (present p) = true
 clear_parts test (parts ps) = test ps
-clear_parts test (entry k p) = true
-clear_parts test (choice n p) = true
+clear_parts test _ = true
 
 abbrev pub clear_first : (Plain → Bool) → (Parts → Bool) → Parts → Bool
 clear_first test more no_parts = true
 clear_first test more (part p ps) = test p && more ps
 
 abbrev pub clear_choice : (ℕ → Plain → Bool) → Plain → Bool
-clear_choice test (leaf d) = true
-clear_choice test absent = true
-clear_choice test (present p) = true
-clear_choice test (parts ps) = true
-clear_choice test (entry k p) = true
 clear_choice test (choice n p) = test n p
+clear_choice test _ = true
 
 abbrev pub clear_count : Count → (Plain → Bool) → Plain → Bool
 clear_count one test = test
@@ -251,12 +188,7 @@ is_any p = true
 -- written as null; an entry of a record's map whose key is the name of a field; bits past those that are read.
 abbrev mutual
   pub clear : Shape → Plain → Bool
-  clear nil = is_any
-  clear truth = is_any
-  clear (integer low high) = is_any
   clear (bits high) = clear_leaf (clear_bits high)
-  clear (text test) = is_any
-  clear any = is_any
   clear (list_of test s) = clear_parts (every (clear s))
   clear (maybe s) = clear_maybe (clear s) (write s)
   clear (map_of test s) = clear_parts (every (clear_entry [] (clear s)))
@@ -265,6 +197,7 @@ abbrev mutual
   clear (recursive fs) = λ p. iterate (suc (plain_depth p)) is_any (λ self. clear_parts (clear_fields fs self (write (recursive fs)))) p
   clear (union ss) = clear_choice (clear_nth ss)
   clear (tagged name vs) = clear_choice (clear_nth_variant vs)
+  clear _ = is_any
 
   pub clear_fields : Fields → (Plain → Bool) → (Plain → Data) → Parts → Bool
   clear_fields no_fields = λ self writes ps. true
@@ -284,23 +217,13 @@ abbrev mutual
 -- ---- what is trimmed once and for all
 
 abbrev pub settled_member : Rule → (Plain → Bool) → Plain → Bool
-settled_member required test = test
 settled_member omitted test = clear_present test
 settled_member nullable test = clear_present test
-settled_member or_empty test = test
-settled_member or_false test = test
-settled_member unless_empty test = test
-settled_member unless_false test = test
+settled_member _ test = test
 
 -- everything but a variant of a union whose written value fits an earlier variant
 abbrev mutual
   pub is_settled : Shape → Plain → Bool
-  is_settled nil = is_any
-  is_settled truth = is_any
-  is_settled (integer low high) = is_any
-  is_settled (bits high) = is_any
-  is_settled (text test) = is_any
-  is_settled any = is_any
   is_settled (list_of test s) = clear_parts (every (is_settled s))
   is_settled (maybe s) = clear_present (is_settled s)
   is_settled (map_of test s) = clear_parts (every (clear_entry [] (is_settled s)))
@@ -309,6 +232,7 @@ abbrev mutual
   is_settled (recursive fs) = λ p. iterate (suc (plain_depth p)) is_any (λ self. clear_parts (are_settled fs self)) p
   is_settled (union ss) = clear_choice (is_settled_nth ss)
   is_settled (tagged name vs) = clear_choice (is_settled_variant vs)
+  is_settled _ = is_any
 
   pub are_settled : Fields → (Plain → Bool) → Parts → Bool
   are_settled no_fields = λ self ps. true

@@ -7,61 +7,37 @@ use Rattle.lsp_shape.specs.Read.{read, iterate}
 
 abbrev pub write_leaf : Plain → Data
 write_leaf (leaf d) = d
-write_leaf absent = null
-write_leaf (present p) = null
-write_leaf (parts ps) = null
-write_leaf (entry k p) = null
-write_leaf (choice n p) = null
+write_leaf _ = null
 
 abbrev pub write_items : (Plain → Data) → Parts → Items
 write_items f no_parts = no_items
 write_items f (part p ps) = item (f p) (write_items f ps)
 
 abbrev pub write_list : (Plain → Data) → Plain → Data
-write_list f (leaf d) = null
-write_list f absent = null
-write_list f (present p) = null
 write_list f (parts ps) = array (write_items f ps)
-write_list f (entry k p) = null
-write_list f (choice n p) = null
+write_list f _ = null
 
 abbrev pub write_maybe : (Plain → Data) → Plain → Data
-write_maybe f (leaf d) = null
-write_maybe f absent = null
 write_maybe f (present p) = f p
-write_maybe f (parts ps) = null
-write_maybe f (entry k p) = null
-write_maybe f (choice n p) = null
+write_maybe f _ = null
 
 -- the entry before the members
 abbrev pub write_entry : (Plain → Data) → Plain → Members → Members
-write_entry f (leaf d) ms = ms
-write_entry f absent ms = ms
-write_entry f (present p) ms = ms
-write_entry f (parts ps) ms = ms
 write_entry f (entry k p) ms = member k (f p) ms
-write_entry f (choice n p) ms = ms
+write_entry f _ ms = ms
 
 abbrev pub write_entries : (Plain → Data) → Parts → Members
 write_entries f no_parts = no_members
 write_entries f (part p ps) = write_entry f p (write_entries f ps)
 
 abbrev pub members_of_map : (Plain → Data) → Plain → Members
-members_of_map f (leaf d) = no_members
-members_of_map f absent = no_members
-members_of_map f (present p) = no_members
 members_of_map f (parts ps) = write_entries f ps
-members_of_map f (entry k p) = no_members
-members_of_map f (choice n p) = no_members
+members_of_map f _ = no_members
 
 -- nothing for what is absent
 abbrev pub put_present : List ℕ → (Plain → Data) → Plain → Members → Members
-put_present name f (leaf d) ms = ms
-put_present name f absent ms = ms
 put_present name f (present p) ms = put name (f p) ms
-put_present name f (parts ps) ms = ms
-put_present name f (entry k p) ms = ms
-put_present name f (choice n p) ms = ms
+put_present name f _ ms = ms
 
 -- an empty list
 abbrev pub is_empty : Plain → Bool
@@ -84,24 +60,18 @@ is_false_data (object ms) = false
 
 abbrev pub is_false : Plain → Bool
 is_false (leaf d) = is_false_data d
-is_false absent = false
-is_false (present p) = false
-is_false (parts ps) = false
-is_false (entry k p) = false
-is_false (choice n p) = false
+is_false _ = false
 
 abbrev pub put_unless : Bool → List ℕ → Data → Members → Members
 put_unless true name d ms = ms
 put_unless false name d ms = put name d ms
 
 abbrev pub write_member : List ℕ → Rule → (Plain → Data) → Plain → Members → Members
-write_member name required f p ms = put name (f p) ms
 write_member name omitted f p ms = put_present name f p ms
 write_member name nullable f p ms = put name (write_maybe f p) ms
-write_member name or_empty f p ms = put name (f p) ms
-write_member name or_false f p ms = put name (f p) ms
 write_member name unless_empty f p ms = put_unless (is_empty p) name (f p) ms
 write_member name unless_false f p ms = put_unless (is_false p) name (f p) ms
+write_member name _ f p ms = put name (f p) ms
 
 -- the second, with each member of the first put into it
 abbrev pub put_all : Members → Members → Members
@@ -109,24 +79,16 @@ put_all no_members ms = ms
 put_all (member k d more) ms = put_all more (put k d ms)
 
 abbrev pub members_in : Data → Members
-members_in null = no_members
-members_in (boolean b) = no_members
-members_in (number n) = no_members
-members_in (string s) = no_members
-members_in (array ds) = no_members
 members_in (object ms) = ms
+members_in _ = no_members
 
 abbrev pub write_part : (Plain → Members → Members) → (Parts → Members → Members) → Parts → Members → Members
 write_part f g no_parts ms = ms
 write_part f g (part p ps) ms = g ps (f p ms)
 
 abbrev pub write_record : (Parts → Members → Members) → Plain → Data
-write_record f (leaf d) = null
-write_record f absent = null
-write_record f (present p) = null
 write_record f (parts ps) = object (f ps no_members)
-write_record f (entry k p) = null
-write_record f (choice n p) = null
+write_record f _ = null
 
 -- the first part is a map, into which the others are put
 abbrev pub write_after_map : (Plain → Members) → (Parts → Members → Members) → Parts → Members
@@ -134,28 +96,16 @@ write_after_map f g no_parts = no_members
 write_after_map f g (part p ps) = g ps (f p)
 
 abbrev pub write_with_rest : (Plain → Members) → (Parts → Members → Members) → Plain → Data
-write_with_rest f g (leaf d) = null
-write_with_rest f g absent = null
-write_with_rest f g (present p) = null
 write_with_rest f g (parts ps) = object (write_after_map f g ps)
-write_with_rest f g (entry k p) = null
-write_with_rest f g (choice n p) = null
+write_with_rest f g _ = null
 
 abbrev pub write_map : (Plain → Data) → Plain → Data
-write_map f (leaf d) = null
-write_map f absent = null
-write_map f (present p) = null
 write_map f (parts ps) = object (write_entries f ps)
-write_map f (entry k p) = null
-write_map f (choice n p) = null
+write_map f _ = null
 
 abbrev pub write_choice : (ℕ → Plain → Data) → Plain → Data
-write_choice f (leaf d) = null
-write_choice f absent = null
-write_choice f (present p) = null
-write_choice f (parts ps) = null
-write_choice f (entry k p) = null
 write_choice f (choice n p) = f n p
+write_choice f _ = null
 
 abbrev pub pick : {A : Type 0} → A → (ℕ → A) → ℕ → A
 pick a f zero = a
@@ -170,12 +120,6 @@ writes_null p = null
 
 abbrev mutual
   pub write : Shape → Plain → Data
-  write nil = write_leaf
-  write truth = write_leaf
-  write (integer low high) = write_leaf
-  write (bits high) = write_leaf
-  write (text test) = write_leaf
-  write any = write_leaf
   write (list_of test s) = write_list (write s)
   write (maybe s) = write_maybe (write s)
   write (map_of test s) = write_map (write s)
@@ -184,6 +128,7 @@ abbrev mutual
   write (recursive fs) = λ p. iterate (suc (plain_depth p)) writes_null (λ self. write_record (write_fields fs self)) p
   write (union ss) = write_choice (write_nth ss)
   write (tagged name vs) = write_choice (write_tagged vs name)
+  write _ = write_leaf
 
   -- by how the record itself is written
   pub write_fields : Fields → (Plain → Data) → Parts → Members → Members

@@ -3,7 +3,7 @@ ghost use Rattle.std.specs.Prelude.{◌≡◌, option_map, map, IfOk, IsErrOf, S
 ghost use Rattle.serde_json.specs.View.{view, items_view};
 ghost use Rattle.serde_json.specs.Data.{null};
 ghost use Rattle.lsp_shape.specs.Plain.{leaf, parts, parts_of};
-ghost use Rattle.lsp_shape.specs.Shape.{nil, truth, any, list, pair, tokens, maybe, u8_shape, u32_shape, i32_shape, i64_shape, string_shape, object_shape};
+ghost use Rattle.lsp_shape.specs.Shape.{nil, truth, any, list, pair, maybe, u8_shape, u32_shape, i32_shape, i64_shape, string_shape, object_shape};
 ghost use Rattle.lsp_shape.specs.Read.{read, read_items};
 ghost use Rattle.lsp_shape.specs.Shown.{show_bool, show_pair, show_unsigned, show_signed, show_string, show_value, show_option, show_list, show_object};
 
@@ -250,18 +250,5 @@ impl Wire for [u32; 2] {
         items.push(Value::from(self[0]))?;
         items.push(Value::from(self[1]))?;
         Ok(Value::Array(items))
-    }
-}
-
-/// The numbers of a list of tokens, five for each.
-pub fn token_numbers(alloc: Global, value: &Value) -> Result<Vec<u32>, Misfit>
-    ensures read { IfOk result (λ v. read tokens (view value.now) ≡ Some (show_list show_unsigned v)) }
-    ensures unfit { IsErrOf result Misfit.Unfit → read tokens (view value.now) ≡ None }
-{
-    let numbers = Vec::<u32>::from_value(alloc, value)?;
-    if numbers.len() % 5 == 0 {
-        Ok(numbers)
-    } else {
-        Err(Misfit::Unfit)
     }
 }

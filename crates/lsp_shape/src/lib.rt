@@ -6,12 +6,13 @@ mod basic;
 mod law;
 mod map;
 mod member;
+mod object;
 #[cfg(test)]
 mod tests;
+mod tokens;
 mod wire;
 
 pub use among::{attempt, members_written, put_flat, put_tag, tag};
-pub use basic::token_numbers;
 pub use law::{read_value, reads_back, trimmed, write_value};
 pub use map::{Key, rest};
 pub use member::{
@@ -19,4 +20,6 @@ pub use member::{
     put_unless_false, put_value, supported, truth_or_false,
 };
 pub use no_memory::NoMemory;
+pub use object::{Reader, Writer};
+pub use tokens::TokenNumbers;
 pub use wire::{Misfit, Wire};

@@ -1,9 +1,9 @@
 // What no clause says: that reading and writing succeed, and what JSON texts of the protocol read as.
 use crate::{
-    Key, Misfit, Wire, attempt, field, find, list_or_empty, members_written, optional, put,
-    put_flat, put_nullable, put_optional, put_tag, put_unless_empty, put_unless_false, put_value,
-    read_value, reads_back, rest, supported, tag, token_numbers, trimmed, truth_or_false,
-    write_value,
+    Key, Misfit, Reader, TokenNumbers, Wire, Writer, attempt, field, find, list_or_empty,
+    members_written, optional, put, put_flat, put_nullable, put_optional, put_tag,
+    put_unless_empty, put_unless_false, put_value, read_value, reads_back, rest, supported, tag,
+    trimmed, truth_or_false, write_value,
 };
 use serde_json::{Map, Value};
 use std::alloc::Global;
@@ -194,17 +194,66 @@ fn fields_are_put(rt: HostRuntime) -> Result<(), Fail> {
     Ok(())
 }
 
-// Of the section "Semantic tokens": two tokens, of five numbers each.
+// Of the section "Semantic Tokens": two tokens, of five numbers each.
 #[test]
 fn numbers_of_tokens(rt: HostRuntime) -> Result<(), Fail> {
     let alloc = rt.alloc();
-    let tokens = token_numbers(alloc, &json(alloc, "[2,5,3,0,3,0,5,4,1,0]")?)?;
+    let text = "[2,5,3,0,3,0,5,4,1,0]";
+    assert_eq!(rt; written::<TokenNumbers>(alloc, text)?.as_str(), text);
     assert_eq!(rt;
-        tokens.as_slice(),
-        [2, 5, 3, 0, 3, 0, 5, 4, 1, 0].as_slice()
+        written::<Option<TokenNumbers>>(alloc, "null")?.as_str(),
+        "null"
     );
-    let four = json(alloc, "[2,5,3,0]")?;
-    assert_eq!(rt; token_numbers(alloc, &four), Err(Misfit::Unfit));
+    assert!(rt; is_refused::<TokenNumbers>(alloc, "[2,5,3,0]")?);
+    let tokens = TokenNumbers::new(vec![in alloc; 2u32, 5, 3, 0, 3]?);
+    assert_eq!(rt; tokens.as_slice(), [2, 5, 3, 0, 3].as_slice());
+    Ok(())
+}
+
+#[test]
+fn an_object_is_read(rt: HostRuntime) -> Result<(), Fail> {
+    let alloc = rt.alloc();
+    let value = json(
+        alloc,
+        "{\"a\":1,\"b\":null,\"c\":true,\"d\":[2],\"e\":{\"valueSet\":[3]}}",
+    )?;
+    let object = Reader::new(alloc, &value)?;
+    assert_eq!(rt; object.field::<u32>("a")?, 1);
+    assert_eq!(rt; object.optional::<u32>("a")?, Some(1));
+    assert_eq!(rt; object.optional::<u32>("b")?, None);
+    assert!(rt; object.truth_or_false("c")?);
+    assert_eq!(rt;
+        object.list_or_empty::<u32>("d")?.as_slice(),
+        [2].as_slice()
+    );
+    let set = object.supported::<Value>("e")?.ok_or("absent")?;
+    assert_eq!(rt; set.to_string(alloc)?.as_str(), "{\"valueSet\":[3]}");
+    let others: HashMap<String, i32> = object.rest(&["b", "c", "d", "e"])?;
+    assert_eq!(rt;
+        others.to_value(alloc)?.to_string(alloc)?.as_str(),
+        "{\"a\":1}"
+    );
+    assert!(rt; Reader::new(alloc, &Value::Null).is_err());
+    Ok(())
+}
+
+#[test]
+fn an_object_is_written(rt: HostRuntime) -> Result<(), Fail> {
+    let alloc = rt.alloc();
+    let mut object = Writer::with_rest(alloc, &self::object(alloc, "{\"x\":0}")?)?;
+    object.field("a", &1u32)?;
+    object.optional("b", &Some(2u32))?;
+    object.nullable::<u32>("c", &None)?;
+    object.unless_empty("d", &vec![in alloc; 3u32]?)?;
+    object.unless_false("e", true)?;
+    object.flat(&self::object(alloc, "{\"f\":4}")?)?;
+    object.tag("kind", "g")?;
+    assert_eq!(rt;
+        object.end().to_string(alloc)?.as_str(),
+        "{\"a\":1,\"b\":2,\"c\":null,\"d\":[3],\"e\":true,\"f\":4,\"kind\":\"g\",\"x\":0}"
+    );
+    let none = Writer::new(alloc).end();
+    assert_eq!(rt; none.to_string(alloc)?.as_str(), "{}");
     Ok(())
 }
 

@@ -1,11 +1,15 @@
-ghost use Rattle.std.specs.Prelude.{◌≡◌, IfOk, OnOk, true, IsErrOf, Some, None};
+ghost use Rattle.std.specs.Prelude.{◌≡◌, IfOk, OnOk, true, false, IsErrOf, Some, None};
+ghost use Rattle.serde_json.specs.Data.{Data};
 ghost use Rattle.serde_json.specs.View.{view};
-ghost use Rattle.lsp_shape.specs.Plain.{Plain};
+ghost use Rattle.serde_json.specs.Written.{has_float};
+ghost use Rattle.lsp_shape.specs.Plain.{Plain, plain_has_float};
 ghost use Rattle.lsp_shape.specs.Shape.{Shape};
 ghost use Rattle.lsp_shape.specs.Read.{read};
 ghost use Rattle.lsp_shape.specs.Write.{write};
 ghost use Rattle.lsp_shape.specs.Values.{is_of};
 ghost use Rattle.lsp_shape.specs.declared.wire.Misfit.TheVariants as misfits;
+ghost use Rattle.lsp_shape.specs.FloatsRead.{read_floatless};
+ghost use Rattle.lsp_shape.specs.FloatsWritten.{write_floatless};
 
 use no_memory::NoMemory;
 use serde_json::Value;
@@ -62,4 +66,10 @@ pub trait Wire: Drop {
     fn to_value(&self, alloc: Global) -> Result<Value, NoMemory>
         ensures written { IfOk result (λ v. view v ≡ write shape (shown self.now)) }
         ensures of_shape { OnOk result (is_of shape (shown self.now) ≡ true) };
+
+    /// What is read of a value with no float holds none.
+    ghost reads_no_float: { (d : Data) (p : Plain) → has_float d ≡ false → read shape d ≡ Some p → plain_has_float p ≡ false } = { read_floatless shape };
+
+    /// What is written of a value that holds no float has none.
+    ghost writes_no_float: { (p : Plain) → plain_has_float p ≡ false → has_float (write shape p) ≡ false } = { write_floatless shape };
 }

@@ -209,11 +209,11 @@ impl fmt::Display for Uri {
 }
 
 impl Wire for Uri {
-    ghost use Rattle.lsp_uri.specs.Uri.{uri_shape, show_uri};
+    ghost use Rattle.lsp_uri.specs.Uri.{uri_row};
 
-    ghost shape = { uri_shape };
+    ghost shape = { uri_row.shape };
 
-    ghost shown = { show_uri };
+    ghost shown = { uri_row.shown };
 
     fn from_value(alloc: Global, value: &Value) -> Result<Uri, Misfit> {
         match value {

@@ -1,6 +1,6 @@
 use Rattle.std.proofs.lemmas.Result.{IfOk-weaker}
 use Rattle.serde_json.specs.View.{view}
-use Rattle.lsp_shape.proofs.FloatsRead.{read_floatless}
+use Rattle.lsp_shape.specs.FloatsRead.{read_floatless}
 use Rattle.lsp_shape.proofs.law.read_value.Goals as goal
 
 pub returns-clause-floatless : goal.returns-clause-floatless

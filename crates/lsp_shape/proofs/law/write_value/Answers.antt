@@ -1,7 +1,7 @@
 use Rattle.std.proofs.Common.{ap, ◌∙◌}
 use Rattle.std.proofs.lemmas.Result.{IfOk-weaker}
 use Rattle.serde_json.specs.Written.{has_float}
-use Rattle.lsp_shape.proofs.FloatsWritten.{write_floatless}
+use Rattle.lsp_shape.specs.FloatsWritten.{write_floatless}
 use Rattle.lsp_shape.proofs.law.write_value.Goals as goal
 
 pub returns-clause-floatless : goal.returns-clause-floatless

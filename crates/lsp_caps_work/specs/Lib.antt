@@ -1,0 +1,10 @@
+pub mod Client
+pub mod Configuration
+pub mod Edit
+pub mod Files
+pub mod General
+pub mod Notebook
+pub mod Refresh
+pub mod Symbols
+pub mod Window
+pub mod Workspace

@@ -1,0 +1,9 @@
+pub mod CodeAction
+pub mod Completion
+pub mod Formatting
+pub mod Goto
+pub mod Hover
+pub mod Selection
+pub mod SignatureHelp
+pub mod Symbols
+pub mod Sync

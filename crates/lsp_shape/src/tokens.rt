@@ -1,0 +1,63 @@
+// The numbers of a list of tokens.
+ghost use Rattle.std.specs.Prelude.{◌≡◌, ◌%◌, length};
+ghost use Rattle.lsp_shape.specs.Shape.{tokens};
+ghost use Rattle.lsp_shape.specs.Shown.{show_tokens};
+
+use crate::wire::{Misfit, Wire};
+use no_memory::NoMemory;
+use serde_json::Value;
+use std::alloc::Global;
+use std::marker::Model;
+
+/// The numbers of a list of tokens, five for each: section "Semantic Tokens" of LSP 3.17.
+#[derive(Drop)]
+pub struct TokenNumbers {
+    numbers: Vec<u32>,
+}
+
+impl Model for TokenNumbers {
+    ghost use Rattle.std.specs.Prelude.{◌≡◌, ◌%◌, ℕ, List, length};
+
+    ghost Value = { List ℕ };
+
+    ghost view = { λ t. t.numbers.items };
+
+    ghost invariant = { λ t. length t.numbers.items % 5 ≡ 0 };
+}
+
+impl TokenNumbers {
+    /// The tokens of these numbers.
+    pub fn new(numbers: Vec<u32>) -> TokenNumbers
+        requires { length numbers.items % 5 ≡ 0 }
+        ensures { result ≡ numbers.items }
+    {
+        TokenNumbers { numbers }
+    }
+
+    /// The numbers, five for each token.
+    pub fn as_slice(&self) -> &[u32]
+        ensures numbers { result.now ≡ self.now }
+        ensures fives { length self.now % 5 ≡ 0 }
+    {
+        self.numbers.as_slice()
+    }
+}
+
+impl Wire for TokenNumbers {
+    ghost shape = { tokens };
+
+    ghost shown = { show_tokens };
+
+    fn from_value(alloc: Global, value: &Value) -> Result<TokenNumbers, Misfit> {
+        let numbers = Vec::<u32>::from_value(alloc, value)?;
+        if numbers.len() % 5 == 0 {
+            Ok(TokenNumbers { numbers })
+        } else {
+            Err(Misfit::Unfit)
+        }
+    }
+
+    fn to_value(&self, alloc: Global) -> Result<Value, NoMemory> {
+        self.numbers.to_value(alloc)
+    }
+}

@@ -1,0 +1,300 @@
+// The rows of lsp_offer_lang.
+use crate::rows::{holds, text_of};
+use lsp_offer_lang::{
+    CallHierarchyOptions, CallHierarchyServerCapability, ColorProviderCapability,
+    ColorProviderOptions, DiagnosticOptions, DiagnosticRegistrationOptions,
+    DiagnosticServerCapabilities, FoldingProviderOptions, FoldingRangeProviderCapability,
+    InlayHintOptions, InlayHintRegistrationOptions, InlayHintServerCapabilities,
+    InlineValueOptions, InlineValueRegistrationOptions, InlineValueServerCapabilities,
+    LinkedEditingRangeOptions, LinkedEditingRangeRegistrationOptions,
+    LinkedEditingRangeServerCapabilities, MonikerOptions, MonikerRegistrationOptions,
+    MonikerServerCapabilities, SemanticTokensLegend, SemanticTokensOptions,
+    SemanticTokensRegistrationOptions, SemanticTokensServerCapabilities,
+    StaticTextDocumentColorProviderOptions, TypeHierarchyOptions, TypeHierarchyRegistrationOptions,
+};
+use std::test::Fail;
+
+const CALL_HIERARCHY_SERVER_CAPABILITY: &str = r#"
+true :: Simple(true)
+{"workDoneProgress":true} :: Options(CallHierarchyOptions { work_done_progress_options: WorkDoneProgressOptions { work_done_progress: Some(true) } })
+! [1]
+# clangd 14.0.6
+true
+"#;
+
+const CALL_HIERARCHY_OPTIONS: &str = r#"
+{"workDoneProgress":true} :: CallHierarchyOptions { work_done_progress_options: WorkDoneProgressOptions { work_done_progress: Some(true) } }
+! []
+"#;
+
+const TYPE_HIERARCHY_OPTIONS: &str = r#"
+{"workDoneProgress":true} :: TypeHierarchyOptions { work_done_progress_options: WorkDoneProgressOptions { work_done_progress: Some(true) } }
+! []
+"#;
+
+const TYPE_HIERARCHY_REGISTRATION_OPTIONS: &str = r#"
+{"documentSelector":[{"language":"language"}],"id":"id","workDoneProgress":true} :: TypeHierarchyRegistrationOptions { text_document_registration_options: TextDocumentRegistrationOptions { document_selector: Some([DocumentFilter { language: Some("language"), scheme: None, pattern: None }]) }, type_hierarchy_options: TypeHierarchyOptions { work_done_progress_options: WorkDoneProgressOptions { work_done_progress: Some(true) } }, static_registration_options: StaticRegistrationOptions { id: Some("id") } }
+! []
+"#;
+
+const COLOR_PROVIDER_CAPABILITY: &str = r#"
+true :: Simple(true)
+{} :: ColorProvider(ColorProviderOptions)
+{"documentSelector":[{"language":"language"}]} => {} :: ColorProvider(ColorProviderOptions)
+! [1]
+"#;
+
+const COLOR_PROVIDER_OPTIONS: &str = r#"
+{} :: ColorProviderOptions
+! []
+"#;
+
+const STATIC_TEXT_DOCUMENT_COLOR_PROVIDER_OPTIONS: &str = r#"
+{"documentSelector":[{"language":"language"}],"id":"id"} :: StaticTextDocumentColorProviderOptions { document_selector: Some([DocumentFilter { language: Some("language"), scheme: None, pattern: None }]), id: Some("id") }
+! {"documentSelector":"no"}
+"#;
+
+const FOLDING_RANGE_PROVIDER_CAPABILITY: &str = r#"
+true :: Simple(true)
+{} :: FoldingProvider(FoldingProviderOptions)
+{"documentSelector":[{"language":"language"}]} => {} :: FoldingProvider(FoldingProviderOptions)
+! [1]
+# pylsp 1.7.1
+true
+"#;
+
+const FOLDING_PROVIDER_OPTIONS: &str = r#"
+{} :: FoldingProviderOptions
+! []
+"#;
+
+const LINKED_EDITING_RANGE_SERVER_CAPABILITIES: &str = r#"
+true :: Simple(true)
+{"workDoneProgress":true} :: Options(LinkedEditingRangeOptions { work_done_progress_options: WorkDoneProgressOptions { work_done_progress: Some(true) } })
+{"documentSelector":[{"language":"language"}],"id":"id","workDoneProgress":true} => {"workDoneProgress":true} :: Options(LinkedEditingRangeOptions { work_done_progress_options: WorkDoneProgressOptions { work_done_progress: Some(true) } })
+! [1]
+"#;
+
+const LINKED_EDITING_RANGE_OPTIONS: &str = r#"
+{"workDoneProgress":true} :: LinkedEditingRangeOptions { work_done_progress_options: WorkDoneProgressOptions { work_done_progress: Some(true) } }
+! []
+"#;
+
+const LINKED_EDITING_RANGE_REGISTRATION_OPTIONS: &str = r#"
+{"documentSelector":[{"language":"language"}],"id":"id","workDoneProgress":true} :: LinkedEditingRangeRegistrationOptions { text_document_registration_options: TextDocumentRegistrationOptions { document_selector: Some([DocumentFilter { language: Some("language"), scheme: None, pattern: None }]) }, linked_editing_range_options: LinkedEditingRangeOptions { work_done_progress_options: WorkDoneProgressOptions { work_done_progress: Some(true) } }, static_registration_options: StaticRegistrationOptions { id: Some("id") } }
+! []
+"#;
+
+const SEMANTIC_TOKENS_SERVER_CAPABILITIES: &str = r#"
+{"legend":{"tokenModifiers":["tokenModifiers"],"tokenTypes":["tokenTypes"]},"workDoneProgress":true} :: SemanticTokensOptions(SemanticTokensOptions { work_done_progress_options: WorkDoneProgressOptions { work_done_progress: Some(true) }, legend: SemanticTokensLegend { token_types: [SemanticTokenType("tokenTypes")], token_modifiers: [SemanticTokenModifier("tokenModifiers")] }, range: None, full: None })
+{"documentSelector":[{"language":"language"}],"id":"id","legend":{"tokenModifiers":["tokenModifiers"],"tokenTypes":["tokenTypes"]},"workDoneProgress":true} => {"legend":{"tokenModifiers":["tokenModifiers"],"tokenTypes":["tokenTypes"]},"workDoneProgress":true} :: SemanticTokensOptions(SemanticTokensOptions { work_done_progress_options: WorkDoneProgressOptions { work_done_progress: Some(true) }, legend: SemanticTokensLegend { token_types: [SemanticTokenType("tokenTypes")], token_modifiers: [SemanticTokenModifier("tokenModifiers")] }, range: None, full: None })
+! false
+# clangd 14.0.6
+{"full":{"delta":true},"legend":{"tokenModifiers":["declaration","deprecated","deduced","readonly","static","abstract","virtual","dependentName","defaultLibrary","usedAsMutableReference","functionScope","classScope","fileScope","globalScope"],"tokenTypes":["variable","variable","parameter","function","method","function","property","variable","class","interface","enum","enumMember","type","type","unknown","namespace","typeParameter","concept","type","macro","comment"]},"range":false}
+"#;
+
+const SEMANTIC_TOKENS_OPTIONS: &str = r#"
+{"full":true,"legend":{"tokenModifiers":["tokenModifiers"],"tokenTypes":["tokenTypes"]},"range":true,"workDoneProgress":true} :: SemanticTokensOptions { work_done_progress_options: WorkDoneProgressOptions { work_done_progress: Some(true) }, legend: SemanticTokensLegend { token_types: [SemanticTokenType("tokenTypes")], token_modifiers: [SemanticTokenModifier("tokenModifiers")] }, range: Some(true), full: Some(Bool(true)) }
+! {"workDoneProgress":true}
+# clangd 14.0.6
+{"full":{"delta":true},"legend":{"tokenModifiers":["declaration","deprecated","deduced","readonly","static","abstract","virtual","dependentName","defaultLibrary","usedAsMutableReference","functionScope","classScope","fileScope","globalScope"],"tokenTypes":["variable","variable","parameter","function","method","function","property","variable","class","interface","enum","enumMember","type","type","unknown","namespace","typeParameter","concept","type","macro","comment"]},"range":false}
+"#;
+
+const SEMANTIC_TOKENS_REGISTRATION_OPTIONS: &str = r#"
+{"documentSelector":[{"language":"language"}],"id":"id","legend":{"tokenModifiers":["tokenModifiers"],"tokenTypes":["tokenTypes"]},"workDoneProgress":true} :: SemanticTokensRegistrationOptions { text_document_registration_options: TextDocumentRegistrationOptions { document_selector: Some([DocumentFilter { language: Some("language"), scheme: None, pattern: None }]) }, semantic_tokens_options: SemanticTokensOptions { work_done_progress_options: WorkDoneProgressOptions { work_done_progress: Some(true) }, legend: SemanticTokensLegend { token_types: [SemanticTokenType("tokenTypes")], token_modifiers: [SemanticTokenModifier("tokenModifiers")] }, range: None, full: None }, static_registration_options: StaticRegistrationOptions { id: Some("id") } }
+! []
+"#;
+
+const SEMANTIC_TOKENS_LEGEND: &str = r#"
+{"tokenModifiers":["tokenModifiers"],"tokenTypes":["tokenTypes"]} :: SemanticTokensLegend { token_types: [SemanticTokenType("tokenTypes")], token_modifiers: [SemanticTokenModifier("tokenModifiers")] }
+! {"tokenModifiers":["tokenModifiers"]}
+# clangd 14.0.6
+{"tokenModifiers":["declaration","deprecated","deduced","readonly","static","abstract","virtual","dependentName","defaultLibrary","usedAsMutableReference","functionScope","classScope","fileScope","globalScope"],"tokenTypes":["variable","variable","parameter","function","method","function","property","variable","class","interface","enum","enumMember","type","type","unknown","namespace","typeParameter","concept","type","macro","comment"]}
+"#;
+
+const MONIKER_SERVER_CAPABILITIES: &str = r#"
+{"workDoneProgress":true} :: Options(MonikerOptions { work_done_progress_options: WorkDoneProgressOptions { work_done_progress: Some(true) } })
+{"documentSelector":[{"language":"language"}],"workDoneProgress":true} => {"workDoneProgress":true} :: Options(MonikerOptions { work_done_progress_options: WorkDoneProgressOptions { work_done_progress: Some(true) } })
+! false
+"#;
+
+const MONIKER_OPTIONS: &str = r#"
+{"workDoneProgress":true} :: MonikerOptions { work_done_progress_options: WorkDoneProgressOptions { work_done_progress: Some(true) } }
+! []
+"#;
+
+const MONIKER_REGISTRATION_OPTIONS: &str = r#"
+{"documentSelector":[{"language":"language"}],"workDoneProgress":true} :: MonikerRegistrationOptions { text_document_registration_options: TextDocumentRegistrationOptions { document_selector: Some([DocumentFilter { language: Some("language"), scheme: None, pattern: None }]) }, moniker_options: MonikerOptions { work_done_progress_options: WorkDoneProgressOptions { work_done_progress: Some(true) } } }
+! []
+"#;
+
+const INLAY_HINT_SERVER_CAPABILITIES: &str = r#"
+{"workDoneProgress":true} :: Options(InlayHintOptions { work_done_progress_options: WorkDoneProgressOptions { work_done_progress: Some(true) }, resolve_provider: None })
+{"documentSelector":[{"language":"language"}],"id":"id","workDoneProgress":true} => {"workDoneProgress":true} :: Options(InlayHintOptions { work_done_progress_options: WorkDoneProgressOptions { work_done_progress: Some(true) }, resolve_provider: None })
+! false
+# rust-analyzer 1.96
+{"resolveProvider":true}
+"#;
+
+const INLAY_HINT_OPTIONS: &str = r#"
+{"resolveProvider":true,"workDoneProgress":true} :: InlayHintOptions { work_done_progress_options: WorkDoneProgressOptions { work_done_progress: Some(true) }, resolve_provider: Some(true) }
+! {"resolveProvider":"no"}
+# rust-analyzer 1.96
+{"resolveProvider":true}
+"#;
+
+const INLAY_HINT_REGISTRATION_OPTIONS: &str = r#"
+{"documentSelector":[{"language":"language"}],"id":"id","workDoneProgress":true} :: InlayHintRegistrationOptions { inlay_hint_options: InlayHintOptions { work_done_progress_options: WorkDoneProgressOptions { work_done_progress: Some(true) }, resolve_provider: None }, text_document_registration_options: TextDocumentRegistrationOptions { document_selector: Some([DocumentFilter { language: Some("language"), scheme: None, pattern: None }]) }, static_registration_options: StaticRegistrationOptions { id: Some("id") } }
+! []
+"#;
+
+const INLINE_VALUE_SERVER_CAPABILITIES: &str = r#"
+{"workDoneProgress":true} :: Options(InlineValueOptions { work_done_progress_options: WorkDoneProgressOptions { work_done_progress: Some(true) } })
+{"documentSelector":[{"language":"language"}],"id":"id","workDoneProgress":true} => {"workDoneProgress":true} :: Options(InlineValueOptions { work_done_progress_options: WorkDoneProgressOptions { work_done_progress: Some(true) } })
+! false
+"#;
+
+const INLINE_VALUE_OPTIONS: &str = r#"
+{"workDoneProgress":true} :: InlineValueOptions { work_done_progress_options: WorkDoneProgressOptions { work_done_progress: Some(true) } }
+! []
+"#;
+
+const INLINE_VALUE_REGISTRATION_OPTIONS: &str = r#"
+{"documentSelector":[{"language":"language"}],"id":"id","workDoneProgress":true} :: InlineValueRegistrationOptions { inline_value_options: InlineValueOptions { work_done_progress_options: WorkDoneProgressOptions { work_done_progress: Some(true) } }, text_document_registration_options: TextDocumentRegistrationOptions { document_selector: Some([DocumentFilter { language: Some("language"), scheme: None, pattern: None }]) }, static_registration_options: StaticRegistrationOptions { id: Some("id") } }
+! []
+"#;
+
+const DIAGNOSTIC_SERVER_CAPABILITIES: &str = r#"
+{"identifier":"identifier","interFileDependencies":true,"workDoneProgress":true,"workspaceDiagnostics":true} :: Options(DiagnosticOptions { identifier: Some("identifier"), inter_file_dependencies: true, workspace_diagnostics: true, work_done_progress_options: WorkDoneProgressOptions { work_done_progress: Some(true) } })
+{"documentSelector":[{"language":"language"}],"id":"id","identifier":"identifier","interFileDependencies":true,"workDoneProgress":true,"workspaceDiagnostics":true} => {"identifier":"identifier","interFileDependencies":true,"workDoneProgress":true,"workspaceDiagnostics":true} :: Options(DiagnosticOptions { identifier: Some("identifier"), inter_file_dependencies: true, workspace_diagnostics: true, work_done_progress_options: WorkDoneProgressOptions { work_done_progress: Some(true) } })
+! false
+# rust-analyzer 1.96
+{"identifier":"rust-analyzer","interFileDependencies":true,"workspaceDiagnostics":false}
+"#;
+
+const DIAGNOSTIC_OPTIONS: &str = r#"
+{"identifier":"identifier","interFileDependencies":true,"workDoneProgress":true,"workspaceDiagnostics":false} :: DiagnosticOptions { identifier: Some("identifier"), inter_file_dependencies: true, workspace_diagnostics: false, work_done_progress_options: WorkDoneProgressOptions { work_done_progress: Some(true) } }
+! {"identifier":"identifier","workDoneProgress":true,"workspaceDiagnostics":true}
+# rust-analyzer 1.96
+{"identifier":"rust-analyzer","interFileDependencies":true,"workspaceDiagnostics":false}
+"#;
+
+const DIAGNOSTIC_REGISTRATION_OPTIONS: &str = r#"
+{"documentSelector":[{"language":"language"}],"id":"id","identifier":"identifier","interFileDependencies":true,"workDoneProgress":true,"workspaceDiagnostics":true} :: DiagnosticRegistrationOptions { text_document_registration_options: TextDocumentRegistrationOptions { document_selector: Some([DocumentFilter { language: Some("language"), scheme: None, pattern: None }]) }, diagnostic_options: DiagnosticOptions { identifier: Some("identifier"), inter_file_dependencies: true, workspace_diagnostics: true, work_done_progress_options: WorkDoneProgressOptions { work_done_progress: Some(true) } }, static_registration_options: StaticRegistrationOptions { id: Some("id") } }
+! []
+"#;
+
+#[test]
+fn rows_1(rt: HostRuntime) -> Result<(), Fail> {
+    let rt = &rt;
+    let alloc = rt.alloc();
+    holds::<CallHierarchyServerCapability>(rt, alloc, CALL_HIERARCHY_SERVER_CAPABILITY)?;
+    holds::<CallHierarchyOptions>(rt, alloc, CALL_HIERARCHY_OPTIONS)?;
+    holds::<TypeHierarchyOptions>(rt, alloc, TYPE_HIERARCHY_OPTIONS)?;
+    holds::<TypeHierarchyRegistrationOptions>(rt, alloc, TYPE_HIERARCHY_REGISTRATION_OPTIONS)?;
+    holds::<ColorProviderCapability>(rt, alloc, COLOR_PROVIDER_CAPABILITY)?;
+    holds::<ColorProviderOptions>(rt, alloc, COLOR_PROVIDER_OPTIONS)?;
+    holds::<StaticTextDocumentColorProviderOptions>(
+        rt,
+        alloc,
+        STATIC_TEXT_DOCUMENT_COLOR_PROVIDER_OPTIONS,
+    )?;
+    holds::<FoldingRangeProviderCapability>(rt, alloc, FOLDING_RANGE_PROVIDER_CAPABILITY)?;
+    holds::<FoldingProviderOptions>(rt, alloc, FOLDING_PROVIDER_OPTIONS)?;
+    holds::<LinkedEditingRangeServerCapabilities>(
+        rt,
+        alloc,
+        LINKED_EDITING_RANGE_SERVER_CAPABILITIES,
+    )?;
+    holds::<LinkedEditingRangeOptions>(rt, alloc, LINKED_EDITING_RANGE_OPTIONS)?;
+    holds::<LinkedEditingRangeRegistrationOptions>(
+        rt,
+        alloc,
+        LINKED_EDITING_RANGE_REGISTRATION_OPTIONS,
+    )?;
+    Ok(())
+}
+
+#[test]
+fn rows_2(rt: HostRuntime) -> Result<(), Fail> {
+    let rt = &rt;
+    let alloc = rt.alloc();
+    holds::<SemanticTokensServerCapabilities>(rt, alloc, SEMANTIC_TOKENS_SERVER_CAPABILITIES)?;
+    holds::<SemanticTokensOptions>(rt, alloc, SEMANTIC_TOKENS_OPTIONS)?;
+    holds::<SemanticTokensRegistrationOptions>(rt, alloc, SEMANTIC_TOKENS_REGISTRATION_OPTIONS)?;
+    holds::<SemanticTokensLegend>(rt, alloc, SEMANTIC_TOKENS_LEGEND)?;
+    holds::<MonikerServerCapabilities>(rt, alloc, MONIKER_SERVER_CAPABILITIES)?;
+    holds::<MonikerOptions>(rt, alloc, MONIKER_OPTIONS)?;
+    holds::<MonikerRegistrationOptions>(rt, alloc, MONIKER_REGISTRATION_OPTIONS)?;
+    holds::<InlayHintServerCapabilities>(rt, alloc, INLAY_HINT_SERVER_CAPABILITIES)?;
+    holds::<InlayHintOptions>(rt, alloc, INLAY_HINT_OPTIONS)?;
+    holds::<InlayHintRegistrationOptions>(rt, alloc, INLAY_HINT_REGISTRATION_OPTIONS)?;
+    holds::<InlineValueServerCapabilities>(rt, alloc, INLINE_VALUE_SERVER_CAPABILITIES)?;
+    holds::<InlineValueOptions>(rt, alloc, INLINE_VALUE_OPTIONS)?;
+    Ok(())
+}
+
+#[test]
+fn rows_3(rt: HostRuntime) -> Result<(), Fail> {
+    let rt = &rt;
+    let alloc = rt.alloc();
+    holds::<InlineValueRegistrationOptions>(rt, alloc, INLINE_VALUE_REGISTRATION_OPTIONS)?;
+    holds::<DiagnosticServerCapabilities>(rt, alloc, DIAGNOSTIC_SERVER_CAPABILITIES)?;
+    holds::<DiagnosticOptions>(rt, alloc, DIAGNOSTIC_OPTIONS)?;
+    holds::<DiagnosticRegistrationOptions>(rt, alloc, DIAGNOSTIC_REGISTRATION_OPTIONS)?;
+    Ok(())
+}
+
+#[test]
+fn defaults(rt: HostRuntime) -> Result<(), Fail> {
+    let alloc = rt.alloc();
+    assert_eq!(rt;
+        text_of(alloc, &CallHierarchyOptions::default())?.as_str(),
+        r#"{}"#
+    );
+    assert_eq!(rt;
+        text_of(alloc, &TypeHierarchyOptions::default())?.as_str(),
+        r#"{}"#
+    );
+    assert_eq!(rt;
+        text_of(alloc, &TypeHierarchyRegistrationOptions::default())?.as_str(),
+        r#"{"documentSelector":null}"#
+    );
+    assert_eq!(rt;
+        text_of(alloc, &LinkedEditingRangeOptions::default())?.as_str(),
+        r#"{}"#
+    );
+    assert_eq!(rt;
+        text_of(alloc, &SemanticTokensOptions::default(alloc))?.as_str(),
+        r#"{"legend":{"tokenModifiers":[],"tokenTypes":[]}}"#
+    );
+    assert_eq!(rt;
+        text_of(alloc, &SemanticTokensLegend::default(alloc))?.as_str(),
+        r#"{"tokenModifiers":[],"tokenTypes":[]}"#
+    );
+    assert_eq!(rt;
+        text_of(alloc, &InlayHintOptions::default())?.as_str(),
+        r#"{}"#
+    );
+    assert_eq!(rt;
+        text_of(alloc, &InlayHintRegistrationOptions::default())?.as_str(),
+        r#"{"documentSelector":null}"#
+    );
+    assert_eq!(rt;
+        text_of(alloc, &InlineValueOptions::default())?.as_str(),
+        r#"{}"#
+    );
+    assert_eq!(rt;
+        text_of(alloc, &InlineValueRegistrationOptions::default())?.as_str(),
+        r#"{"documentSelector":null}"#
+    );
+    assert_eq!(rt;
+        text_of(alloc, &DiagnosticOptions::default())?.as_str(),
+        r#"{"interFileDependencies":false,"workspaceDiagnostics":false}"#
+    );
+    assert_eq!(rt;
+        text_of(alloc, &DiagnosticRegistrationOptions::default())?.as_str(),
+        r#"{"documentSelector":null,"interFileDependencies":false,"workspaceDiagnostics":false}"#
+    );
+    Ok(())
+}
