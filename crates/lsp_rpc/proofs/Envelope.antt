@@ -14,7 +14,7 @@ number_text-of_integer : (z : ℤ) → number_text (of_integer z) ≡ signed_dec
 number_text-of_integer (pos n) = refl
 number_text-of_integer (negsuc n) = refl
 
--- a member behind others
+-- a member after others
 behind : (k : List ℕ) (o : Option Data) (ms : Members) → members_text true (with_member k o ms) ≡ next_member (44 ∷ (quoted k ++ 58 ∷ [])) o ++ members_text true ms
 behind k None ms = refl
 behind k (Some d) ms =

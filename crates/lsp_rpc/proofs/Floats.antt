@@ -6,7 +6,7 @@ use Rattle.serde_json.specs.Data.{Data, Members, no_members, member, null, boole
 use Rattle.serde_json.specs.Find.{get, get_member}
 use Rattle.serde_json.specs.Written.{has_float, members_have_float}
 use Rattle.std.specs.Prelude.{⊤, codes}
-use Rattle.lsp_rpc.specs.Message.{may_have_float, MessageData, ErrorData, IdData, message_has_float, body_has_float, unless_null, error_with, error_of, has_no_other, body_with, response_with, request_with, or_else, message, has_version, answer_of, request_of, plain_request, plain_answer, clean_message}
+use Rattle.lsp_rpc.specs.Message.{may_have_float, MessageData, ErrorData, IdData, message_has_float, body_has_float, unless_null, error_with, error_of, has_no_other, body_with, response_with, request_with, or_else, message, has_version, response_of, request_of, plain_request, plain_response, clean_message}
 
 left_clean : (a b : Bool) → (a || b) ≡ false → a ≡ false
 left_clean true b h = h
@@ -92,15 +92,15 @@ cond_clean : (t : Bool) (a : Option MessageData) → IsClean a → IsClean (cond
 cond_clean true a h = h
 cond_clean false a h = tt
 
-answer_of_clean : (v : Data) → has_float v ≡ false → IsClean (answer_of v)
-answer_of_clean v h =
+response_of_clean : (v : Data) → has_float v ≡ false → IsClean (response_of v)
+response_of_clean v h =
     response_with_clean _ _ (body_with_clean (get (codes "result") v) (get (codes "error") v) (get_clean (codes "result") v h) (get_clean (codes "error") v h))
 
 request_of_clean : (v : Data) → has_float v ≡ false → IsClean (request_of v)
 request_of_clean v h = request_with_clean _ (get (codes "params") v) _ (get_clean (codes "params") v h)
 
 message_clean : (v : Data) → has_float v ≡ false → IsClean (message v)
-message_clean v h = cond_clean (has_version v) _ (either_clean (answer_of v) (request_of v) (answer_of_clean v h) (request_of_clean v h))
+message_clean v h = cond_clean (has_version v) _ (either_clean (response_of v) (request_of v) (response_of_clean v h) (request_of_clean v h))
 
 clean_at : (b : Bool) (v : Data) → has_float v ≡ b → IsClean (cond b None (message v))
 clean_at true v h = tt
@@ -121,5 +121,5 @@ not_false a false e h = refl
 pub clean_request_found : (v : Data) (m : MessageData) → has_float v ≡ false → Some m ≡ plain_request v → message_has_float m ≡ false
 clean_request_found v m h e = subst IsClean (sym e) (cond_clean (has_version v) _ (request_of_clean v h))
 
-pub clean_answer_found : (v : Data) (m : MessageData) → has_float v ≡ false → Some m ≡ plain_answer v → message_has_float m ≡ false
-clean_answer_found v m h e = subst IsClean (sym e) (cond_clean (has_version v) _ (answer_of_clean v h))
+pub clean_response_found : (v : Data) (m : MessageData) → has_float v ≡ false → Some m ≡ plain_response v → message_has_float m ≡ false
+clean_response_found v m h e = subst IsClean (sym e) (cond_clean (has_version v) _ (response_of_clean v h))

@@ -1,7 +1,9 @@
 pub mod Envelope
 pub mod Floats
 pub mod Integers
-pub mod Members
+pub mod Kept
 pub mod OneForm
 pub mod Outlines
+pub mod Plain
+pub mod Removed
 pub mod RoundTrip

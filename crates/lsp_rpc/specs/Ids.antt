@@ -1,5 +1,5 @@
 -- Equal ids, and what an id feeds a hasher.
-use Rattle.std.specs.Prelude.{◌≡◌, ℕ, ℤ, pos, List, [], ◌++◌, Bool, true, false, bytes_eq, refl}
+use Rattle.std.specs.Prelude.{◌≡◌, ℕ, ℤ, pos, List, [], ◌++◌, Bool, true, false, bytes_eq, refl, ⊤}
 use Rattle.std.specs.Cmp.{IsEquivalence, decided, signed_Decides}
 use Rattle.std.proofs.Common.{ap, sym, true≢false}
 use Rattle.std.proofs.lemmas.Slice.Eq.{bytes_eq-Decides}
@@ -12,12 +12,12 @@ abbrev pub same_id : IdData → IdData → Bool
 same_id (number_id a) (number_id b) = int_eq a b
 same_id (text_id a) (text_id b) = bytes_eq a b
 same_id null_id null_id = true
-same_id (number_id a) (text_id b) = false
-same_id (number_id a) null_id = false
-same_id (text_id a) (number_id b) = false
-same_id (text_id a) null_id = false
-same_id null_id (number_id b) = false
-same_id null_id (text_id b) = false
+same_id a b = false
+
+-- the id is a string
+abbrev pub IsString : IdData → Type 0
+IsString (text_id s) = ⊤
+IsString other = ⊥
 
 -- the kind, and then what it holds
 abbrev pub id_writes : IdData → fed.HashWrites

@@ -1,7 +1,7 @@
 -- Messages as plain data, the message that a JSON value is, and the text of a message.
 use Rattle.std.specs.Prelude.{ℕ, ℤ, pos, negsuc, List, [], ◌++◌, Bool, true, false, ◌||◌, ◌&&◌, ◌==◌, Option, Some, None, Result, Ok, Err, option_map, option_and_then, codes, bytes_eq, if◌then◌else◌}
 use Rattle.std.specs.Fmt.{signed_decimal, debug_str}
-use Rattle.serde_json.specs.Data.{Data, unsigned, negative, null, boolean, number, string, array, object, Members, no_members, member}
+use Rattle.serde_json.specs.Data.{Data, unsigned, negative, null, number, string, object, Members, no_members, member}
 use Rattle.serde_json.specs.Find.{get, as_str, as_number, as_i64}
 use Rattle.serde_json.specs.Written.{has_float, compact_text}
 use Rattle.lsp_rpc.specs.declared.code.ErrorCode.{ErrorCode}
@@ -79,44 +79,32 @@ error_saying c m = record { code = c; message = m; payload = None }
 abbrev pub error_with_code : ErrorCode → ErrorData
 error_with_code c = error_saying c (description_of c)
 
--- the answer to a request that came before `initialize`
+-- the error of a request that came before `initialize`
 abbrev pub not_initialized_error : ErrorData
 not_initialized_error = error_saying (ServerError (negsuc 32001)) (codes "Server not initialized")
 
 -- ---- what a value is read as
 
--- the value is this text
+-- the value is this string
 abbrev pub is_text : List ℕ → Option Data → Bool
-is_text t None = false
-is_text t (Some null) = false
-is_text t (Some (boolean b)) = false
-is_text t (Some (number n)) = false
 is_text t (Some (string s)) = bytes_eq s t
-is_text t (Some (array ds)) = false
-is_text t (Some (object ms)) = false
+is_text t other = false
 
 -- the object says that it is JSON-RPC 2.0
 abbrev pub has_version : Data → Bool
 has_version v = is_text (codes "2.0") (get (codes "jsonrpc") v)
 
--- an id is an i64, a text or null
+-- an id is an integer of 64 bits, a string or null
 abbrev pub id_of : Data → Option IdData
 id_of null = Some null_id
-id_of (boolean b) = None
 id_of (number n) = option_map number_id (as_i64 n)
 id_of (string s) = Some (text_id s)
-id_of (array ds) = None
-id_of (object ms) = None
+id_of other = None
 
 -- null reads as absent
 abbrev pub unless_null : Option Data → Option Data
-unless_null None = None
 unless_null (Some null) = None
-unless_null (Some (boolean b)) = Some (boolean b)
-unless_null (Some (number n)) = Some (number n)
-unless_null (Some (string s)) = Some (string s)
-unless_null (Some (array ds)) = Some (array ds)
-unless_null (Some (object ms)) = Some (object ms)
+unless_null other = other
 
 abbrev pub is_error_name : List ℕ → Bool
 is_error_name name = bytes_eq name (codes "code") || bytes_eq name (codes "message") || bytes_eq name (codes "data")
@@ -127,12 +115,8 @@ has_error_names no_members = true
 has_error_names (member k d ms) = is_error_name k && has_error_names ms
 
 abbrev pub has_no_other : Data → Bool
-has_no_other null = false
-has_no_other (boolean b) = false
-has_no_other (number n) = false
-has_no_other (string s) = false
-has_no_other (array ds) = false
 has_no_other (object ms) = has_error_names ms
+has_no_other other = false
 
 -- the error that these parts make
 abbrev pub error_with : Option ℤ → Option (List ℕ) → Option Data → Option ErrorData
@@ -156,10 +140,10 @@ response_with None b = None
 response_with (Some i) None = None
 response_with (Some i) (Some b) = Some (response (record { id = i; body = b }))
 
-abbrev pub answer_of : Data → Option MessageData
-answer_of v = response_with (option_and_then id_of (get (codes "id") v)) (body_with (get (codes "result") v) (get (codes "error") v))
+abbrev pub response_of : Data → Option MessageData
+response_of v = response_with (option_and_then id_of (get (codes "id") v)) (body_with (get (codes "result") v) (get (codes "error") v))
 
--- an absent method is the empty text
+-- an absent method is the empty string
 abbrev pub method_of : Option Data → Option (List ℕ)
 method_of None = Some []
 method_of (Some d) = as_str d
@@ -181,9 +165,9 @@ abbrev pub or_else : Option MessageData → Option MessageData → Option Messag
 or_else (Some m) o = Some m
 or_else None o = o
 
--- first tried as an answer, then as a request
+-- first tried as a response, then as a request
 abbrev pub message : Data → Option MessageData
-message v = if has_version v then or_else (answer_of v) (request_of v) else None
+message v = if has_version v then or_else (response_of v) (request_of v) else None
 
 -- what is read: a message, with no float anywhere in the value
 abbrev pub clean_message : Data → Option MessageData
@@ -193,16 +177,16 @@ clean_message v = if has_float v then None else message v
 abbrev pub plain_request : Data → Option MessageData
 plain_request v = if has_version v then request_of v else None
 
--- tried as an answer alone
-abbrev pub plain_answer : Data → Option MessageData
-plain_answer v = if has_version v then answer_of v else None
+-- tried as a response alone
+abbrev pub plain_response : Data → Option MessageData
+plain_response v = if has_version v then response_of v else None
 
 -- what is read of one form alone, with no float anywhere in the value
 abbrev pub clean_request : Data → Option MessageData
 clean_request v = if has_float v then None else plain_request v
 
-abbrev pub clean_answer : Data → Option MessageData
-clean_answer v = if has_float v then None else plain_answer v
+abbrev pub clean_response : Data → Option MessageData
+clean_response v = if has_float v then None else plain_response v
 
 -- ---- what a message is written as
 
@@ -212,7 +196,7 @@ id_data (number_id (negsuc n)) = number (negative (negsuc n))
 id_data (text_id s) = string s
 id_data null_id = null
 
--- a member behind others
+-- a member after others
 abbrev pub next_member : List ℕ → Option Data → List ℕ
 next_member name None = []
 next_member name (Some d) = name ++ compact_text d
@@ -239,7 +223,7 @@ message_text (request r) =
 abbrev pub error_line : ErrorData → List ℕ
 error_line e = description_of e.code ++ codes ": " ++ e.message
 
--- a text in the debug form of Rust, which is told for ASCII alone
+-- a string in the debug form of Rust, which is stated for ASCII alone
 abbrev pub id_line : IdData → Option (List ℕ)
 id_line (number_id n) = Some (signed_decimal n)
 id_line (text_id s) = debug_str s

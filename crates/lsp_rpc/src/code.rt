@@ -6,30 +6,30 @@ ghost use Rattle.lsp_rpc.specs.Message.{code_number, code_of, description_of};
 use std::convert::From;
 use std::fmt;
 
-/// What kind of error an answer reports: a code of JSON-RPC 2.0, section 5.1 "Error object", or one
-/// that the Language Server Protocol 3.17 adds, or any other number.
+/// What kind of error a response reports: a code of JSON-RPC 2.0, section 5.1 "Error object", one
+/// that the Language Server Protocol 3.17 adds, or any other integer.
 #[derive(Clone, Copy, Debug, PartialEq, Eq)]
 pub enum ErrorCode {
-    /// -32700: the text is no JSON.
+    /// -32700: the text is not JSON.
     ParseError,
-    /// -32600: the value is no request.
+    /// -32600: the value is not a request.
     InvalidRequest,
     /// -32601: there is no such method.
     MethodNotFound,
-    /// -32602: the method takes no such params.
+    /// -32602: the method does not take these params.
     InvalidParams,
-    /// -32603: a fault inside the one who answers.
+    /// -32603: an internal fault.
     InternalError,
-    /// -32800: the client took the request back.
+    /// -32800: the client cancelled the request.
     RequestCancelled,
-    /// -32801: a later change made the answer worthless.
+    /// -32801: a later change made the result worthless.
     ContentModified,
     /// Any other code.
     ServerError(i64),
 }
 
 impl ErrorCode {
-    /// The number that stands for the code in a message.
+    /// The integer that stands for the code in a message.
     pub fn code(&self) -> i64
         ensures { result ≡ code_number self.now }
     {

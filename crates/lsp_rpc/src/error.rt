@@ -1,4 +1,4 @@
-//! What an answer says went wrong.
+//! The error of a response.
 ghost use Rattle.std.specs.Prelude.{◌≡◌, Some, IfOk};
 ghost use Rattle.lsp_rpc.specs.Message.{error_with_code, error_saying, error_line, not_initialized_error};
 ghost use Rattle.lsp_rpc.specs.Shown.{show_error};
@@ -29,14 +29,14 @@ impl Error {
         Error::saying(alloc, code, code.description())
     }
 
-    /// The text is no JSON.
+    /// The text is not JSON.
     pub fn parse_error(alloc: Global) -> Result<Error, NoMemory>
         ensures { IfOk result (λ e. show_error e ≡ error_with_code ErrorCode.ParseError) }
     {
         Error::new(alloc, ErrorCode::ParseError)
     }
 
-    /// The value is no request.
+    /// The value is not a request.
     pub fn invalid_request(alloc: Global) -> Result<Error, NoMemory>
         ensures { IfOk result (λ e. show_error e ≡ error_with_code ErrorCode.InvalidRequest) }
     {
@@ -50,7 +50,7 @@ impl Error {
         Error::new(alloc, ErrorCode::MethodNotFound)
     }
 
-    /// The method takes no such params, as the message says.
+    /// The method does not take these params, as the message says.
     pub fn invalid_params(alloc: Global, message: &str) -> Result<Error, NoMemory>
         ensures { IfOk result
             (λ e. show_error e ≡ error_saying ErrorCode.InvalidParams message.now) }
@@ -58,21 +58,21 @@ impl Error {
         Error::saying(alloc, ErrorCode::InvalidParams, message)
     }
 
-    /// A fault inside the one who answers.
+    /// An internal fault.
     pub fn internal_error(alloc: Global) -> Result<Error, NoMemory>
         ensures { IfOk result (λ e. show_error e ≡ error_with_code ErrorCode.InternalError) }
     {
         Error::new(alloc, ErrorCode::InternalError)
     }
 
-    /// The client took the request back (LSP 3.17, "Cancellation Support").
+    /// The client cancelled the request (LSP 3.17, "Cancellation Support").
     pub fn request_cancelled(alloc: Global) -> Result<Error, NoMemory>
         ensures { IfOk result (λ e. show_error e ≡ error_with_code ErrorCode.RequestCancelled) }
     {
         Error::new(alloc, ErrorCode::RequestCancelled)
     }
 
-    /// A later change made the answer worthless (LSP 3.17, "Base Protocol").
+    /// A later change made the result worthless (LSP 3.17, "Base Protocol").
     pub fn content_modified(alloc: Global) -> Result<Error, NoMemory>
         ensures { IfOk result (λ e. show_error e ≡ error_with_code ErrorCode.ContentModified) }
     {

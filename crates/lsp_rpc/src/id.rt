@@ -1,8 +1,8 @@
 //! The id of a request.
-ghost use Rattle.std.specs.Prelude.{◌≡◌, IfOk, string_bytes};
+ghost use Rattle.std.specs.Prelude.{◌≡◌, IfOk, OnErr, string_bytes};
 ghost use Rattle.lsp_rpc.specs.Message.{number_id, text_id, null_id, id_line};
 ghost use Rattle.std.specs.Cmp.{on_equiv, on_per, partial_equiv_from_equiv};
-ghost use Rattle.lsp_rpc.specs.Ids.{same_id, same_id_equiv, id_writes, id_writes_alike};
+ghost use Rattle.lsp_rpc.specs.Ids.{IsString, same_id, same_id_equiv, id_writes, id_writes_alike};
 ghost use Rattle.lsp_rpc.specs.Shown.{show_id};
 
 use no_memory::NoMemory;
@@ -13,21 +13,22 @@ use std::default::Default;
 use std::fmt;
 use std::hash::{Hash, Hasher};
 
-/// What ties an answer to its request (JSON-RPC 2.0, section 4 "Request object").
+/// What ties a response to its request (JSON-RPC 2.0, section 4 "Request object").
 #[derive(Drop, Debug)]
 pub enum Id {
-    /// A whole number.
+    /// An integer.
     Number(i64),
-    /// A text.
+    /// A string.
     String(String),
-    /// No request: the answer to what couldn't be read.
+    /// No request: the response to what couldn't be read.
     Null,
 }
 
 impl Id {
-    /// An equal id.
+    /// An equal id. Only the copy of a string takes memory.
     pub fn clone(&self, alloc: Global) -> Result<Id, NoMemory>
-        ensures { IfOk result (λ copy. show_id copy ≡ show_id self.now) }
+        ensures equal { IfOk result (λ copy. show_id copy ≡ show_id self.now) }
+        ensures memory { OnErr result (IsString (show_id self.now)) }
     {
         match self {
             Id::Number(n) => Ok(Id::Number(*n)),

@@ -1,8 +1,8 @@
 //! Ids, errors and messages of JSON-RPC 2.0, as the Language Server Protocol 3.17, "Base Protocol",
-//! uses them: one object each, with no batches and with whole numbers and texts for ids.
+//! uses them: one object each, with no batches and with integers and strings for ids.
 //!
-//! Contracts see an id, an error, a request, an answer and a message as plain data, in which a text
-//! is its bytes and a JSON value is what `serde_json` shows of it: `show_id` and its like in
+//! Contracts see an id, an error, a request, a response and a message as plain data, in which a
+//! string is its bytes and a JSON value is what `serde_json` shows of it: `show_id` and its like in
 //! `specs/Shown.antt`. `specs/Message.antt` says which message a value is and how one is written, and
 //! `specs/Back.antt` which messages are read back from their text.
 #![tactic(auto)]
@@ -10,6 +10,7 @@
 mod code;
 mod error;
 mod id;
+mod members;
 mod message;
 mod read;
 mod request;

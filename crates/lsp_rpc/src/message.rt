@@ -1,4 +1,4 @@
-//! A message is an answer or a request.
+//! A message is a response or a request.
 ghost use Rattle.std.specs.Prelude.{◌≡◌, false, IfOk, string_bytes};
 ghost use Rattle.lsp_rpc.specs.Back.{IsReadable, ReadsAs};
 ghost use Rattle.lsp_rpc.specs.Message.{message_has_float, message_text};
@@ -12,7 +12,7 @@ use std::alloc::Global;
 /// What one side tells the other.
 #[derive(Drop, Debug)]
 pub enum Message {
-    /// An answer to a request.
+    /// A response to a request.
     Response(Response),
     /// A request or a notification.
     Request(Request),
@@ -28,8 +28,8 @@ impl Message {
             → ReadsAs (string_bytes s) (show_message self.now)) }
     {
         match self {
-            Message::Response(answer) => answer.to_text(alloc),
-            Message::Request(call) => call.to_text(alloc),
+            Message::Response(response) => response.to_text(alloc),
+            Message::Request(request) => request.to_text(alloc),
         }
     }
 }

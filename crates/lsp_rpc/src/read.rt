@@ -6,7 +6,7 @@ ghost use Rattle.serde_json.specs.Find.{get_member, as_i64, as_number, as_str};
 ghost use Rattle.serde_json.specs.Read.{read};
 ghost use Rattle.serde_json.specs.View.{view};
 ghost use Rattle.lsp_rpc.specs.Faults.{text_of_not_message, text_of_fault};
-ghost use Rattle.lsp_rpc.specs.Message.{is_text, is_error_name, has_error_names, id_of, unless_null, error_of, body_with, method_of, has_version, request_id_of, request_with, plain_request, plain_answer, response, request, message, clean_message, message_has_float};
+ghost use Rattle.lsp_rpc.specs.Message.{is_text, is_error_name, has_error_names, id_of, unless_null, error_of, body_with, method_of, has_version, request_id_of, request_with, plain_request, plain_response, response, request, message, clean_message, message_has_float};
 ghost use Rattle.lsp_rpc.specs.Pieces.{members_shown, SameOthers};
 ghost use Rattle.lsp_rpc.specs.Shown.{show_id, show_error, show_body, show_request, show_response, show_message};
 ghost use Rattle.lsp_rpc.specs.declared.read.TextFault.TheVariants as TextFaults;
@@ -14,6 +14,7 @@ ghost use Rattle.lsp_rpc.specs.declared.read.TextFault.TheVariants as TextFaults
 use crate::code::ErrorCode;
 use crate::error::Error;
 use crate::id::Id;
+use crate::members::Members;
 use crate::message::Message;
 use crate::request::Request;
 use crate::response::Response;
@@ -25,20 +26,20 @@ use std::fmt;
 /// Why a value gives no message.
 #[derive(Clone, Copy, Debug, PartialEq, Eq)]
 pub enum NotMessage {
-    /// It is no message, or it holds a float.
+    /// It is not a message, or it holds a float.
     NotMessage,
-    /// There was no memory.
+    /// Out of memory.
     NoMemory,
 }
 
-/// Why a text gives no request or no answer.
+/// Why a text gives no request or no response.
 #[derive(Clone, Copy, Debug, PartialEq, Eq)]
 pub enum TextFault {
-    /// The text is no JSON value.
+    /// The text is not a JSON value.
     Json,
     /// The value isn't of that form, or it holds a float.
     Message,
-    /// There was no memory.
+    /// Out of memory.
     NoMemory,
 }
 
@@ -135,24 +136,19 @@ fn read_error(value: Value) -> Option<Error>
     })
 }
 
-// The result or the error of an answer, taken out of it.
-fn take_body(members: &mut Map<String, Value>) -> Option<Result<Value, Error>>
-    ensures body { option_map show_body result ≡ body_with
-        (get_member (codes "result") (members_shown members.old))
-        (get_member (codes "error") (members_shown members.old)) }
-    ensures others { (other : List ℕ) → other ≢ codes "result" → other ≢ codes "error"
-        → get_member other (members_shown members.new) ≡ get_member other (members_shown members.old) }
+// The result or the error of a response.
+fn read_body(value: Option<Value>, error: Option<Value>) -> Option<Result<Value, Error>>
+    ensures { option_map show_body result
+        ≡ body_with (option_map view value) (option_map view error) }
 {
-    if let Some(value) = take_member(members, "result") {
-        return Some(Ok(value));
-    }
-    match take_member(members, "error") {
-        Some(value) => read_error(value).map(Err),
-        None => None,
+    match (value, error) {
+        (Some(value), _) => Some(Ok(value)),
+        (None, Some(error)) => read_error(error).map(Err),
+        (None, None) => None,
     }
 }
 
-// The method of a request; an absent one is the empty text.
+// The method of a request; an absent one is the empty string.
 fn read_method(alloc: Global, method: Option<Value>) -> Option<String>
     ensures { option_map string_bytes result ≡ method_of (option_map view method) }
 {
@@ -163,75 +159,90 @@ fn read_method(alloc: Global, method: Option<Value>) -> Option<String>
     }
 }
 
-// Takes the version out, and says whether it is that of JSON-RPC 2.0.
-fn take_version(members: &mut Map<String, Value>) -> bool
-    ensures version { result ≡ has_version (object (members_shown members.old)) }
-    ensures others { SameOthers (codes "jsonrpc") members.old members.new }
+// The id of a request, if it is there; one of another kind is refused.
+fn read_request_id(id: Option<Value>) -> Option<Option<Id>>
+    ensures { option_map (option_map show_id) result ≡ request_id_of (option_map view id) }
 {
-    is_value_text(&take_member(members, "jsonrpc"), "2.0")
-}
-
-// Takes the id out, if it is there; one of another kind is refused.
-fn take_id(members: &mut Map<String, Value>) -> Option<Option<Id>>
-    ensures id { option_map (option_map show_id) result
-        ≡ request_id_of (get_member (codes "id") (members_shown members.old)) }
-    ensures others { SameOthers (codes "id") members.old members.new }
-{
-    match take_member(members, "id") {
+    match id {
         None => Some(None),
         Some(value) => read_id(value).map(Some),
     }
 }
 
-// The request with that id, whose method and params are among the members.
-fn request_with(alloc: Global, mut members: Map<String, Value>, id: Option<Id>) -> Option<Request>
+// The request with that id.
+fn request_with(
+    alloc: Global,
+    method: Option<Value>,
+    params: Option<Value>,
+    id: Option<Id>,
+) -> Option<Request>
     ensures { option_map (λ r. request (show_request r)) result ≡ request_with
-        (method_of (get_member (codes "method") (members_shown members)))
-        (get_member (codes "params") (members_shown members))
+        (method_of (option_map view method)) (option_map view params)
         (Some (option_map show_id id)) }
 {
-    let method = read_method(alloc, take_member(&mut members, "method"))?;
-    let params = take_member(&mut members, "params");
+    let method = read_method(alloc, method)?;
     Some(Request { method, params, id })
 }
 
-// The request that an object with these members is.
-fn request_in(alloc: Global, mut members: Map<String, Value>) -> Option<Request>
+// The request that an object is.
+fn request_in(alloc: Global, members: Map<String, Value>) -> Option<Request>
     ensures { option_map (λ r. request (show_request r)) result
         ≡ plain_request (object (members_shown members)) }
 {
-    if !take_version(&mut members) {
+    let Members {
+        jsonrpc,
+        id,
+        method,
+        params,
+        ..
+    } = Members::of(members);
+    if !is_value_text(&jsonrpc, "2.0") {
         return None;
     }
-    let id = take_id(&mut members)?;
-    request_with(alloc, members, id)
+    let id = read_request_id(id)?;
+    request_with(alloc, method, params, id)
 }
 
-// The answer that an object with these members is.
-fn response_in(mut members: Map<String, Value>) -> Option<Response>
+// The response that an object is.
+fn response_in(members: Map<String, Value>) -> Option<Response>
     ensures { option_map (λ r. response (show_response r)) result
-        ≡ plain_answer (object (members_shown members)) }
+        ≡ plain_response (object (members_shown members)) }
 {
-    if !take_version(&mut members) {
+    let Members {
+        jsonrpc,
+        id,
+        result: value,
+        error,
+        ..
+    } = Members::of(members);
+    if !is_value_text(&jsonrpc, "2.0") {
         return None;
     }
-    let id = take_id(&mut members)??;
-    let body = take_body(&mut members)?;
+    let id = read_request_id(id)??;
+    let body = read_body(value, error)?;
     Some(Response { id, body })
 }
 
-// The message that an object with these members is.
-fn message_in(alloc: Global, mut members: Map<String, Value>) -> Option<Message>
+// The message that an object is.
+fn message_in(alloc: Global, members: Map<String, Value>) -> Option<Message>
     ensures { option_map show_message result ≡ message (object (members_shown members)) }
 {
-    if !take_version(&mut members) {
+    let Members {
+        jsonrpc,
+        id,
+        method,
+        params,
+        result: value,
+        error,
+    } = Members::of(members);
+    if !is_value_text(&jsonrpc, "2.0") {
         return None;
     }
-    match take_id(&mut members)? {
-        None => request_with(alloc, members, None).map(Message::Request),
-        Some(id) => match take_body(&mut members) {
+    match read_request_id(id)? {
+        None => request_with(alloc, method, params, None).map(Message::Request),
+        Some(id) => match read_body(value, error) {
             Some(body) => Some(Message::Response(Response { id, body })),
-            None => request_with(alloc, members, Some(id)).map(Message::Request),
+            None => request_with(alloc, method, params, Some(id)).map(Message::Request),
         },
     }
 }
@@ -255,9 +266,9 @@ pub(crate) fn value_request(alloc: Global, value: Value) -> Option<Request>
     }
 }
 
-// The answer that the value is, tried as an answer alone.
+// The response that the value is, tried as a response alone.
 pub(crate) fn value_response(value: Value) -> Option<Response>
-    ensures { option_map (λ r. response (show_response r)) result ≡ plain_answer (view value) }
+    ensures { option_map (λ r. response (show_response r)) result ≡ plain_response (view value) }
 {
     match value {
         Value::Object(members) => response_in(members),
@@ -265,14 +276,14 @@ pub(crate) fn value_response(value: Value) -> Option<Response>
     }
 }
 
-/// The message that the value is. It is first tried as an answer, and then as a request (JSON-RPC
+/// The message that the value is. It is first tried as a response, and then as a request (JSON-RPC
 /// 2.0, sections 5 "Response object" and 4 "Request object"). A value that holds a float anywhere
-/// is no message.
+/// is no message. It takes no memory.
 pub fn read_message(alloc: Global, value: Value) -> Result<Message, NotMessage>
     ensures found { IfOk result (λ m. clean_message (view value) ≡ Some (show_message m)) }
     ensures none { IsErrOf result NotMessage.NotMessage → clean_message (view value) ≡ None }
-    ensures refused { clean_message (view value) ≡ None
-        → IsErrOf result NotMessage.NotMessage ⊎ IsErrOf result NotMessage.NoMemory }
+    ensures refused { clean_message (view value) ≡ None → IsErrOf result NotMessage.NotMessage }
+    ensures memory { ¬ IsErrOf result NotMessage.NoMemory }
     ensures clean { IfOk result (λ m. message_has_float (show_message m) ≡ false) }
 {
     if !is_float_free(&value) {

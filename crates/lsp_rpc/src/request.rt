@@ -10,7 +10,7 @@ ghost use Rattle.lsp_rpc.specs.Shown.{show_id, show_request, show_builder};
 use crate::id::Id;
 use crate::read::{TextFault, parse_text, value_request};
 use crate::value::{copy_value, is_float_free};
-use crate::write::{push_member, push_request_id, push_text};
+use crate::write::{ROOM, push_member, push_request_id, push_text};
 use no_memory::NoMemory;
 use serde_json::Value;
 use std::alloc::Global;
@@ -98,7 +98,8 @@ impl Request {
             → option_and_then clean_request (read (string_bytes s))
             ≡ Some (request (show_request self.now))) }
     {
-        let mut out = String::from_str(alloc, "{\"jsonrpc\":\"2.0\",\"method\":")?;
+        let mut out = String::with_capacity(alloc, ROOM)?;
+        out.push_str("{\"jsonrpc\":\"2.0\",\"method\":")?;
         push_text(alloc, &mut out, self.method.as_str())?;
         push_member(alloc, &mut out, ",\"params\":", &self.params)?;
         push_request_id(alloc, &mut out, &self.id)?;
@@ -106,7 +107,7 @@ impl Request {
         Ok(out)
     }
 
-    /// The request that the text is, also where it could be read as an answer. The text is one JSON
+    /// The request that the text is, also where it could be read as a response. The text is one JSON
     /// value with no float in it.
     pub fn from_text(alloc: Global, text: &str) -> Result<Request, TextFault>
         ensures found { IfOk result

@@ -14,9 +14,9 @@ use std::test::Fail;
 
 const EXIT: &str = "{\"jsonrpc\":\"2.0\",\"method\":\"exit\"}";
 
-const ANSWER: &str = "{\"jsonrpc\":\"2.0\",\"id\":0,\"result\":[null]}";
+const RESPONSE: &str = "{\"jsonrpc\":\"2.0\",\"id\":0,\"result\":[null]}";
 
-const ANSWER_WRITTEN: &str = "{\"jsonrpc\":\"2.0\",\"result\":[null],\"id\":0}";
+const RESPONSE_WRITTEN: &str = "{\"jsonrpc\":\"2.0\",\"result\":[null],\"id\":0}";
 
 fn text(alloc: Global, s: &str) -> Result<String, Fail> {
     Ok(String::from_str(alloc, s)?)
@@ -37,9 +37,9 @@ fn request_again(alloc: Global, input: &str) -> Result<String, Fail> {
     Ok(copy.to_text(alloc)?)
 }
 
-fn answer_again(alloc: Global, input: &str) -> Result<String, Fail> {
-    let answer = Response::from_text(alloc, input)?;
-    let copy = answer.clone(alloc)?;
+fn response_again(alloc: Global, input: &str) -> Result<String, Fail> {
+    let response = Response::from_text(alloc, input)?;
+    let copy = response.clone(alloc)?;
     Ok(copy.to_text(alloc)?)
 }
 
@@ -56,9 +56,9 @@ fn message_again(alloc: Global, input: &str) -> Result<String, Fail> {
 fn one_form_alone(rt: HostRuntime) -> Result<(), Fail> {
     let alloc = rt.alloc();
     assert_eq!(rt; request_again(alloc, EXIT)?.as_str(), EXIT);
-    assert_eq!(rt; answer_again(alloc, ANSWER)?.as_str(), ANSWER_WRITTEN);
+    assert_eq!(rt; response_again(alloc, RESPONSE)?.as_str(), RESPONSE_WRITTEN);
     let request = "{\"jsonrpc\":\"2.0\",\"method\":\"\",\"id\":0}";
-    assert_eq!(rt; request_again(alloc, ANSWER)?.as_str(), request);
+    assert_eq!(rt; request_again(alloc, RESPONSE)?.as_str(), request);
     Ok(())
 }
 
@@ -130,13 +130,13 @@ fn parts_of_a_request(rt: HostRuntime) -> Result<(), Fail> {
 }
 
 #[test]
-fn parts_of_an_answer(rt: HostRuntime) -> Result<(), Fail> {
+fn parts_of_a_response(rt: HostRuntime) -> Result<(), Fail> {
     let alloc = rt.alloc();
-    let answer = Response::from_ok(Id::from(2), Value::Null);
-    assert!(rt; answer.is_ok() && !answer.is_error());
-    assert_eq!(rt; *answer.id(), Id::Number(2));
-    assert!(rt; answer.result().is_some() && answer.error().is_none());
-    let (id, body) = answer.into_parts();
+    let response = Response::from_ok(Id::from(2), Value::Null);
+    assert!(rt; response.is_ok() && !response.is_error());
+    assert_eq!(rt; *response.id(), Id::Number(2));
+    assert!(rt; response.result().is_some() && response.error().is_none());
+    let (id, body) = response.into_parts();
     let shown = debugged(alloc, &Response::from_parts(id, body))?;
     assert_eq!(rt;
         shown.as_str(),
@@ -146,15 +146,15 @@ fn parts_of_an_answer(rt: HostRuntime) -> Result<(), Fail> {
 }
 
 #[test]
-fn failed_answer(rt: HostRuntime) -> Result<(), Fail> {
+fn failed_response(rt: HostRuntime) -> Result<(), Fail> {
     let alloc = rt.alloc();
     let error = Error::internal_error(alloc)?;
-    let answer = Response::from_error(Id::from(text(alloc, "\"")?), error);
+    let response = Response::from_error(Id::from(text(alloc, "\"")?), error);
     let expected = concat!(
         "{\"jsonrpc\":\"2.0\",\"error\":{\"code\":-32603,",
         "\"message\":\"Internal error\"},\"id\":\"\\\"\"}"
     );
-    assert_eq!(rt; answer.to_text(alloc)?.as_str(), expected);
+    assert_eq!(rt; response.to_text(alloc)?.as_str(), expected);
     Ok(())
 }
 

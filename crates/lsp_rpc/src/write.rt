@@ -1,5 +1,5 @@
 //! From the parts of a message to their text.
-ghost use Rattle.std.specs.Prelude.{◌≡◌, OnOk, false, codes, option_map, FitsSigned};
+ghost use Rattle.std.specs.Prelude.{◌≡◌, ◌++◌, All, IsTrue, OnOk, false, codes, option_map, FitsSigned};
 ghost use Rattle.std.specs.Fmt.{signed_decimal};
 ghost use Rattle.std.specs.Int.{w64};
 ghost use Rattle.serde_json.specs.Data.{string};
@@ -7,13 +7,16 @@ ghost use Rattle.serde_json.specs.View.{view};
 ghost use Rattle.serde_json.specs.Written.{compact_text, has_float};
 ghost use Rattle.lsp_rpc.specs.Back.{ReadsBack, MayReadBack, IdFits, MayFit, ErrorReadsBack, BodyReadsBack};
 ghost use Rattle.lsp_rpc.specs.Message.{id_data, next_member, error_text, body_text, may_have_float, body_has_float};
-ghost use Rattle.lsp_rpc.specs.Pieces.{Appends};
+ghost use Rattle.lsp_rpc.specs.Pieces.{Appends, IsPlain};
 ghost use Rattle.lsp_rpc.specs.Shown.{show_id, show_error, show_body};
 
 use crate::error::Error;
 use crate::id::Id;
 use serde_json::Value;
 use std::alloc::{AllocError, Global};
+
+/// The bytes that a message's text begins with room for: most responses are shorter.
+pub(crate) const ROOM: usize = 160;
 
 fn push_value(alloc: Global, out: &mut String, value: &Value) -> Result<(), AllocError>
     requires { has_float (view value.now) ≡ false }
@@ -24,19 +27,39 @@ fn push_value(alloc: Global, out: &mut String, value: &Value) -> Result<(), Allo
     out.push_str(text.as_str())
 }
 
+// Whether the string stands between its quotes as it is: no byte of it has to be escaped.
+fn is_plain(text: &str) -> bool
+    ensures { IsTrue result → All IsPlain text.now }
+{
+    text.as_bytes()
+        .iter()
+        .all(|byte| *byte >= b' ' && *byte != b'"' && *byte != b'\\')
+}
+
+fn push_quoted(out: &mut String, text: &str) -> Result<(), AllocError>
+    ensures { OnOk result (Appends out.old out.new (codes "\"" ++ (text.now ++ codes "\""))) }
+{
+    out.push_str("\"")?;
+    out.push_str(text)?;
+    out.push_str("\"")
+}
+
 pub(crate) fn push_text(alloc: Global, out: &mut String, text: &str) -> Result<(), AllocError>
     ensures { OnOk result (Appends out.old out.new (compact_text (string text.now))) }
 {
-    let value = Value::try_from_str(alloc, text)?;
-    push_value(alloc, out, &value)
+    if is_plain(text) {
+        push_quoted(out, text)
+    } else {
+        let value = Value::try_from_str(alloc, text)?;
+        push_value(alloc, out, &value)
+    }
 }
 
-fn push_number(alloc: Global, out: &mut String, number: i64) -> Result<(), AllocError>
+fn push_number(out: &mut String, number: i64) -> Result<(), AllocError>
     ensures text { OnOk result (Appends out.old out.new (signed_decimal number)) }
     ensures fits { FitsSigned w64 number }
 {
-    let text = format!(in alloc; "{number}")?;
-    out.push_str(text.as_str())
+    write!(out, "{number}")
 }
 
 pub(crate) fn push_member(
@@ -64,7 +87,7 @@ pub(crate) fn push_id(alloc: Global, out: &mut String, id: &Id) -> Result<(), Al
     ensures fits { OnOk result (IdFits (show_id id.now)) }
 {
     match id {
-        Id::Number(n) => push_number(alloc, out, *n),
+        Id::Number(n) => push_number(out, *n),
         Id::String(text) => push_text(alloc, out, text.as_str()),
         Id::Null => out.push_str("null"),
     }
@@ -94,7 +117,7 @@ fn push_error(alloc: Global, out: &mut String, error: &Error) -> Result<(), Allo
     ensures back { OnOk result (ErrorReadsBack (show_error error.now)) }
 {
     out.push_str("{\"code\":")?;
-    push_number(alloc, out, error.code.code())?;
+    push_number(out, error.code.code())?;
     out.push_str(",\"message\":")?;
     push_text(alloc, out, error.message.as_str())?;
     push_member(alloc, out, ",\"data\":", &error.payload)?;

@@ -3,7 +3,7 @@ use Rattle.serde_json.specs.Find.{get_member}
 use Rattle.serde_json.specs.View.{view, members_view}
 use Rattle.serde_json.proofs.Views.{view-lookup}
 use Rattle.std.specs.Option.{option_map}
-use Rattle.lsp_rpc.proofs.Members.{get_member-without}
+use Rattle.lsp_rpc.proofs.Removed.{get_member-without}
 use Rattle.lsp_rpc.proofs.read.take_member.Goals as goal
 
 pub returns : goal.returns

@@ -7,7 +7,7 @@ use Rattle.lsp_rpc.proofs.request.Request.to_text.Goals as goal
 
 pub returns-clause-reads_back : goal.returns-clause-reads_back
 returns-clause-reads_back c = λ readable.
-    let is : string_bytes c.push_str.new.self ≡ message_text (request (show_request c.args.self.now)) = search rules in
+    let is : string_bytes c.push_str-2.new.self ≡ message_text (request (show_request c.args.self.now)) = search rules in
     request_read_back _ (show_request c.args.self.now) is c.in_ok-push_member.ensures.back c.in_ok-push_request_id.ensures.fits c.requires readable
 
 pub returns-clause-reads_alone : goal.returns-clause-reads_alone
