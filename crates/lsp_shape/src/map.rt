@@ -1,5 +1,5 @@
 // Maps: objects of any members, and maps from keys that are texts.
-ghost use Rattle.std.specs.Prelude.{◌≡◌, map, ℕ, List, Bool, bytes_eq, true, false, IfOk, OnOk, IsErrOf, Some, None, string_bytes};
+ghost use Rattle.std.specs.Prelude.{◌≡◌, ◌↔◌, map, ℕ, List, Bool, bytes_eq, true, false, IfOk, OnOk, IsErrOf, Some, None, string_bytes};
 ghost use Rattle.std.proofs.Common.{rules};
 ghost use Rattle.std.specs.List.{list_any};
 ghost use Rattle.serde_json.specs.View.{members_view};
@@ -42,11 +42,11 @@ pub trait Key: Eq + Hash + Drop {
     /// The texts that keys have.
     ghost is_key: { List ℕ → Bool };
 
-    /// `Unfit` comes exactly where the text is that of no key.
+    /// `Unfit` comes exactly where the text is that of no key, also where memory is short.
     fn from_text(alloc: Global, text: &str) -> Result<Self, Misfit>
         ensures read { IfOk result (λ k. key_text k ≡ text.now) }
         ensures fits { OnOk result (is_key text.now ≡ true) }
-        ensures unfit { IsErrOf result Misfit.Unfit → is_key text.now ≡ false };
+        ensures unfit { IsErrOf result Misfit.Unfit ↔ (is_key text.now ≡ false) };
 
     fn as_text(&self) -> &str
         ensures shown { result.now ≡ key_text self.now }
