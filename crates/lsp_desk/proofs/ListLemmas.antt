@@ -1,5 +1,5 @@
 -- The first element that passes, in a list and in its view.
-use Rattle.std.proofs.Common.{◌≡◌, ℕ, ◌+◌, ◌<◌, ◌≤◌, suc, zero, List, [], ◌∷◌, ◌++◌, refl, sym, ◌∙◌, ap, subst, map, arith, length, length-append, get_or, take, drop, add-one, Bool, true, false, cond, not}
+use Rattle.std.proofs.Common.{◌≡◌, ℕ, ◌+◌, ◌<◌, ◌≤◌, suc, zero, List, [], ◌∷◌, ◌++◌, refl, sym, ◌∙◌, ap, subst, map, arith, length, get_or, take, drop, add-one, Bool, true, false, cond, not}
 use Rattle.std.proofs.lemmas.List.{map-append, take-map, drop-map, length-map}
 use Rattle.std.proofs.lemmas.Grind.{common_steps}
 use Rattle.std.proofs.lemmas.List.Folds.{find_at, list_any-append}
@@ -107,12 +107,6 @@ pub none_of : {A B : Type 0} (f : A → B) (o : Option A) → None ≡ option_ma
 none_of f None h = refl
 none_of f (Some x) h = absurd (cc)
 
--- the element at a place is one
-pub same_at : {A : Type 0} (xs : List A) (i : ℕ) (x y : A) → i < length xs → x ≡ get_or xs i x → y ≡ get_or xs i y → x ≡ y
-same_at [] i x y inside p q = absurd (omega (arith, inside))
-same_at (z ∷ xs) zero x y inside p q = p ∙ sym q
-same_at (z ∷ xs) (suc i) x y inside p q = same_at xs i x y (omega (arith, inside)) p q
-
 -- the element at a place inside, whatever stands for the others
 get_or-inside : {A : Type 0} (xs : List A) (i : ℕ) (d e : A) → i < length xs → get_or xs i d ≡ get_or xs i e
 get_or-inside [] i d e inside = absurd (omega (arith, inside))
@@ -134,14 +128,29 @@ position-map show p xs = rw (position_or_len-map show p xs, length-map xs show) 
 pub map-remove : {A B : Type 0} (f : A → B) (xs : List A) (i : ℕ) → map f (remove xs i) ≡ remove (map f xs) i
 map-remove f xs i = rw (take-map, drop-map) (map-append f (take i xs) (drop (suc i) xs))
 
-pub get_or-map : {A B : Type 0} (f : A → B) (xs : List A) (i : ℕ) (d : B) (x : A) → i < length xs → x ≡ get_or xs i x → f x ≡ get_or (map f xs) i d
-get_or-map f [] i d x inside is = absurd (omega (arith, inside))
-get_or-map f (y ∷ xs) zero d x inside is = ap f is
-get_or-map f (y ∷ xs) (suc i) d x inside is = get_or-map f xs i d x (omega (arith, inside)) is
+-- the first element that passes, with those before it and those after it
+pub record FirstIs {A : Type 0} (p : A → Bool) (xs before : List A) (x : A) (later : List A) : Type 0 where
+  pub whole : xs ≡ before ++ x ∷ later
+  pub passes : p x ≡ true
+  pub none_before : list_any p before ≡ false
 
--- what one of two equal lists was before its last element
-pub before_last : {A : Type 0} (xs ys : List A) (x y : A) → xs ++ x ∷ [] ≡ ys ++ y ∷ [] → xs ≡ ys
-before_last [] [] x y e = refl
-before_last [] (z ∷ ys) x y e = absurd (omega (arith, ap length e, length-append ys (y ∷ [])))
-before_last (z ∷ xs) [] x y e = absurd (omega (arith, ap length e, length-append xs (x ∷ [])))
-before_last (a ∷ xs) (b ∷ ys) x y e = let head : a ≡ b = cc in let tail : xs ++ x ∷ [] ≡ ys ++ y ∷ [] = cc in rw head (ap (λ l. b ∷ l) (before_last xs ys x y tail))
+pub found_first : {A : Type 0} (p : A → Bool) (xs : List A) (x : A) → find p xs ≡ Some x → FirstIs p xs (before_first p xs) x (after_first p xs)
+found_first p [] x h = absurd (cc)
+found_first p (y ∷ xs) x h = at (p y) refl h (found_first p xs x)
+  where
+    far : (n m : ℕ) → n ≡ suc (position_or_len p xs) → m ≡ suc (position_or_len p xs + 1) → p y ≡ false
+        → FirstIs p xs (before_first p xs) x (after_first p xs) → FirstIs p (y ∷ xs) (take n (y ∷ xs)) x (drop m (y ∷ xs))
+    far n m e f fails w = rw (e, f) (record { whole = ap (λ l. y ∷ l) w.whole; passes = w.passes; none_before = none_or p (p y) _ fails w.none_before })
+
+    at : (b : Bool) → p y ≡ b → cond b (Some y) (find p xs) ≡ Some x → (find p xs ≡ Some x → FirstIs p xs (before_first p xs) x (after_first p xs))
+        → FirstIs p (y ∷ xs) (take (cond (not b) (1 + position_or_len p xs) 0) (y ∷ xs)) x (drop (cond (not b) (1 + position_or_len p xs) 0 + 1) (y ∷ xs))
+    at true e h more = let is : y ≡ x = cc in record { whole = ap (λ z. z ∷ xs) is; passes = ap p (sym is) ∙ e; none_before = refl }
+    at false e h more = far _ _ (omega arith) (omega arith) e (more h)
+
+pub none_pass : {A : Type 0} (p : A → Bool) (xs : List A) → find p xs ≡ None → list_any p xs ≡ false
+none_pass p [] h = refl
+none_pass p (x ∷ xs) h = at (p x) refl h (none_pass p xs)
+  where
+    at : (b : Bool) → p x ≡ b → cond b (Some x) (find p xs) ≡ None → (find p xs ≡ None → list_any p xs ≡ false) → (p x || list_any p xs) ≡ false
+    at true e h more = absurd (cc)
+    at false e h more = none_or p (p x) _ e (more h)

@@ -8,3 +8,5 @@ pub mod Shown
 pub mod Kept
 pub mod Waits
 pub mod Plain
+pub mod Flow
+pub mod Laws

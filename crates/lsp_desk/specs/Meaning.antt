@@ -1,12 +1,12 @@
 -- What a desk's values mean, and what a call makes of them.
-use Rattle.std.specs.Prelude.{◌≡◌, ◌⊎◌, ◌≤◌, ◌++◌, ℕ, Bool, true, false, List, [], ◌∷◌, length, Option, Some, None, Result, Ok, Err}
+use Rattle.std.specs.Prelude.{◌≡◌, ◌⊎◌, ◌≤◌, ◌++◌, ℕ, Bool, true, false, List, [], ◌∷◌, length, map, Option, Some, None, Result, Ok, Err}
 use Rattle.std.specs.Option.{option_map}
 use Rattle.lsp_desk.specs.declared.call.DeskFault.{DeskFault}
 use Rattle.lsp_desk.specs.declared.call.DeskFault.TheVariants as faults
 use Rattle.lsp_desk.specs.Call.{Call}
 use Rattle.lsp_desk.specs.Reply.{Reply}
 use Rattle.lsp_desk.specs.Desk.{DeskState, opening}
-use Rattle.lsp_desk.specs.Trace.{DeskEntry, TraceEntry, Replays, after_all, AllBelow, times, entries_of, owns, places, OthersAsk, AllOwn}
+use Rattle.lsp_desk.specs.Trace.{DeskEntry, TraceEntry, Replays, after_all, AllBelow, times, entries_of, owns, mine, theirs, places, OthersAsk, AllOwn}
 
 pub record Meaning (D : Type 0) : Type 0 where
   -- the state after the last call that was made through this value
@@ -51,11 +51,16 @@ Adds show c (Ok reply) own = own ≡ record { call = c; reply = Some (show reply
 Adds show c (Err faults.NoMemory) own = (own ≡ []) ⊎ (own ≡ record { call = c; reply = None } ∷ [])
 Adds show c (Err (faults.Spent n)) own = own ≡ []
 
+-- others made their calls first, and one's own came after them
+abbrev pub OwnLast : List TraceEntry → Type 0
+OwnLast trace = (others : List DeskEntry) × (trace ≡ map theirs others ++ map mine (owns trace))
+
 -- a call was made
 pub record Calls {D R : Type 0} (m : Meaning D) (show : R → Reply) (old : D) (call : Call) (result : Result R DeskFault) (new : D) : Type 0 where
   pub trace : List TraceEntry
   pub grows : Grows m old trace new
   pub adds : Adds show call result (owns trace)
+  pub own_last : OwnLast trace
 
 -- entries were made, whatever they are
 pub record Grown {D : Type 0} (m : Meaning D) (old new : D) : Type 0 where

@@ -43,6 +43,12 @@ pub record TraceEntry : Type 0 where
   pub own : Bool
   pub entry : DeskEntry
 
+abbrev pub mine : DeskEntry → TraceEntry
+mine entry = record { own = true; entry = entry }
+
+abbrev pub theirs : DeskEntry → TraceEntry
+theirs entry = record { own = false; entry = entry }
+
 abbrev pub entries_of : List TraceEntry → List DeskEntry
 entries_of trace = map (λ t. t.entry) trace
 
@@ -64,7 +70,7 @@ AllBelow n (k ∷ ks) = (k < n) × AllBelow n ks
 -- how often a number stands in a list
 abbrev pub times : ℕ → List ℕ → ℕ
 times n [] = 0
-times n (k ∷ ks) = if n == k then 1 + times n ks else times n ks
+times n (k ∷ ks) = (if n == k then 1 else 0) + times n ks
 
 -- the entries of others are client calls
 abbrev pub OthersAsk : List TraceEntry → Type 0

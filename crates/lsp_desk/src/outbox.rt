@@ -9,12 +9,13 @@ ghost use Rattle.lsp_desk.specs.Kept.{show_kept, kept_have_float, FirstOf, IsFlo
 
 use lsp_rpc::{NoMemory, Request, Response};
 use std::alloc::Global;
+use std::collections::VecDeque;
 use std::mem;
 
 /// The messages that are to be sent, in order. None of them holds a float.
 #[derive(Drop)]
 pub(crate) struct Outbox {
-    requests: Vec<Request>,
+    requests: VecDeque<Request>,
     ghost float_free: { requests_have_float (map show_request requests.items) ≡ false },
 }
 
@@ -23,7 +24,7 @@ impl Outbox {
         ensures { result.requests.items ≡ [] }
     {
         Outbox {
-            requests: Vec::new(alloc),
+            requests: VecDeque::new(alloc),
         }
     }
 
@@ -33,7 +34,7 @@ impl Outbox {
         ensures ok { OnOk result (self.new.requests.items ≡ self.old.requests.items ++ request ∷ []) }
         ensures err { OnErr result (self.new.requests.items ≡ self.old.requests.items) }
     {
-        self.requests.push(request)?;
+        self.requests.push_back(request)?;
         Ok(())
     }
 
@@ -42,10 +43,7 @@ impl Outbox {
         ensures first { FirstOf result self.old.requests.items self.new.requests.items }
         ensures float_free { reply_has_float (First (option_map show_request result)) ≡ false }
     {
-        if self.requests.is_empty() {
-            return None;
-        }
-        Some(self.requests.remove(0))
+        self.requests.pop_front()
     }
 
     /// Takes the messages, and leaves none. It takes no memory.
@@ -54,7 +52,7 @@ impl Outbox {
         ensures rest { self.new.requests.items ≡ [] }
         ensures float_free { requests_have_float (map show_request result.items) ≡ false }
     {
-        mem::replace(&mut self.requests, Vec::new(alloc))
+        mem::replace(&mut self.requests, VecDeque::new(alloc)).into_vec()
     }
 }
 
