@@ -1,0 +1,12 @@
+pub mod Lives
+pub mod Call
+pub mod Reply
+pub mod Desk
+pub mod Trace
+pub mod Meaning
+pub mod Shown
+pub mod Kept
+pub mod Waits
+pub mod Plain
+pub mod Flow
+pub mod Laws
