@@ -1,5 +1,5 @@
 //! How far a session has come.
-ghost use Rattle.std.specs.Prelude.{Some, codes};
+ghost use Rattle.std.specs.Prelude.{◌≡◌, Some, codes};
 
 use std::error::Error;
 use std::fmt;
@@ -17,6 +17,35 @@ pub enum Life {
     ShutDown,
     /// An `exit` notification was admitted: nothing is admitted any more.
     Exited,
+}
+
+impl Life {
+    ghost use Rattle.lsp_desk.specs.Desk.{later as later_lem, fallen as fallen_lem};
+
+    /// The later of two lives.
+    pub fn later(self, other: Life) -> Life
+        ensures { result ≡ later_lem self other }
+    {
+        match (self, other) {
+            (Life::Uninitialized, _) => other,
+            (Life::Initializing, Life::Uninitialized) => self,
+            (Life::Initializing, _) => other,
+            (Life::Initialized, Life::Uninitialized | Life::Initializing) => self,
+            (Life::Initialized, _) => other,
+            (Life::ShutDown, Life::Exited) => other,
+            (_, _) => self,
+        }
+    }
+
+    /// The life after an `initialize` that ended without a result.
+    pub fn fallen(self) -> Life
+        ensures { result ≡ fallen_lem self }
+    {
+        match self {
+            Life::Initializing => Life::Uninitialized,
+            _ => self,
+        }
+    }
 }
 
 /// The session has ended: `exit` was admitted.

@@ -10,7 +10,7 @@ ghost use Rattle.lsp_desk.specs.Call.{call_has_float};
 ghost use Rattle.lsp_desk.specs.Call as calls;
 ghost use Rattle.lsp_desk.specs.Reply.{reply_has_float};
 ghost use Rattle.lsp_desk.specs.Shown.{show_client_call, show_client_reply, show_server_call, show_server_reply};
-ghost use Rattle.lsp_desk.specs.Desk.{posted, ticketed, holds_back as holds_back_lem, later as later_lem, fallen as fallen_lem};
+ghost use Rattle.lsp_desk.specs.Desk.{posted, ticketed, holds_back as holds_back_lem};
 
 use crate::outbox::{Answers, Outbox};
 use crate::{Caller, ClientCall, ClientReply, Desk, DeskFault, Life, ServerCall, ServerReply};
@@ -188,11 +188,11 @@ impl PlainDesk {
         match call {
             ServerCall::Look => Ok(ServerReply::Life(self.life)),
             ServerCall::Rise(life) => {
-                self.life = later(self.life, life);
+                self.life = self.life.later(life);
                 Ok(ServerReply::Done)
             }
             ServerCall::Fall => {
-                self.life = fallen(self.life);
+                self.life = self.life.fallen();
                 Ok(ServerReply::Done)
             }
             ServerCall::Answer(response) => self.answer(response),
@@ -264,29 +264,5 @@ fn holds_back(life: Life) -> bool
     match life {
         Life::Uninitialized | Life::Initializing | Life::Exited => true,
         Life::Initialized | Life::ShutDown => false,
-    }
-}
-
-fn later(life: Life, other: Life) -> Life
-    ensures { result ≡ later_lem life other }
-{
-    match (life, other) {
-        (Life::Uninitialized, _) => other,
-        (Life::Initializing, Life::Uninitialized) => life,
-        (Life::Initializing, _) => other,
-        (Life::Initialized, Life::Uninitialized | Life::Initializing) => life,
-        (Life::Initialized, _) => other,
-        (Life::ShutDown, Life::Exited) => other,
-        (_, _) => life,
-    }
-}
-
-// The life after an `initialize` that ended without a result.
-fn fallen(life: Life) -> Life
-    ensures { result ≡ fallen_lem life }
-{
-    match life {
-        Life::Initializing => Life::Uninitialized,
-        _ => life,
     }
 }

@@ -1,7 +1,7 @@
 //! Whether a thing is there already.
 
 /// A value that is there, or one that is yet to come.
-#[derive(Clone, Copy, Debug, PartialEq, Eq)]
+#[derive(Debug, Drop, PartialEq, Eq)]
 pub enum Poll<T> {
     /// The value is there.
     Ready(T),
