@@ -1,5 +1,5 @@
 -- How what was done on a desk goes on.
-use Rattle.std.proofs.Common.{◌≡◌, ◌⊎◌, inl, inr, ℕ, ◌+◌, List, [], ◌∷◌, ◌++◌, length, map, refl, sym, ◌∙◌, ap, subst, append_assoc, arith, length-append, Bool, true, false, true≢false}
+use Rattle.std.proofs.Common.{◌≡◌, inr, ℕ, ◌+◌, List, [], ◌∷◌, ◌++◌, length, refl, sym, ◌∙◌, ap, subst, append_assoc, arith, length-append, Bool, true, false, true≢false}
 use Rattle.std.proofs.lemmas.List.{append-nil, map-append, length-map}
 use Rattle.std.specs.Prelude.{Option, Some, None, Result, Ok, Err, if◌then◌else◌, ◌&&◌, pos}
 use Rattle.std.specs.Option.{option_map}
@@ -14,11 +14,12 @@ use Rattle.lsp_desk.specs.Call.{Call, is_client}
 use Rattle.lsp_desk.specs.Call as calls
 use Rattle.lsp_desk.specs.Reply.{Reply}
 use Rattle.lsp_desk.specs.Reply as replies
-use Rattle.lsp_desk.specs.Desk.{DeskState, AwaitedData, KeptData, desk_step, later, fallen, is_exited, holds_back, asked, told, polled, answered, awaiting, first_of, sent_with, is_kept_for}
+use Rattle.lsp_desk.specs.Lives.{later, fallen, is_exited, holds_back}
+use Rattle.lsp_desk.specs.Desk.{DeskState, AwaitedData, KeptData, desk_step, asked, told, polled, answered, awaiting, first_of, sent_with, is_kept_for}
 use Rattle.std.specs.List.{find}
 use Rattle.lsp_desk.specs.Trace.{DeskEntry, TraceEntry, Fits, after, after_reply, Replays, entries_of, owns, places, OthersAsk, AllOwn, Makes}
-use Rattle.lsp_desk.specs.Meaning.{Meaning, Grows, Adds, Calls}
-use Rattle.lsp_desk.specs.Plain.{plain_meaning, plain_state, StepsTo}
+use Rattle.lsp_desk.specs.Meaning.{Meaning, Grows, Calls}
+use Rattle.lsp_desk.specs.Plain.{plain_meaning, plain_state, Tries}
 
 -- ---- stretches in a row
 
@@ -70,7 +71,7 @@ grows_none m d = record {
     none None = refl
     none (Some h) = ap Some (sym (append-nil h))
 
--- one stretch behind another
+-- one stretch after another
 pub grows_on : {D : Type 0} (m : Meaning D) (old mid new : D) (a b : List TraceEntry) → Grows m old a mid → Grows m mid b new → Grows m old (a ++ b) new
 grows_on m old mid new a b p q = record {
   replays = subst (λ l. Replays (m.now old) l (m.now new)) (sym (map-append _ a b)) (replays_on (m.now old) (m.now mid) (m.now new) (entries_of a) (entries_of b) p.replays q.replays);
@@ -132,13 +133,13 @@ life_by life calls.Next = life
 life_by life calls.Take = life
 life_by life calls.Close = Exited
 
-abbrev pub life_behind : Life → DeskEntry → Option Reply → Life
-life_behind life e None = life
-life_behind life e (Some reply) = life_by life e.call
+abbrev pub life_after : Life → DeskEntry → Option Reply → Life
+life_after life e None = life
+life_after life e (Some reply) = life_by life e.call
 
 abbrev pub life_along : Life → List DeskEntry → Life
 life_along life [] = life
-life_along life (e ∷ es) = life_along (life_behind life e e.reply) es
+life_along life (e ∷ es) = life_along (life_after life e e.reply) es
 
 refused_life : (b c : Bool) (r x : Reply) (d : DeskState) (s : Reply × DeskState) → s.1.life ≡ d.life → (if b then (r, d) else (if c then (x, d) else s)).1.life ≡ d.life
 refused_life true c r x d s p = refl
@@ -175,10 +176,10 @@ step_life d calls.Next = first_life d d.outbox
 step_life d calls.Take = refl
 step_life d calls.Close = refl
 
-after_life : (d : DeskState) (e : DeskEntry) → (after d e).life ≡ life_behind d.life e e.reply
-after_life d e = at e.reply
+entry_life : (d : DeskState) (e : DeskEntry) → (after d e).life ≡ life_after d.life e e.reply
+entry_life d e = at e.reply
   where
-    at : (reply : Option Reply) → (after_reply d e.call reply).life ≡ life_behind d.life e reply
+    at : (reply : Option Reply) → (after_reply d e.call reply).life ≡ life_after d.life e reply
     at None = refl
     at (Some reply) = step_life d e.call
 
@@ -196,18 +197,18 @@ client_life life calls.Next h = absurd (true≢false (sym h))
 client_life life calls.Take h = absurd (true≢false (sym h))
 client_life life calls.Close h = absurd (true≢false (sym h))
 
-behind_client : (life : Life) (e : DeskEntry) (reply : Option Reply) → is_client e.call ≡ true → life_behind life e reply ≡ life
-behind_client life e None h = refl
-behind_client life e (Some reply) h = client_life life e.call h
+after_client : (life : Life) (e : DeskEntry) (reply : Option Reply) → is_client e.call ≡ true → life_after life e reply ≡ life
+after_client life e None h = refl
+after_client life e (Some reply) h = client_life life e.call h
 
 -- others leave the life, and one's own entries make of it what they do
 pub life_is : (d d2 : DeskState) (trace : List TraceEntry) → Replays d (entries_of trace) d2 → OthersAsk trace → d2.life ≡ life_along d.life (owns trace)
 life_is d d2 [] r o = ap (λ (x : DeskState). x.life) r
-life_is d d2 (t ∷ trace) r o = life_is (after d t.entry) d2 trace r.1 o.1 ∙ ap (λ l. life_along l (owns trace)) (after_life d t.entry) ∙ at t.own o.0
+life_is d d2 (t ∷ trace) r o = life_is (after d t.entry) d2 trace r.1 o.1 ∙ ap (λ l. life_along l (owns trace)) (entry_life d t.entry) ∙ at t.own o.0
   where
-    at : (own : Bool) → (own ≡ false → is_client t.entry.call ≡ true) → life_along (life_behind d.life t.entry t.entry.reply) (owns trace) ≡ life_along d.life (if own then t.entry ∷ owns trace else owns trace)
+    at : (own : Bool) → (own ≡ false → is_client t.entry.call ≡ true) → life_along (life_after d.life t.entry t.entry.reply) (owns trace) ≡ life_along d.life (if own then t.entry ∷ owns trace else owns trace)
     at true h = refl
-    at false h = ap (λ l. life_along l (owns trace)) (behind_client d.life t.entry t.entry.reply (h refl))
+    at false h = ap (λ l. life_along l (owns trace)) (after_client d.life t.entry t.entry.reply (h refl))
 
 pub makes_life : (d d2 : DeskState) (own : List DeskEntry) (trace : List TraceEntry) → Makes d own trace d2 → d2.life ≡ life_along d.life own
 makes_life d d2 own trace p = life_is d d2 trace p.replays p.others ∙ ap (life_along d.life) p.own_are
@@ -232,7 +233,7 @@ abbrev pub as_fault : {R : Type 0} → Result R NoMemory → Result R DeskFault
 as_fault (Ok reply) = Ok reply
 as_fault (Err e) = Err faults.NoMemory
 
-pub plain_calls : {R : Type 0} (show : R → Reply) (old new : PlainDesk) (call : Call) (result : Result R NoMemory) → StepsTo show old call result new → Calls plain_meaning show old call (as_fault result) new
+pub plain_calls : {R : Type 0} (show : R → Reply) (old new : PlainDesk) (call : Call) (result : Result R NoMemory) → Tries show old call result new → Calls plain_meaning show old call (as_fault result) new
 plain_calls show old new call (Ok reply) p = record {
   trace = record { own = true; entry = record { call = call; reply = Some (show reply) } } ∷ [];
   grows = plain_grows old new (record { call = call; reply = Some (show reply) }) (sym (ap (λ (x : Reply × DeskState). x.0) p)) (sym (ap (λ (x : Reply × DeskState). x.1) p));

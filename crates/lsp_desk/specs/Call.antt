@@ -17,6 +17,7 @@ pub data Call : Type 0 where
   NextId : Call
   Look : Call
   Rise : Life → Call
+  -- an `initialize` came to nothing
   Fall : Call
   -- an answer came
   Answer : ResponseData → Call

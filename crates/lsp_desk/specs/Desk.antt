@@ -1,11 +1,12 @@
 -- A desk's state, and what a call makes of it.
-use Rattle.std.specs.Prelude.{◌≡◌, ◌&&◌, ◌==◌, ◌++◌, ◌+◌, ◌^◌, ◌%◌, ℕ, pos, Bool, true, false, if◌then◌else◌, List, [], ◌∷◌, Option, Some, None}
+use Rattle.std.specs.Prelude.{◌&&◌, ◌==◌, ◌++◌, ◌+◌, ◌^◌, ◌%◌, ℕ, pos, Bool, false, if◌then◌else◌, List, [], ◌∷◌, Option, Some, None}
 use Rattle.std.specs.List.{find, before_first, after_first, list_any}
 use Rattle.serde_json.specs.Data.{Data}
 use Rattle.lsp_rpc.specs.Message.{IdData, number_id, null_id, RequestData, ResponseData}
 use Rattle.lsp_rpc.specs.Ids.{same_id}
 use Rattle.lsp_desk.specs.declared.life.Life.{Life}
-use Rattle.lsp_desk.specs.declared.life.Life.TheVariants.{Uninitialized, Initializing, Initialized, ShutDown, Exited}
+use Rattle.lsp_desk.specs.declared.life.Life.TheVariants.{Uninitialized, Exited}
+use Rattle.lsp_desk.specs.Lives.{later, fallen, is_exited, holds_back}
 use Rattle.lsp_desk.specs.Call.{Call}
 use Rattle.lsp_desk.specs.Call as calls
 use Rattle.lsp_desk.specs.Reply.{Reply}
@@ -39,21 +40,6 @@ abbrev pub opening : DeskState
 opening = record { life = Uninitialized; next_id = 0; next_ticket = 0; awaited = []; kept = []; outbox = [] }
 
 -- ---- client calls
-
-abbrev pub is_exited : Life → Bool
-is_exited Uninitialized = false
-is_exited Initializing = false
-is_exited Initialized = false
-is_exited ShutDown = false
-is_exited Exited = true
-
--- a gated call passes after `initialize` and before `exit`
-abbrev pub holds_back : Life → Bool
-holds_back Uninitialized = true
-holds_back Initializing = true
-holds_back Initialized = false
-holds_back ShutDown = false
-holds_back Exited = true
 
 -- a message is sent, unless the life forbids it
 abbrev pub unless_refused : Bool → DeskState → Reply → Reply × DeskState → Reply × DeskState
@@ -94,34 +80,6 @@ polled d ticket None = (if list_any (is_awaited_by ticket) d.awaited then replie
 polled d ticket (Some k) = (replies.Answered k.response, record d { kept = before_first (is_kept_for ticket) d.kept ++ after_first (is_kept_for ticket) d.kept })
 
 -- ---- server calls
-
--- the later of two lives
-abbrev pub later : Life → Life → Life
-later Uninitialized life = life
-later Initializing Uninitialized = Initializing
-later Initializing Initializing = Initializing
-later Initializing Initialized = Initialized
-later Initializing ShutDown = ShutDown
-later Initializing Exited = Exited
-later Initialized Uninitialized = Initialized
-later Initialized Initializing = Initialized
-later Initialized Initialized = Initialized
-later Initialized ShutDown = ShutDown
-later Initialized Exited = Exited
-later ShutDown Uninitialized = ShutDown
-later ShutDown Initializing = ShutDown
-later ShutDown Initialized = ShutDown
-later ShutDown ShutDown = ShutDown
-later ShutDown Exited = Exited
-later Exited life = Exited
-
--- a life falls from Initializing alone
-abbrev pub fallen : Life → Life
-fallen Uninitialized = Uninitialized
-fallen Initializing = Uninitialized
-fallen Initialized = Initialized
-fallen ShutDown = ShutDown
-fallen Exited = Exited
 
 abbrev pub has_id : IdData → AwaitedData → Bool
 has_id i a = same_id a.id i

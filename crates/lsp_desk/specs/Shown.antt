@@ -1,5 +1,5 @@
 -- The plain data that the code's calls and replies stand for.
-use Rattle.std.specs.Prelude.{Option, Some, None, option_map, map, string_bytes}
+use Rattle.std.specs.Prelude.{option_map, map, string_bytes}
 use Rattle.serde_json.specs.View.{view}
 use Rattle.lsp_rpc.specs.Shown.{show_id, show_request, show_response}
 use Rattle.lsp_desk.specs.declared.call.ClientCall.{ClientCall}

@@ -58,9 +58,9 @@ pub enum ClientReply {
 pub enum ServerCall {
     /// Asks how far the session has come.
     Look,
-    /// The session has come so far.
+    /// The session has come so far; it never goes back by this.
     Rise(Life),
-    /// The `initialize` request ended without a result: a life that is Initializing is Uninitialized again.
+    /// The `initialize` request came to nothing: a life that is Initializing is Uninitialized again.
     Fall,
     /// An answer of the client came.
     Answer(Response),

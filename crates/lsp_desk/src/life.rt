@@ -1,15 +1,16 @@
 //! How far a session has come.
-ghost use Rattle.std.specs.Prelude.{◌≡◌, Some, codes};
+ghost use Rattle.std.specs.Prelude.{Some, codes};
 
 use std::error::Error;
 use std::fmt;
 
 /// How far a session has come in its life cycle (LSP 3.17, "Server lifecycle").
-#[derive(Clone, Copy, Debug, PartialEq, Eq)]
+/// The lives stand in their order.
+#[derive(Clone, Copy, Debug, PartialEq, Eq, PartialOrd, Ord)]
 pub enum Life {
-    /// No `initialize` request was admitted, or the last one ended without a result.
+    /// No `initialize` request was admitted, or it came to nothing.
     Uninitialized,
-    /// An `initialize` request was admitted and has not ended.
+    /// An `initialize` request was admitted, and its response is yet to come.
     Initializing,
     /// `initialize` was answered with a result.
     Initialized,
@@ -20,31 +21,32 @@ pub enum Life {
 }
 
 impl Life {
-    ghost use Rattle.lsp_desk.specs.Desk.{later as later_lem, fallen as fallen_lem};
+    ghost use Rattle.std.specs.Prelude.{◌≡◌};
+    ghost use Rattle.lsp_desk.specs.Lives as lives;
 
     /// The later of two lives.
     pub fn later(self, other: Life) -> Life
-        ensures { result ≡ later_lem self other }
+        ensures { result ≡ lives.later self other }
     {
-        match (self, other) {
-            (Life::Uninitialized, _) => other,
-            (Life::Initializing, Life::Uninitialized) => self,
-            (Life::Initializing, _) => other,
-            (Life::Initialized, Life::Uninitialized | Life::Initializing) => self,
-            (Life::Initialized, _) => other,
-            (Life::ShutDown, Life::Exited) => other,
-            (_, _) => self,
+        self.max(other)
+    }
+
+    /// The life after an `initialize` that came to nothing.
+    pub fn fallen(self) -> Life
+        ensures { result ≡ lives.fallen self }
+    {
+        if self == Life::Initializing {
+            Life::Uninitialized
+        } else {
+            self
         }
     }
 
-    /// The life after an `initialize` that ended without a result.
-    pub fn fallen(self) -> Life
-        ensures { result ≡ fallen_lem self }
+    // Whether a gated call waits.
+    pub(crate) fn holds_back(self) -> bool
+        ensures { result ≡ lives.holds_back self }
     {
-        match self {
-            Life::Initializing => Life::Uninitialized,
-            _ => self,
-        }
+        !matches!(self, Life::Initialized | Life::ShutDown)
     }
 }
 

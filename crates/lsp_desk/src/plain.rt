@@ -1,29 +1,21 @@
 //! A desk that one session uses alone.
-ghost use Rattle.std.specs.Prelude.{◌≡◌, ◌==◌, refl, ◌^◌, ◌-◌, [], ℕ, true, false, IfOk, OnOk, OnErr, map, position, string_bytes};
-ghost use Rattle.std.specs.List.{list_any};
+ghost use Rattle.std.specs.Prelude.{◌≡◌, refl, ◌^◌, ◌-◌, ℕ, true, false, IsOk, IfOk, OnOk, OnErr, string_bytes};
 ghost use Rattle.serde_json.specs.View.{view};
 ghost use Rattle.serde_json.specs.Written.{has_float};
 ghost use Rattle.lsp_rpc.specs.Message.{may_have_float, body_has_float};
-ghost use Rattle.lsp_rpc.specs.Ids.{same_id};
 ghost use Rattle.lsp_rpc.specs.Shown.{show_id, show_request, show_response};
 ghost use Rattle.lsp_desk.specs.Call.{call_has_float};
 ghost use Rattle.lsp_desk.specs.Call as calls;
 ghost use Rattle.lsp_desk.specs.Reply.{reply_has_float};
 ghost use Rattle.lsp_desk.specs.Shown.{show_client_call, show_client_reply, show_server_call, show_server_reply};
-ghost use Rattle.lsp_desk.specs.Desk.{posted, ticketed, holds_back as holds_back_lem};
+ghost use Rattle.lsp_desk.specs.Desk.{posted, ticketed};
 
 use crate::outbox::{Answers, Outbox};
+use crate::waiting::Waiting;
 use crate::{Caller, ClientCall, ClientReply, Desk, DeskFault, Life, ServerCall, ServerReply};
 use lsp_rpc::{Id, NoMemory, Request, Response};
 use serde_json::Value;
 use std::alloc::Global;
-
-/// A request that was sent and whose answer is awaited.
-#[derive(Drop)]
-pub(crate) struct Awaited {
-    ticket: u64,
-    id: Id,
-}
 
 /// A desk that one session uses alone.
 #[derive(Drop)]
@@ -32,14 +24,14 @@ pub struct PlainDesk {
     life: Life,
     next_id: u32,
     next_ticket: u64,
-    awaited: Vec<Awaited>,
+    waiting: Waiting,
     kept: Answers,
     outbox: Outbox,
 }
 
 impl PlainDesk {
     ghost use Rattle.lsp_desk.specs.Desk.{opening};
-    ghost use Rattle.lsp_desk.specs.Plain.{plain_state, StepsTo};
+    ghost use Rattle.lsp_desk.specs.Plain.{plain_state, Tries, takes_no_memory};
 
     /// A desk on which nothing was done.
     pub fn new(alloc: Global) -> PlainDesk
@@ -50,7 +42,7 @@ impl PlainDesk {
             life: Life::Uninitialized,
             next_id: 0,
             next_ticket: 0,
-            awaited: Vec::new(alloc),
+            waiting: Waiting::new(alloc),
             kept: Answers::new(alloc),
             outbox: Outbox::new(alloc),
         }
@@ -58,7 +50,8 @@ impl PlainDesk {
 
     fn client_step(&mut self, call: ClientCall) -> Result<ClientReply, NoMemory>
         requires { call_has_float (show_client_call call) ≡ false }
-        ensures steps { StepsTo show_client_reply self.old (show_client_call call) result self.new }
+        ensures ready { takes_no_memory (show_client_call call) ≡ true → IsOk result }
+        ensures steps { Tries show_client_reply self.old (show_client_call call) result self.new }
         ensures float_free { IfOk result (λ reply. reply_has_float (show_client_reply reply) ≡ false) }
     {
         match call {
@@ -84,10 +77,10 @@ impl PlainDesk {
 
     fn ask(&mut self, method: String, params: Value, gated: bool) -> Result<ClientReply, NoMemory>
         requires { has_float (view params) ≡ false }
-        ensures steps { StepsTo show_client_reply self.old (calls.Ask (string_bytes method) (view params) gated) result self.new }
+        ensures steps { Tries show_client_reply self.old (calls.Ask (string_bytes method) (view params) gated) result self.new }
         ensures float_free { IfOk result (λ reply. reply_has_float (show_client_reply reply) ≡ false) }
     {
-        if gated && holds_back(self.life) {
+        if gated && self.life.holds_back() {
             return Ok(ClientReply::NotInitialized);
         }
         if self.life == Life::Exited {
@@ -105,10 +98,10 @@ impl PlainDesk {
 
     fn tell(&mut self, method: String, params: Value, gated: bool) -> Result<ClientReply, NoMemory>
         requires { has_float (view params) ≡ false }
-        ensures steps { StepsTo show_client_reply self.old (calls.Tell (string_bytes method) (view params) gated) result self.new }
+        ensures steps { Tries show_client_reply self.old (calls.Tell (string_bytes method) (view params) gated) result self.new }
         ensures float_free { IfOk result (λ reply. reply_has_float (show_client_reply reply) ≡ false) }
     {
-        if gated && holds_back(self.life) {
+        if gated && self.life.holds_back() {
             return Ok(ClientReply::Suppressed);
         }
         if self.life == Life::Exited {
@@ -120,7 +113,7 @@ impl PlainDesk {
 
     fn raw(&mut self, request: Request) -> Result<ClientReply, NoMemory>
         requires { may_have_float (show_request request).params ≡ false }
-        ensures steps { StepsTo show_client_reply self.old (calls.Raw (show_request request)) result self.new }
+        ensures steps { Tries show_client_reply self.old (calls.Raw (show_request request)) result self.new }
         ensures float_free { IfOk result (λ reply. reply_has_float (show_client_reply reply) ≡ false) }
     {
         if self.life == Life::Exited {
@@ -136,7 +129,7 @@ impl PlainDesk {
         Ok(ClientReply::Ticket(ticket, told))
     }
 
-    // Puts the message behind those that are to be sent.
+    // Puts the message after those that are to be sent.
     fn post(&mut self, request: Request) -> Result<(), NoMemory>
         requires { may_have_float (show_request request).params ≡ false }
         ensures ok { OnOk result (plain_state self.new ≡ posted (plain_state self.old) (show_request request)) }
@@ -153,27 +146,27 @@ impl PlainDesk {
         ensures err { OnErr result (plain_state self.new ≡ plain_state self.old) }
     {
         let ticket = self.next_ticket;
-        self.awaited.push(Awaited { ticket, id })?;
+        self.waiting.push(ticket, id)?;
         match self.post(request) {
             Ok(()) => {
                 self.next_ticket = ticket.wrapping_add(1);
                 Ok(ticket)
             }
             Err(NoMemory) => {
-                self.awaited.pop();
+                self.waiting.pop();
                 Err(NoMemory)
             }
         }
     }
 
     fn poll(&mut self, ticket: u64) -> ClientReply
-        ensures steps { StepsTo show_client_reply self.old (calls.Poll ticket) (Ok result) self.new }
+        ensures steps { Tries show_client_reply self.old (calls.Poll ticket) (Ok result) self.new }
         ensures float_free { reply_has_float (show_client_reply result) ≡ false }
     {
         if let Some(response) = self.kept.take(ticket) {
             return ClientReply::Answer(response);
         }
-        if is_awaited(&self.awaited, ticket) {
+        if self.waiting.has_ticket(ticket) {
             ClientReply::Awaited
         } else {
             ClientReply::Gone
@@ -182,7 +175,8 @@ impl PlainDesk {
 
     fn server_step(&mut self, call: ServerCall) -> Result<ServerReply, NoMemory>
         requires { call_has_float (show_server_call call) ≡ false }
-        ensures steps { StepsTo show_server_reply self.old (show_server_call call) result self.new }
+        ensures ready { takes_no_memory (show_server_call call) ≡ true → IsOk result }
+        ensures steps { Tries show_server_reply self.old (show_server_call call) result self.new }
         ensures float_free { IfOk result (λ reply. reply_has_float (show_server_reply reply) ≡ false) }
     {
         match call {
@@ -207,62 +201,57 @@ impl PlainDesk {
 
     fn answer(&mut self, response: Response) -> Result<ServerReply, NoMemory>
         requires { body_has_float (show_response response).body ≡ false }
-        ensures steps { StepsTo show_server_reply self.old (calls.Answer (show_response response)) result self.new }
+        ensures steps { Tries show_server_reply self.old (calls.Answer (show_response response)) result self.new }
         ensures float_free { IfOk result (λ reply. reply_has_float (show_server_reply reply) ≡ false) }
     {
         if *response.id() == Id::Null {
             return Ok(ServerReply::Ignored);
         }
-        let Some(place) = oldest(&self.awaited, response.id()) else {
+        let Some(place) = self.waiting.oldest(response.id()) else {
             return Ok(ServerReply::Ignored);
         };
-        let ticket = self.awaited[place].ticket;
-        self.kept.push(ticket, response)?;
-        self.awaited.remove(place);
+        self.kept.push(self.waiting.ticket(place), response)?;
+        self.waiting.remove(place);
         Ok(ServerReply::Given)
     }
 }
 
 impl Caller for PlainDesk {
-    ghost use Rattle.lsp_desk.specs.Plain.{plain_meaning};
+    ghost use Rattle.lsp_desk.specs.Meaning.{Calls};
+    ghost use Rattle.lsp_desk.specs.Plain.{plain_meaning, plain_laws, StepsTo, takes_no_memory};
 
     ghost meaning = { plain_meaning };
 
-    fn client(&mut self, call: ClientCall) -> Result<ClientReply, DeskFault> {
+    /// Makes a call. `Poll` and `NextId` take no memory: they are Ok.
+    fn client(&mut self, call: ClientCall) -> Result<ClientReply, DeskFault>
+        requires { call_has_float (show_client_call call) ≡ false }
+        ensures ready { takes_no_memory (show_client_call call) ≡ true → IsOk result }
+        ensures steps { StepsTo show_client_reply self.old (show_client_call call) result self.new }
+        ensures calls { Calls plain_meaning show_client_reply self.old (show_client_call call) result self.new }
+        ensures spent { (n : ℕ) → result ≡ Err (DeskFault.Spent n) → (n ≡ 2 ^ 64 - 1) × (plain_meaning.spent self.new ≡ true) }
+        ensures float_free { IfOk result (λ reply. reply_has_float (show_client_reply reply) ≡ false) }
+    {
         Ok(self.client_step(call)?)
     }
 
-    ghost laws = { record { alone_unspent = λ desk alone. refl } };
+    ghost laws = { plain_laws };
 }
 
 impl Desk for PlainDesk {
-    fn server(&mut self, call: ServerCall) -> Result<ServerReply, DeskFault> {
+    ghost use Rattle.lsp_desk.specs.Meaning.{Calls};
+    ghost use Rattle.lsp_desk.specs.Plain.{plain_meaning, StepsTo, takes_no_memory};
+
+    /// Makes a call of the session. All but `Answer` take no memory: they are Ok.
+    fn server(&mut self, call: ServerCall) -> Result<ServerReply, DeskFault>
+        requires { call_has_float (show_server_call call) ≡ false }
+        ensures ready { takes_no_memory (show_server_call call) ≡ true → IsOk result }
+        ensures steps { StepsTo show_server_reply self.old (show_server_call call) result self.new }
+        ensures calls { Calls plain_meaning show_server_reply self.old (show_server_call call) result self.new }
+        ensures spent { (n : ℕ) → result ≡ Err (DeskFault.Spent n) → (n ≡ 2 ^ 64 - 1) × (plain_meaning.spent self.new ≡ true) }
+        ensures float_free { IfOk result (λ reply. reply_has_float (show_server_reply reply) ≡ false) }
+    {
         Ok(self.server_step(call)?)
     }
 
     ghost is_chief = { λ desk. refl };
-}
-
-// The place of the oldest request of an id.
-fn oldest(awaited: &Vec<Awaited>, id: &Id) -> Option<usize>
-    ensures { result ≡ position (λ a. same_id (show_id a.id) (show_id id.now)) awaited.now.items }
-{
-    awaited.iter().position(|awaited| awaited.id == *id)
-}
-
-// Whether an answer of the ticket is awaited.
-fn is_awaited(awaited: &Vec<Awaited>, ticket: u64) -> bool
-    ensures { result ≡ list_any (λ a. a.ticket == ticket) awaited.now.items }
-{
-    awaited.iter().any(|awaited| awaited.ticket == ticket)
-}
-
-// Whether a gated call waits.
-fn holds_back(life: Life) -> bool
-    ensures { result ≡ holds_back_lem life }
-{
-    match life {
-        Life::Uninitialized | Life::Initializing | Life::Exited => true,
-        Life::Initialized | Life::ShutDown => false,
-    }
 }
