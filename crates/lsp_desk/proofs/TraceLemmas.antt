@@ -183,7 +183,7 @@ entry_life d e = at e.reply
     at None = refl
     at (Some reply) = step_life d e.call
 
-client_life : (life : Life) (call : Call) → is_client call ≡ true → life_by life call ≡ life
+pub client_life : (life : Life) (call : Call) → is_client call ≡ true → life_by life call ≡ life
 client_life life (calls.Ask method params gated) h = refl
 client_life life (calls.Tell method params gated) h = refl
 client_life life (calls.Raw r) h = refl

@@ -6,6 +6,7 @@ use Rattle.std.proofs.lemmas.List.{append-nil, map-append, length-map}
 use Rattle.std.proofs.lemmas.List.Elements.{filter-append}
 use Rattle.std.proofs.lemmas.List.Folds.{list_any-append}
 use Rattle.std.proofs.lemmas.Grind.{common_steps}
+use Rattle.std.proofs.lemmas.Bool.{lt-ltb}
 use Rattle.serde_json.specs.Data.{Data}
 use Rattle.lsp_rpc.specs.Message.{IdData, ErrorData}
 use Rattle.lsp_rpc.specs.Ids.{same_id}
@@ -80,16 +81,21 @@ module _ {C T : Type 0} where
       ∙ sym (list_any-append initializes (slots ++ take n queue) (drop n queue))
       ∙ ap (list_any initializes) (append_assoc slots (take n queue) (drop n queue) ∙ ap (λ l. slots ++ l) (take-append-drop n queue))
 
+module _ (C T : Type 0) where
   moved_none : (max : ℕ) → (moved_slots {C = C} {T = T} max [] [] ≡ []) × (moved_queue {C = C} {T = T} max [] [] ≡ [])
   moved_none max = (grind (arith, common_steps), grind (arith, common_steps))
 
-  empty_fits : (max : ℕ) → WorksFit Uninitialized (moved_slots {C = C} {T = T} max [] []) (moved_queue max [] [])
+  empty_fits : (max : ℕ) → WorksFit Uninitialized (moved_slots {C = C} {T = T} max [] []) (moved_queue {C = C} {T = T} max [] [])
   empty_fits max = (ap length (moved_none max).0, ap length (moved_none max).1)
 
-  empty_fits_initialized : (max : ℕ) → WorksFit Initialized (moved_slots {C = C} {T = T} max [] []) (moved_queue max [] [])
-  empty_fits_initialized max = any_moved max [] []
+  empty_fits_initialized : (max : ℕ) → WorksFit Initialized (moved_slots {C = C} {T = T} max [] []) (moved_queue {C = C} {T = T} max [] [])
+  empty_fits_initialized max = any_moved {C = C} {T = T} max [] []
 
 -- ---- a poll
+
+ids_fewer : (a : List IdData) (id : Option IdData) (b : List IdData) → length (a ++ with_id id b) ≡ 0 → length (a ++ b) ≡ 0
+ids_fewer a None b h = h
+ids_fewer a (Some i) b h = absurd (let n = length-append a (i ∷ b) in omega (arith, h, n))
 
 module _ {C T : Type 0} where
   -- a work that goes on keeps its id and its entry
@@ -102,10 +108,6 @@ module _ {C T : Type 0} where
   held_fits Exited before w w2 after queue i e p =
       ap length (ids_mid before w2 after queue ∙ ap (λ id. ids_of before ++ with_id id (ids_of (after ++ queue))) i ∙ sym (ids_mid before w after queue)) ∙ p
 
-  ids_fewer : (a : List IdData) (id : Option IdData) (b : List IdData) → length (a ++ with_id id b) ≡ 0 → length (a ++ b) ≡ 0
-  ids_fewer a None b h = h
-  ids_fewer a (Some i) b h = absurd (let n = length-append a (i ∷ b) in omega (arith, h, n))
-
   none_left : (max : ℕ) (before : List (Work C T)) (w : Work C T) (after queue : List (Work C T)) → list_any initializes ((before ++ w ∷ after) ++ queue) ≡ false
       → list_any initializes (moved_slots max (before ++ after) queue ++ moved_queue max (before ++ after) queue) ≡ false
   none_left max before w after queue p =
@@ -115,8 +117,8 @@ module _ {C T : Type 0} where
   -- the one work, an `initialize`, has ended
   ended_first : (max : ℕ) (w : Work C T) (outcome : Result Data ErrorData) → initializes w ≡ true
       → WorksFit (life_along Initializing (changing (poll_change {T = T} Initializing w.entry.layer (Done outcome)))) (moved_slots {C = C} {T = T} max [] []) (moved_queue max [] [])
-  ended_first max w (Ok v) h = subst (λ (b : Bool). WorksFit (life_along Initializing (changing (if b then end_change {T = T} (Done (Ok v)) else Stays))) (moved_slots {C = C} {T = T} max [] []) (moved_queue max [] [])) (sym h) (empty_fits_initialized max)
-  ended_first max w (Err e) h = subst (λ (b : Bool). WorksFit (life_along Initializing (changing (if b then end_change {T = T} (Done (Err e)) else Stays))) (moved_slots {C = C} {T = T} max [] []) (moved_queue max [] [])) (sym h) (empty_fits max)
+  ended_first max w (Ok v) h = subst (λ (b : Bool). WorksFit (life_along Initializing (changing (if b then end_change {T = T} (Done (Ok v)) else Stays))) (moved_slots {C = C} {T = T} max [] []) (moved_queue max [] [])) (sym h) (empty_fits_initialized C T max)
+  ended_first max w (Err e) h = subst (λ (b : Bool). WorksFit (life_along Initializing (changing (if b then end_change {T = T} (Done (Err e)) else Stays))) (moved_slots {C = C} {T = T} max [] []) (moved_queue max [] [])) (sym h) (empty_fits C T max)
 
   one_first : (max : ℕ) (before : List (Work C T)) (w : Work C T) (after queue : List (Work C T)) (outcome : Result Data ErrorData) → length (before ++ w ∷ after) ≡ 1 → length queue ≡ 0 → list_any initializes (before ++ w ∷ after) ≡ true
       → WorksFit (life_along Initializing (changing (poll_change {T = T} Initializing w.entry.layer (Done outcome)))) (moved_slots max (before ++ after) queue) (moved_queue max (before ++ after) queue)
@@ -153,7 +155,7 @@ module _ {C T : Type 0} where
   cancelled_one max i w (Some j) l h = at (same_id i j) l
     where
       at : (b : Bool) → (b || false) ≡ true → WorksFit (life_along Initializing (changing (if b || false then Falls else Stays))) (moved_slots {C = C} {T = T} max (cond (not b) (w ∷ []) []) []) (moved_queue {C = C} {T = T} max (cond (not b) (w ∷ []) []) [])
-      at true k = empty_fits max
+      at true k = empty_fits C T max
       at false k = absurd (true≢false (sym k))
 
   cancelled_first : (max : ℕ) (i : IdData) (slots queue : List (Work C T)) → length slots ≡ 1 → length queue ≡ 0 → list_any initializes slots ≡ true → is_live i (ids_of (slots ++ queue)) ≡ true
@@ -197,10 +199,11 @@ module _ {C T : Type 0} where
   -- an `initialize` is the one work
   pub opened_fits : (max : ℕ) (slots queue : List (Work C T)) (w : Work C T) → 1 ≤ max → initializes w ≡ true → WorksFit Uninitialized slots queue
       → WorksFit Initializing (slots_if (nat_lt (length slots) max) slots w) (queue_if (nat_lt (length slots) max) queue w)
-  opened_fits (suc max) [] [] w some h p = (refl, (refl, ap (λ b. b || false) h))
-  opened_fits zero slots queue w some h p = absurd (omega (arith, some))
-  opened_fits (suc max) (x ∷ slots) queue w some h p = absurd (omega (arith, p.0))
-  opened_fits (suc max) [] (x ∷ queue) w some h p = absurd (omega (arith, p.1))
+  opened_fits max [] [] w some h p =
+      let room : nat_lt 0 max ≡ true = lt-ltb 0 max (omega (arith, some)) in
+      subst (λ (b : Bool). WorksFit Initializing (slots_if b [] w) (queue_if b [] w)) (sym room) (refl, (refl, ap (λ b. b || false) h))
+  opened_fits max (x ∷ slots) queue w some h p = absurd (omega (arith, p.0))
+  opened_fits max [] (x ∷ queue) w some h p = absurd (omega (arith, p.1))
 
   -- any other call leaves none that is an `initialize`
   pub begun_fits : (b : Bool) (slots queue : List (Work C T)) (w : Work C T) → initializes w ≡ false → list_any initializes (slots ++ queue) ≡ false

@@ -22,7 +22,7 @@ use Rattle.lsp_session.specs.Semantics.{Semantics, IsLawful, Progress, Pending, 
 use Rattle.lsp_session.specs.Admission.{Verdict, Silence, Refuses, Answers, Cancels, Exits, Starts, Admission, Occasion, admission, check_life, quiet, refuse, passed, initialized, if_of_kind, started, by_layer, by_entry}
 use Rattle.lsp_session.specs.State.{Work, State, Effect, nothing, both, puts, live, initializing, is_crowded}
 use Rattle.lsp_session.specs.Run.{answer, Applies, Admits, admission_of, occasion, after_poll, Poll, Drains, took, closed, changing, poll_change, end_change, is_initializing, is_exit}
-use Rattle.lsp_session.specs.Laws.{IsUntouched, IsAnswered, Requests, InitializeComesFirst, InitializeComesOnce, NothingBeginsAfterShutdown, HasEnded, FallsInTime, LivesGoOn}
+use Rattle.lsp_session.specs.Laws.{IsUntouched, IsAnswered, Requests, InitializeComesFirst, InitializeComesOnce, NothingBeginsAfterShutdown, HasEnded, ExitEnds, FallsInTime, LivesGoOn}
 use Rattle.lsp_session.proofs.SortLemmas.{Sorted, leaves, takes, ends, opens, begins, shuts, closes, changes_none, admission_sorted}
 use Rattle.lsp_session.proofs.LifeLemmas.{quits, admission_quits, quits_quietly}
 use Rattle.lsp_session.proofs.WorkLemmas.{quit_live}
@@ -112,7 +112,7 @@ module _ {H C T : Type 0} (semantics : Semantics H C T) where
   pub exits : ExitEnds semantics
   exits s s2 item e is h =
       let a = admission_of semantics s item in
-      let quits_now = admission_quits (occasion s) (semantics.find s.service) semantics.reads item ∙ is in
+      let quits_now = admission_quits semantics.Call (occasion s) (semantics.find s.service) semantics.reads item ∙ is in
       let stays = quits_quietly (occasion s) a (admission_sorted (occasion s) (semantics.find s.service) semantics.reads item) quits_now in
       let done = subst (λ (v : Verdict semantics.Call). Applies semantics h.mid v h.rest s2) (quits_is a.verdict quits_now) h.applies in
       let same : h.mid.desk.life ≡ s.desk.life =

@@ -75,11 +75,12 @@ module _ {H C T : Type 0} (semantics : Semantics H C T) (laws : IsLawful semanti
 
     run_exits : (s s2 : Picked (State H semantics.Call semantics.Task) P) (items : List ItemData) (e : Effect) → has_exit (semantics.find s.session.service) items ≡ true → Run (Step semantics order rounds) s items e s2 → is_exited s2.session.desk.life ≡ true
     run_exits s s2 [] e is h = absurd (true≢false (sym is))
-    run_exits s s2 (item ∷ items) e is h = at (is_exit (semantics.find s.session.service) item) refl is
+    run_exits s s2 (item ∷ items) e is h = at (is_exit (semantics.find s.session.service) item) refl is (λ q. run_exits h.0 s2 items h.2 q h.4)
       where
-        at : (b : Bool) → is_exit (semantics.find s.session.service) item ≡ b → (b || has_exit (semantics.find s.session.service) items) ≡ true → is_exited s2.session.desk.life ≡ true
-        at true k q = run_stays h.0 s2 items h.2 (exit_steps s h.0 item h.1 k h.3) h.4
-        at false k q = run_exits h.0 s2 items h.2 (same_exits (semantics.find h.0.session.service) (semantics.find s.session.service) items (λ name. step_table semantics laws name order rounds s h.0 item h.1 h.3) ∙ q) h.4
+        at : (b : Bool) → is_exit (semantics.find s.session.service) item ≡ b → (b || has_exit (semantics.find s.session.service) items) ≡ true
+            → (has_exit (semantics.find h.0.session.service) items ≡ true → is_exited s2.session.desk.life ≡ true) → is_exited s2.session.desk.life ≡ true
+        at true k q ih = run_stays h.0 s2 items h.2 (exit_steps s h.0 item h.1 k h.3) h.4
+        at false k q ih = ih (same_exits (semantics.find h.0.session.service) (semantics.find s.session.service) items (λ name. step_table semantics laws name order rounds s h.0 item h.1 h.3) ∙ q)
 
   ended_none : (s : State H semantics.Call semantics.Task) → FitsLife s → is_exited s.desk.life ≡ true → live s ≡ []
   ended_none s p ended = at s.desk.life ended p.works_fit
@@ -91,18 +92,16 @@ module _ {H C T : Type 0} (semantics : Semantics H C T) (laws : IsLawful semanti
       at ShutDown e w = absurd (true≢false (sym e))
       at Exited e w = no_length (live s) w
 
-  pub facts : FactsHold semantics
-  facts = record {
-    hold = λ order rounds service items e last h. (
-      run_settled order rounds _ _ items e (settled_opening service h.max h.wait) h.runs,
-      run_fits order rounds _ _ items e (fits_opening service h.max h.wait h.some) h.runs,
-    );
-  }
+  pub facts : {P : Type 0} (order : Order P) → FactsHold semantics order
+  facts order rounds service items e last h = (
+    run_settled order rounds _ _ items e (settled_opening service h.max h.wait) h.runs,
+    run_fits order rounds _ _ items e (fits_opening service h.max h.wait h.some) h.runs,
+  )
 
-  pub answered : AnsweredOnce semantics
-  answered = record {
-    counts = λ order rounds service items e last h. run_counts semantics order rounds laws (record { session = opening service h.max h.wait; pick = h.pick }) (record { session = last; pick = h.then }) items e (settled_opening service h.max h.wait) refl h.runs;
-    after_exit = λ order rounds service items e last h is. ended_none last (run_fits order rounds _ _ items e (fits_opening service h.max h.wait h.some) h.runs) (run_exits order rounds _ _ items e is h.runs);
+  pub answered : {P : Type 0} (order : Order P) → AnsweredOnce semantics order
+  answered order = record {
+    counts = λ rounds service items e last h. run_counts semantics order rounds laws (record { session = opening service h.max h.wait; pick = h.pick }) (record { session = last; pick = h.then }) items e (settled_opening service h.max h.wait) refl h.runs;
+    after_exit = λ rounds service items e last h is. ended_none last (run_fits order rounds _ _ items e (fits_opening service h.max h.wait h.some) h.runs) (run_exits order rounds _ _ items e is h.runs);
   }
 
   -- ---- after a cancel
@@ -121,7 +120,7 @@ module _ {H C T : Type 0} (semantics : Semantics H C T) (laws : IsLawful semanti
     where
       at : (b : Bool) → (b || is_live i ids) ≡ false → (is_live i ids ≡ false → times i ids ≡ 0) → one_if b + times i ids ≡ 0
       at true k ih = absurd (true≢false k)
-      at false k ih = ih k
+      at false k ih = omega (arith, ih k)
 
   taken_out : (i : IdData) (ids : List IdData) → is_live i (filter (λ j. not (same_id i j)) ids) ≡ false
   taken_out i [] = refl
@@ -131,12 +130,12 @@ module _ {H C T : Type 0} (semantics : Semantics H C T) (laws : IsLawful semanti
       at true e ih = ih
       at false e ih = ap (λ b. b || is_live i (filter (λ k. not (same_id i k)) ids)) e ∙ ih
 
-  pub cancelled : CancelledOnce semantics
-  cancelled = record {
+  pub cancelled : {P : Type 0} (order : Order P) → CancelledOnce semantics order
+  cancelled order = record {
     gone = λ s s2 item i e q is h.
         let done = subst (λ (v : Verdict semantics.Call). Applies semantics h.mid v h.rest s2) is h.applies in
         ap (λ (x : State H semantics.Call semantics.Task). is_live i (live x)) done.1 ∙ ap (is_live i) (cancelled_live h.mid i) ∙ taken_out i (live h.mid);
-    silent = λ order rounds s s2 items i e q gone none real h.
+    silent = λ rounds s s2 items i e q gone none real h.
         let says = run_says semantics order rounds laws i s s2 items e q h in
         let before : times i (live s.session) ≡ 0 = live_none i (live s.session) gone in
         let no_faults : (if same_id i null_id then faults items else 0) ≡ 0 = ap (λ (b : Bool). if b then faults items else 0) real in
@@ -192,22 +191,20 @@ module _ {H C T : Type 0} (semantics : Semantics H C T) where
     polls_tried s s2 p p2 (place ∷ places) e q h = polls_tried h.0 s2 _ p2 places h.2 (poll_tried s h.0 place h.1 q h.3) h.5
 
     polls_left : (s s2 : State H semantics.Call semantics.Task) (p p2 : P) (places : List ℕ) (e : Effect) → PollsAt semantics order s p places e s2 p2 → length places + left s2 ≡ left s
-    polls_left s s2 p p2 [] e h = ap left h.1
+    polls_left s s2 p p2 [] e h = let same : left s2 ≡ left s = ap left h.1 in omega (arith, same)
     polls_left s s2 p p2 (place ∷ places) e h =
         let first : left h.0 + 1 ≡ left s = poll_falls semantics s h.0 place h.1 h.3 in
         let rest = polls_left h.0 s2 _ p2 places h.2 h.5 in
         omega (arith, first, rest)
 
-  pub polled : RoundsPollAll semantics
-  polled = record {
-    all = λ order s s2 p p2 e q h.
-        let start : State H semantics.Call semantics.Task = record s { slots = map marked s.slots } in
-        let n : length h.places + left s2 ≡ left start = polls_left order start s2 p p2 h.places e h.polls in
-        let none : dues s2.slots ≡ 0 = h.none_left in
-        let all : dues (map marked s.slots) ≡ length s.slots = dues-marked s.slots in
-        record {
-          once = omega (arith, n, none, all);
-          polled = all_tried s2.slots none (polls_tried order start s2 p p2 h.places e (marked_tried s.slots) h.polls);
-          full = (polls_settled semantics order start s2 p p2 h.places e (marked_settled s q) h.polls).slots_full;
-        };
-  }
+  pub polled : {P : Type 0} (order : Order P) → RoundsPollAll semantics order
+  polled order s s2 p p2 e q h =
+      let start : State H semantics.Call semantics.Task = record s { slots = map marked s.slots } in
+      let n : length h.places + left s2 ≡ left start = polls_left order start s2 p p2 h.places e h.polls in
+      let none : dues s2.slots ≡ 0 = h.none_left in
+      let all : dues (map marked s.slots) ≡ length s.slots = dues-marked s.slots in
+      record {
+        once = omega (arith, n, none, all);
+        polled = all_tried s2.slots none (polls_tried order start s2 p p2 h.places e (marked_tried s.slots) h.polls);
+        full = (polls_settled semantics order start s2 p p2 h.places e (marked_settled s q) h.polls).slots_full;
+      }

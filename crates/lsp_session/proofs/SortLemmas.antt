@@ -49,7 +49,7 @@ pub data Begun {C : Type 0} (entry : Entry) (v : Verdict C) : Type 0 where
   none : changes_none v ≡ true → Begun entry v
   one : (id : Option IdData) (c : C) → v ≡ Starts id entry c → Begun entry v
 
-module _ {C : Type 0} where
+module _ (C : Type 0) where
   refuse_none : (id : Option IdData) (error : ErrorData) → changes_none {C = C} (refuse id error) ≡ true
   refuse_none None error = refl
   refuse_none (Some i) error = refl
@@ -128,22 +128,22 @@ admission_sorted {C} o find reads (message (request r)) = at_entry (find r.metho
   where
     at_layer : (entry : Entry) (reading : Reading C) (layer : Layer) → entry.layer ≡ layer → Sorted o (by_layer o r entry reading layer)
     at_layer entry reading Exit is = ends refl refl
-    at_layer entry reading Cancel is = cancel_sorted o r.id r.params
+    at_layer entry reading Cancel is = cancel_sorted C o r.id r.params
     at_layer entry reading Initialize is =
         let v = if_of_kind o.live entry.kind r.id (started o.crowded r.id entry r.params reading) in
-        let begun = kind_begun o.live entry entry.kind r.id _ (started_begun o.crowded r.id entry r.params reading) in
-        subst (λ l. Sorted o (initialized (passed (check_life o.life l) r.id v))) (sym is) (initialize_sorted o entry r.id v is begun o.life refl)
+        let begun = kind_begun C o.live entry entry.kind r.id _ (started_begun C o.crowded r.id entry r.params reading) in
+        subst (λ l. Sorted o (initialized (passed (check_life o.life l) r.id v))) (sym is) (initialize_sorted C o entry r.id v is begun o.life refl)
     at_layer entry reading Shutdown is =
         let v = if_of_kind o.live entry.kind r.id (started o.crowded r.id entry r.params reading) in
-        let begun = kind_begun o.live entry entry.kind r.id _ (started_begun o.crowded r.id entry r.params reading) in
-        subst (λ l. Sorted o (passed (check_life o.life l) r.id v)) (sym is) (shutdown_sorted o entry r.id v is begun o.life refl)
+        let begun = kind_begun C o.live entry entry.kind r.id _ (started_begun C o.crowded r.id entry r.params reading) in
+        subst (λ l. Sorted o (passed (check_life o.life l) r.id v)) (sym is) (shutdown_sorted C o entry r.id v is begun o.life refl)
     at_layer entry reading Normal is =
         let v = if_of_kind o.live entry.kind r.id (started o.crowded r.id entry r.params reading) in
-        let begun = kind_begun o.live entry entry.kind r.id _ (started_begun o.crowded r.id entry r.params reading) in
-        subst (λ l. Sorted o (passed (check_life o.life l) r.id v)) (sym is) (normal_sorted o entry r.id v is begun o.life refl)
+        let begun = kind_begun C o.live entry entry.kind r.id _ (started_begun C o.crowded r.id entry r.params reading) in
+        subst (λ l. Sorted o (passed (check_life o.life l) r.id v)) (sym is) (normal_sorted C o entry r.id v is begun o.life refl)
 
     at_entry : (entry : Option Entry) → Sorted o (by_entry o reads r entry)
-    at_entry None = leaves refl (refuse_none r.id (unknown_method r.method))
+    at_entry None = leaves refl (refuse_none C r.id (unknown_method r.method))
     at_entry (Some entry) = at_layer entry (reads entry r.params) entry.layer refl
 admission_sorted o find reads (message (response r)) = leaves refl refl
 admission_sorted o find reads (fault code) = leaves refl refl

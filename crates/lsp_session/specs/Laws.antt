@@ -88,24 +88,24 @@ pub record Serves {H C T P : Type 0} (semantics : Semantics H C T) (order : Orde
   pub runs : Run (Step semantics order rounds) (record { session = opening service max wait; pick = pick }) items e (record { session = last; pick = then })
 
 -- in every state that a run comes to the live ids differ, no call waits while a slot is free, and the calls fit the life
-pub record FactsHold {H C T : Type 0} (semantics : Semantics H C T) : Type 1 where
-  pub hold : {P : Type 0} (order : Order P) (rounds : ℕ) (service : H) (items : List ItemData) (e : Effect) (last : State H semantics.Call semantics.Task)
-      → Serves semantics order rounds service items e last → IsSettled last × FitsLife last
+abbrev pub FactsHold : {H C T P : Type 0} → Semantics H C T → Order P → Type 0
+FactsHold {H} semantics order = (rounds : ℕ) (service : H) (items : List ItemData) (e : Effect) (last : State H semantics.Call semantics.Task)
+    → Serves semantics order rounds service items e last → IsSettled last × FitsLife last
 
 -- each owed request and each fault is answered once, but for the requests that are still live; after an exit none is
-pub record AnsweredOnce {H C T : Type 0} (semantics : Semantics H C T) : Type 1 where
-  pub counts : {P : Type 0} (order : Order P) (rounds : ℕ) (service : H) (items : List ItemData) (e : Effect) (last : State H semantics.Call semantics.Task)
+pub record AnsweredOnce {H C T P : Type 0} (semantics : Semantics H C T) (order : Order P) : Type 0 where
+  pub counts : (rounds : ℕ) (service : H) (items : List ItemData) (e : Effect) (last : State H semantics.Call semantics.Task)
       → Serves semantics order rounds service items e last → Counts (semantics.find service) items e.out (live last)
-  pub after_exit : {P : Type 0} (order : Order P) (rounds : ℕ) (service : H) (items : List ItemData) (e : Effect) (last : State H semantics.Call semantics.Task)
+  pub after_exit : (rounds : ℕ) (service : H) (items : List ItemData) (e : Effect) (last : State H semantics.Call semantics.Task)
       → Serves semantics order rounds service items e last → has_exit (semantics.find service) items ≡ true → live last ≡ []
 
 -- after the answer to a cancel the request has no other, until a newer one takes its id
-pub record CancelledOnce {H C T : Type 0} (semantics : Semantics H C T) : Type 1 where
+pub record CancelledOnce {H C T P : Type 0} (semantics : Semantics H C T) (order : Order P) : Type 0 where
   -- it is answered and gone
   pub gone : (s s2 : State H semantics.Call semantics.Task) (item : ItemData) (i : IdData) (e : Effect) → IsSettled s → (admission_of semantics s item).verdict ≡ Cancels i
       → Admits semantics s (admission_of semantics s item) e s2 → is_live i (live s2) ≡ false
   -- and what is gone is not answered
-  pub silent : {P : Type 0} (order : Order P) (rounds : ℕ) (s s2 : Picked (State H semantics.Call semantics.Task) P) (items : List ItemData) (i : IdData) (e : Effect) → IsSettled s.session
+  pub silent : (rounds : ℕ) (s s2 : Picked (State H semantics.Call semantics.Task) P) (items : List ItemData) (i : IdData) (e : Effect) → IsSettled s.session
       → is_live i (live s.session) ≡ false → times i (owed (semantics.find s.session.service) items) ≡ 0 → same_id i null_id ≡ false
       → Run (Step semantics order rounds) s items e s2 → (answers_to i e.out ≡ 0) × (is_live i (live s2.session) ≡ false)
 
@@ -122,5 +122,5 @@ pub record PollsAll {H C T : Type 0} (s : State H C T) (places : List ℕ) (s2 :
   pub polled : list_any (λ w. is_fresh w.phase) s2.slots ≡ false
   pub full : 0 < length s2.queue → s2.max ≤ length s2.slots
 
-pub record RoundsPollAll {H C T : Type 0} (semantics : Semantics H C T) : Type 1 where
-  pub all : {P : Type 0} (order : Order P) (s s2 : State H semantics.Call semantics.Task) (p p2 : P) (e : Effect) → IsSettled s → (h : Round semantics order s p e s2 p2) → PollsAll s h.places s2
+abbrev pub RoundsPollAll : {H C T P : Type 0} → Semantics H C T → Order P → Type 0
+RoundsPollAll {H} {P = P} semantics order = (s s2 : State H semantics.Call semantics.Task) (p p2 : P) (e : Effect) → IsSettled s → (h : Round semantics order s p e s2 p2) → PollsAll s h.places s2

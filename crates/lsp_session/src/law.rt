@@ -1,7 +1,7 @@
 //! What every session keeps, whatever comes: functions whose contract is a law.
 ghost use Rattle.lsp_session.specs.Laws.{InitializeComesFirst, InitializeComesOnce, NothingBeginsAfterShutdown, ExitEnds, LivesGoOn, FactsHold, AnsweredOnce, CancelledOnce, RoundsPollAll};
 
-use crate::Handlers;
+use crate::{Handlers, Pick};
 use lsp_desk::Caller;
 
 /// `initialize` comes first: until it has ended well, any other request is answered -32002 and
@@ -32,22 +32,22 @@ pub fn lives_go_on<D: Caller, H: Handlers<D>>()
 
 /// In every state that a run comes to, live ids differ, no call waits while a slot is free, and the
 /// calls fit the life.
-pub fn facts_hold<D: Caller, H: Handlers<D>>()
-    ensures { FactsHold H.semantics }
+pub fn facts_hold<D: Caller, H: Handlers<D>, P: Pick>()
+    ensures { FactsHold H.semantics (record { gives = P.gives; later = P.later }) }
 {}
 
 /// Each owed request and each fault is answered once, but for the requests that are still live.
-pub fn answered_once<D: Caller, H: Handlers<D>>()
-    ensures { AnsweredOnce H.semantics }
+pub fn answered_once<D: Caller, H: Handlers<D>, P: Pick>()
+    ensures { AnsweredOnce H.semantics (record { gives = P.gives; later = P.later }) }
 {}
 
 /// After the answer to a cancel the request has no other (LSP 3.17, "Cancellation Support").
-pub fn cancelled_once<D: Caller, H: Handlers<D>>()
-    ensures { CancelledOnce H.semantics }
+pub fn cancelled_once<D: Caller, H: Handlers<D>, P: Pick>()
+    ensures { CancelledOnce H.semantics (record { gives = P.gives; later = P.later }) }
 {}
 
 /// A round polls each call that has a slot once, notifications too, and leaves none waiting while a
 /// slot is free.
-pub fn rounds_poll_all<D: Caller, H: Handlers<D>>()
-    ensures { RoundsPollAll H.semantics }
+pub fn rounds_poll_all<D: Caller, H: Handlers<D>, P: Pick>()
+    ensures { RoundsPollAll H.semantics (record { gives = P.gives; later = P.later }) }
 {}

@@ -11,7 +11,7 @@ pub returns-clause-ok : goal.returns-clause-ok
 returns-clause-ok g c =
     let m = g.D.Caller.meaning in
     let old = c.args.self.now in
-    let done = c.in_ok-self_life.ensures.ok in
+    let done = c.in_ok-self.ensures.ok in
     record {
       effect = record { trace = done.trace; out = [] };
       does = record {
