@@ -1,7 +1,7 @@
 -- How what was done on a desk goes on.
 use Rattle.std.proofs.Common.{◌≡◌, inr, ℕ, ◌+◌, List, [], ◌∷◌, ◌++◌, length, refl, sym, ◌∙◌, ap, subst, append_assoc, arith, length-append, Bool, true, false, true≢false}
 use Rattle.std.proofs.lemmas.List.{append-nil, map-append, length-map}
-use Rattle.std.specs.Prelude.{Option, Some, None, Result, Ok, Err, if◌then◌else◌, ◌&&◌, pos}
+use Rattle.std.specs.Prelude.{Option, Some, None, Result, Ok, Err, IsErrAnd, if◌then◌else◌, ◌&&◌, pos}
 use Rattle.std.specs.Option.{option_map}
 use Rattle.lsp_rpc.specs.Message.{IdData, RequestData, number_id}
 use Rattle.no_memory.specs.declared.NoMemory.{NoMemory}
@@ -162,7 +162,7 @@ first_life : (d : DeskState) (rs : List RequestData) → (first_of d rs).1.life 
 first_life d [] = refl
 first_life d (r ∷ rs) = refl
 
-step_life : (d : DeskState) (call : Call) → (desk_step d call).1.life ≡ life_by d.life call
+pub step_life : (d : DeskState) (call : Call) → (desk_step d call).1.life ≡ life_by d.life call
 step_life d (calls.Ask method params gated) = refused_life (gated && holds_back d.life) (is_exited d.life) replies.NotInitialized replies.Exited d (asked d (number_id (pos d.next_id)) method params) refl
 step_life d (calls.Tell method params gated) = refused_life (gated && holds_back d.life) (is_exited d.life) replies.Suppressed replies.Exited d (told d method params) refl
 step_life d (calls.Raw r) = refused_life false (is_exited d.life) replies.Exited replies.Exited d (sent_with d r r.id) (sent_life d r r.id)
@@ -176,7 +176,7 @@ step_life d calls.Next = first_life d d.outbox
 step_life d calls.Take = refl
 step_life d calls.Close = refl
 
-entry_life : (d : DeskState) (e : DeskEntry) → (after d e).life ≡ life_after d.life e e.reply
+pub entry_life : (d : DeskState) (e : DeskEntry) → (after d e).life ≡ life_after d.life e e.reply
 entry_life d e = at e.reply
   where
     at : (reply : Option Reply) → (after_reply d e.call reply).life ≡ life_after d.life e reply
@@ -238,9 +238,22 @@ plain_calls show old new call (Ok reply) p = record {
   trace = record { own = true; entry = record { call = call; reply = Some (show reply) } } ∷ [];
   grows = plain_grows old new (record { call = call; reply = Some (show reply) }) (sym (ap (λ (x : Reply × DeskState). x.0) p)) (sym (ap (λ (x : Reply × DeskState). x.1) p));
   adds = refl;
+  own_last = ([], refl);
 }
 plain_calls show old new call (Err e) p = record {
   trace = record { own = true; entry = record { call = call; reply = None } } ∷ [];
   grows = plain_grows old new (record { call = call; reply = None }) tt p;
   adds = inr refl;
+  own_last = ([], refl);
 }
+
+-- memory was wanting
+pub plain_refused : {R : Type 0} (show : R → Reply) (old new : PlainDesk) (call : Call) (result : Result R DeskFault) → IsErrAnd result (λ fault. fault ≡ faults.NoMemory) → plain_state new ≡ plain_state old → Calls plain_meaning show old call result new
+plain_refused {R} show old new c (Ok reply) is same = absurd is
+plain_refused {R} show old new c (Err faults.NoMemory) is same = record {
+  trace = record { own = true; entry = record { call = c; reply = None } } ∷ [];
+  grows = plain_grows old new (record { call = c; reply = None }) tt same;
+  adds = inr refl;
+  own_last = ([], refl);
+}
+plain_refused {R} show old new c (Err (faults.Spent n)) is same = absurd (cc)

@@ -68,9 +68,9 @@ impl PlainDesk {
             ClientCall::Raw(request) => self.raw(request),
             ClientCall::Poll(ticket) => Ok(self.poll(ticket)),
             ClientCall::NextId => {
-                let number = self.next_id;
-                self.next_id = number.wrapping_add(1);
-                Ok(ClientReply::Number(number))
+                let drawn = self.next_id;
+                self.next_id = drawn.wrapping_add(1);
+                Ok(ClientReply::Number(drawn))
             }
         }
     }
@@ -194,7 +194,8 @@ impl PlainDesk {
             ServerCall::Take => Ok(ServerReply::Messages(self.outbox.take_all(self.alloc))),
             ServerCall::Close => {
                 self.life = Life::Exited;
-                Ok(ServerReply::Messages(self.outbox.take_all(self.alloc)))
+                let unsent = self.outbox.take_all(self.alloc);
+                Ok(ServerReply::Messages(unsent))
             }
         }
     }

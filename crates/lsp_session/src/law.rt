@@ -1,5 +1,6 @@
 //! What every session keeps, whatever comes: functions whose contract is a law.
 ghost use Rattle.lsp_session.specs.Laws.{InitializeComesFirst, InitializeComesOnce, NothingBeginsAfterShutdown, ExitEnds, LivesGoOn, FactsHold, AnsweredOnce, CancelledOnce, RoundsPollAll};
+ghost use Rattle.lsp_session.specs.Own.{OwnMessagesPass};
 
 use crate::{Handlers, Pick};
 use lsp_desk::Caller;
@@ -50,4 +51,10 @@ pub fn cancelled_once<D: Caller, H: Handlers<D>, P: Pick>()
 /// slot is free.
 pub fn rounds_poll_all<D: Caller, H: Handlers<D>, P: Pick>()
     ensures { RoundsPollAll H.semantics (record { gives = P.gives; later = P.later }) }
+{}
+
+/// The server's own messages are those that it put in the desk before any `exit`, once each and in
+/// order, less those that the desk still holds; a desk that others don't use holds none.
+pub fn own_messages_pass<D: Caller, H: Handlers<D>, P: Pick>()
+    ensures { OwnMessagesPass H.semantics (record { gives = P.gives; later = P.later }) }
 {}
