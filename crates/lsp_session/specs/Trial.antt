@@ -1,5 +1,5 @@
 -- A server of which nothing is told but the laws: for tests.
-use Rattle.std.specs.Prelude.{◌≡◌, ⊤, true, false, ℕ, List, Option, Some, Result}
+use Rattle.std.specs.Prelude.{◌≡◌, refl, ⊤, true, false, ℕ, List, Option, Some, Result}
 use Rattle.serde_json.specs.Data.{Data}
 use Rattle.lsp_rpc.specs.Message.{ErrorData, may_have_float, body_has_float}
 use Rattle.lsp_desk.specs.Trace.{DeskEntry}
@@ -32,16 +32,16 @@ trial find = record {
 }
 
 -- a poll, the first or a later one, behaves
-behaves : {H C T : Type 0} (find : H → List ℕ → Option Entry) (s : H) (phase : Phase ⊤ ⊤) (asked : List DeskEntry) (s2 : H) (progress : Progress ⊤) → Polls (trial {C = C} {T = T} find) s phase asked s2 progress → Behaves find s asked s2 progress
-behaves find s (Fresh c) asked s2 progress p = p
-behaves find s (Held t) asked s2 progress p = p
+behaves : {H : Type 0} (C T : Type 0) (find : H → List ℕ → Option Entry) (s : H) (phase : Phase ⊤ ⊤) (asked : List DeskEntry) (s2 : H) (progress : Progress ⊤) → Polls (trial {C = C} {T = T} find) s phase asked s2 progress → Behaves find s asked s2 progress
+behaves C T find s (Fresh c) asked s2 progress p = p
+behaves C T find s (Held t) asked s2 progress p = p
 
 pub trial_lawful : {H C T : Type 0} (find : H → List ℕ → Option Entry) → IsLawful (trial {C = C} {T = T} find)
 trial_lawful {H} {C} {T} find = record {
   reads_sound = λ entry params c clean is. refl;
-  keeps_table = λ s phase asked s2 progress p name. (behaves {C = C} {T = T} find s phase asked s2 progress p).table name;
-  asks_client = λ s phase asked s2 progress p. (behaves {C = C} {T = T} find s phase asked s2 progress p).asks;
+  keeps_table = λ s phase asked s2 progress p name. (behaves C T find s phase asked s2 progress p).table name;
+  asks_client = λ s phase asked s2 progress p. (behaves C T find s phase asked s2 progress p).asks;
   keeps_call = λ s phase asked s2 t p. refl;
   keeps_answers = λ s phase asked s2 outcome p. tt;
-  keeps_float_free = λ s phase asked s2 outcome sound p. (behaves {C = C} {T = T} find s phase asked s2 (Done outcome) p).ends;
+  keeps_float_free = λ s phase asked s2 outcome sound p. (behaves C T find s phase asked s2 (Done outcome) p).ends;
 }
