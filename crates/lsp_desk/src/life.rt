@@ -24,15 +24,15 @@ impl Life {
     ghost use Rattle.std.specs.Prelude.{◌≡◌};
     ghost use Rattle.lsp_desk.specs.Lives as lives;
 
-    // The later of two lives.
-    pub(crate) fn later(self, other: Life) -> Life
+    /// The later of two lives.
+    pub fn later(self, other: Life) -> Life
         ensures { result ≡ lives.later self other }
     {
         self.max(other)
     }
 
-    // The life after an `initialize` that came to nothing.
-    pub(crate) fn fallen(self) -> Life
+    /// The life after an `initialize` that came to nothing.
+    pub fn fallen(self) -> Life
         ensures { result ≡ lives.fallen self }
     {
         if self == Life::Initializing {

@@ -1,296 +1,210 @@
--- How runs go on, what they leave, and what they note of an exit.
-use Rattle.std.proofs.Common.{◌≡◌, ℕ, List, [], ◌∷◌, ◌++◌, refl, sym, ◌∙◌, ap, subst, append_assoc, Bool, true, false, true≢false, cond, Option, Some, None, Result, Ok, Err}
-use Rattle.std.specs.Prelude.{◌||◌, if◌then◌else◌}
-use Rattle.std.proofs.lemmas.List.{append-nil}
-use Rattle.serde_json.specs.Data.{Data}
-use Rattle.lsp_rpc.specs.Message.{IdData, ErrorData, RequestData, MessageData, request, response}
-use Rattle.lsp_session.specs.declared.state.Life.{Life}
-use Rattle.lsp_session.specs.declared.state.Life.TheVariants.{Uninitialized, Initialized, ShutDown, Exited}
+-- What holds over whole rounds and runs.
+use Rattle.std.proofs.Common.{◌≡◌, ℕ, zero, suc, ◌+◌, ◌-◌, ◌<◌, ◌≤◌, List, [], ◌∷◌, ◌++◌, length, take, drop, map, refl, sym, ◌∙◌, ap, subst, arith, Bool, true, false, true≢false, cond, not}
+use Rattle.std.specs.Prelude.{Option, Some, None, Result, if◌then◌else◌, filter, ◌||◌, ◌&&◌}
+use Rattle.std.specs.List.{list_any}
+use Rattle.std.proofs.lemmas.List.Folds.{list_any-append}
+use Rattle.lsp_rpc.specs.Message.{IdData, null_id, RequestData, request, response}
+use Rattle.lsp_rpc.specs.Ids.{same_id, same_id_equiv}
+use Rattle.lsp_desk.specs.declared.life.Life.{Life}
+use Rattle.lsp_desk.specs.declared.life.Life.TheVariants.{Uninitialized, Initializing, Initialized, ShutDown, Exited}
+use Rattle.lsp_desk.specs.Desk.{DeskState}
+use Rattle.lsp_desk.specs.Lives.{is_exited}
+use Rattle.lsp_desk.proofs.TraceLemmas.{makes_life}
 use Rattle.lsp_session.specs.declared.table.Entry.{Entry}
-use Rattle.lsp_session.specs.declared.table.Kind.{Kind}
-use Rattle.lsp_session.specs.declared.table.Kind.TheVariants.{Request, Notification}
-use Rattle.lsp_session.specs.declared.table.Layer.{Layer}
-use Rattle.lsp_session.specs.declared.table.Layer.TheVariants.{Initialize, Shutdown, Exit, Cancel, Normal}
-use Rattle.lsp_session.specs.declared.gate.Gate.{Gate}
-use Rattle.lsp_session.specs.declared.gate.Gate.TheVariants.{Open, NotInitialized, Invalid}
 use Rattle.lsp_session.specs.Item.{ItemData, message, fault, tick}
-use Rattle.lsp_session.specs.Rules.{Rules, IsLawful, Reading, call, missing, unexpected, unfit}
-use Rattle.lsp_session.specs.Admission.{Verdict, Silence, Refuses, Cancels, Exits, Starts, Admission, admission, refuse, is_optional, unknown_method, cancel, cancel_live, cancelled_id, started, if_of_kind, gate_of, passed, by_layer, by_entry}
-use Rattle.lsp_session.specs.Run.{State, Effect, nothing, both, Obeys, admission_of, Step, Run, is_exit, is_exit_entry, is_exit_layer, life_after, has_exit, served}
+use Rattle.lsp_session.specs.Semantics.{Semantics, IsLawful, Fresh, Held, Progress, Pending, Done}
+use Rattle.lsp_session.specs.Admission.{Verdict, Cancels, is_live}
+use Rattle.lsp_session.specs.State.{Work, State, Effect, ids_of, live, opening, marked, dues, moved_up, moved_slots, moved_queue, IsSettled, FitsLife, WorksFit}
+use Rattle.lsp_session.specs.Run.{Applies, Admits, admission_of, after_poll, Order, Poll, PollsAt, Round, Rounds, Drains, Picked, Step, Run, took, is_exit, is_exit_entry, has_exit}
+use Rattle.lsp_session.specs.Count.{one_if, times, answers_to, owed, faults, Counts}
+use Rattle.lsp_session.specs.Laws.{Serves, FactsHold, AnsweredOnce, CancelledOnce, PollsAll, RoundsPollAll, is_fresh}
+use Rattle.lsp_session.proofs.FitLemmas.{or_none, none_both, none_out, any_mid, no_length}
+use Rattle.lsp_session.proofs.FactLemmas.{fits_opening, step_fits}
+use Rattle.lsp_session.proofs.CountLemmas.{run_counts, run_says, told, all_due, step_settled, step_table, polls_settled}
+use Rattle.lsp_session.proofs.LifeLemmas.{rounds_exited, step_lives}
+use Rattle.lsp_session.proofs.LawLemmas.{exits}
+use Rattle.lsp_session.proofs.RoundLemmas.{left, poll_falls, dues-marked, dues-cons}
+use Rattle.lsp_session.proofs.WorkLemmas.{cancelled_live, marked_settled}
 
--- ---- effects
+-- ---- facts of runs
 
-pub both-nothing : (e : Effect) → both e nothing ≡ e
-both-nothing e = ap (λ (o : List MessageData). record { out = o }) (append-nil e.out)
+module _ {H C T : Type 0} where
+  settled_opening : (service : H) (max wait : ℕ) → IsSettled (opening {C = C} {T = T} service max wait)
+  settled_opening service max wait = record { ids_differ = tt; slots_few = omega arith; slots_full = λ some. absurd (omega (arith, some)) }
 
-pub both-assoc : (a b c : Effect) → both (both a b) c ≡ both a (both b c)
-both-assoc a b c = ap (λ (o : List MessageData). record { out = o }) (append_assoc a.out b.out c.out)
+module _ {H C T : Type 0} (semantics : Semantics H C T) (laws : IsLawful semantics) where
+  module _ {P : Type 0} (order : Order P) (rounds : ℕ) where
+    run_settled : (s s2 : Picked (State H semantics.Call semantics.Task) P) (items : List ItemData) (e : Effect) → IsSettled s.session → Run (Step semantics order rounds) s items e s2 → IsSettled s2.session
+    run_settled s s2 [] e q h = subst (λ (x : Picked (State H semantics.Call semantics.Task) P). IsSettled x.session) (sym h.1) q
+    run_settled s s2 (item ∷ items) e q h = run_settled h.0 s2 items h.2 (step_settled semantics order rounds s h.0 item h.1 q h.3) h.4
 
--- ---- runs of any step
+    run_fits : (s s2 : Picked (State H semantics.Call semantics.Task) P) (items : List ItemData) (e : Effect) → FitsLife s.session → Run (Step semantics order rounds) s items e s2 → FitsLife s2.session
+    run_fits s s2 [] e q h = subst (λ (x : Picked (State H semantics.Call semantics.Task) P). FitsLife x.session) (sym h.1) q
+    run_fits s s2 (item ∷ items) e q h = run_fits h.0 s2 items h.2 (step_fits semantics laws order rounds s h.0 item h.1 q h.3) h.4
 
-module _ {S : Type 0} (step : S → ItemData → Effect → S → Type 0) where
-  -- one step more at the end
-  pub run_more : (s mid last : S) (items : List ItemData) (item : ItemData) (a b : Effect) → Run step s items a mid → step mid item b last → Run step s (items ++ item ∷ []) (both a b) last
-  run_more s mid last [] item a b p q = (last, b, nothing, subst (λ m. step m item b last) p.1 q, (refl, refl), ap (λ x. both x b) p.0 ∙ sym (both-nothing b))
-  run_more s mid last (i ∷ items) item a b p q =
-      (p.0, p.1, both p.2 b, p.3, run_more p.0 mid last items item p.2 b p.4 q, ap (λ x. both x b) p.5 ∙ both-assoc p.1 p.2 b)
+    -- ---- after an exit
 
-  -- two runs in a row
-  pub run_on : (s mid last : S) (first rest : List ItemData) (a b : Effect) → Run step s first a mid → Run step mid rest b last → Run step s (first ++ rest) (both a b) last
-  run_on s mid last [] rest a b p q = subst (λ x. Run step s rest x last) (ap (λ x. both x b) (sym p.0)) (subst (λ m. Run step m rest b last) p.1 q)
-  run_on s mid last (i ∷ first) rest a b p q =
-      (p.0, p.1, both p.2 b, p.3, run_on p.0 mid last first rest p.2 b p.4 q, ap (λ x. both x b) p.5 ∙ both-assoc p.1 p.2 b)
+    exit_steps : (s s2 : Picked (State H semantics.Call semantics.Task) P) (item : ItemData) (e : Effect) → is_exit (semantics.find s.session.service) item ≡ true → Step semantics order rounds s item e s2
+        → is_exited s2.session.desk.life ≡ true
+    exit_steps s s2 item e is h =
+        ap (λ (x : State H semantics.Call semantics.Task). is_exited x.desk.life) h.drains.leaves
+        ∙ ap is_exited (makes_life h.polled.desk h.drains.desk (took h.drains.messages ∷ []) h.drains.trace h.drains.takes)
+        ∙ (rounds_exited semantics laws order rounds h.admitted h.polled s.pick s2.pick h.second h.polls).1
+        ∙ ap is_exited (exits semantics s.session h.admitted item h.first is h.admits).life
 
--- ---- what a step leaves
+    end_stays : (s s2 : Picked (State H semantics.Call semantics.Task) P) (item : ItemData) (e : Effect) → is_exited s.session.desk.life ≡ true → Step semantics order rounds s item e s2 → is_exited s2.session.desk.life ≡ true
+    end_stays s s2 item e ended h = at (is_exit (semantics.find s.session.service) item) refl
+      where
+        at : (b : Bool) → is_exit (semantics.find s.session.service) item ≡ b → is_exited s2.session.desk.life ≡ true
+        at true is = exit_steps s s2 item e is h
+        at false is = step_lives semantics laws order rounds s s2 item e is h ∙ ended
 
-module _ {H C : Type 0} (rules : Rules H C) where
-  obeys_keeps : IsLawful rules → (s s2 : State H) (v : Verdict rules.Call) (e : Effect) → Obeys rules s v e s2 → (name : List ℕ) → rules.find s2.service name ≡ rules.find s.service name
-  obeys_keeps laws s s2 Silence e p name = ap (λ (x : State H). rules.find x.service name) p.1
-  obeys_keeps laws s s2 (Refuses i error) e p name = ap (λ (x : State H). rules.find x.service name) p.1
-  obeys_keeps laws s s2 (Cancels i) e p name = ap (λ (x : State H). rules.find x.service name) p.1
-  obeys_keeps laws s s2 Exits e p name = ap (λ (x : State H). rules.find x.service name) p.1
-  obeys_keeps laws s s2 (Starts id entry c) e p name = laws.keeps_table s.service c s2.service p.outcome p.begins name
+    run_stays : (s s2 : Picked (State H semantics.Call semantics.Task) P) (items : List ItemData) (e : Effect) → is_exited s.session.desk.life ≡ true → Run (Step semantics order rounds) s items e s2 → is_exited s2.session.desk.life ≡ true
+    run_stays s s2 [] e q h = ap (λ (x : Picked (State H semantics.Call semantics.Task) P). is_exited x.session.desk.life) h.1 ∙ q
+    run_stays s s2 (item ∷ items) e q h = run_stays h.0 s2 items h.2 (end_stays s h.0 item h.1 q h.3) h.4
 
-  -- a step leaves the method table
-  pub step_keeps : IsLawful rules → (s s2 : State H) (item : ItemData) (e : Effect) → Step rules s item e s2 → (name : List ℕ) → rules.find s2.service name ≡ rules.find s.service name
-  step_keeps laws s s2 item e p =
-      let a = admission_of rules s item in
-      obeys_keeps laws (record { service = s.service; life = a.life; exited = s.exited }) s2 a.verdict e p
+    same_exit : (f g : List ℕ → Option Entry) (item : ItemData) → ((name : List ℕ) → f name ≡ g name) → is_exit f item ≡ is_exit g item
+    same_exit f g (message (request r)) same = ap is_exit_entry (same r.method)
+    same_exit f g (message (response r)) same = refl
+    same_exit f g (fault code) same = refl
+    same_exit f g tick same = refl
 
-  -- and so does a run
-  pub run_keeps : IsLawful rules → (s s2 : State H) (items : List ItemData) (e : Effect) → Run (Step rules) s items e s2 → (name : List ℕ) → rules.find s2.service name ≡ rules.find s.service name
-  run_keeps laws s s2 [] e p name = ap (λ (x : State H). rules.find x.service name) p.1
-  run_keeps laws s s2 (item ∷ items) e p name = run_keeps laws p.0 s2 items p.2 p.4 name ∙ step_keeps laws s p.0 item p.1 p.3 name
+    same_exits : (f g : List ℕ → Option Entry) (items : List ItemData) → ((name : List ℕ) → f name ≡ g name) → has_exit f items ≡ has_exit g items
+    same_exits f g [] same = refl
+    same_exits f g (item ∷ items) same = ap (λ b. b || has_exit f items) (same_exit f g item same) ∙ ap (λ b. is_exit g item || b) (same_exits f g items same)
 
--- ---- what a step notes of an exit
+    run_exits : (s s2 : Picked (State H semantics.Call semantics.Task) P) (items : List ItemData) (e : Effect) → has_exit (semantics.find s.session.service) items ≡ true → Run (Step semantics order rounds) s items e s2 → is_exited s2.session.desk.life ≡ true
+    run_exits s s2 [] e is h = absurd (true≢false (sym is))
+    run_exits s s2 (item ∷ items) e is h = at (is_exit (semantics.find s.session.service) item) refl is (λ q. run_exits h.0 s2 items h.2 q h.4)
+      where
+        at : (b : Bool) → is_exit (semantics.find s.session.service) item ≡ b → (b || has_exit (semantics.find s.session.service) items) ≡ true
+            → (has_exit (semantics.find h.0.session.service) items ≡ true → is_exited s2.session.desk.life ≡ true) → is_exited s2.session.desk.life ≡ true
+        at true k q ih = run_stays h.0 s2 items h.2 (exit_steps s h.0 item h.1 k h.3) h.4
+        at false k q ih = ih (same_exits (semantics.find h.0.session.service) (semantics.find s.session.service) items (λ name. step_table semantics laws name order rounds s h.0 item h.1 h.3) ∙ q)
 
--- the life before is noted, or nothing is
-abbrev pub Notes : {H : Type 0} → Bool → State H → State H → Type 0
-Notes true s s2 = s2.exited ≡ Some s.life
-Notes false s s2 = s2.exited ≡ s.exited
-
-abbrev quits : {C : Type 0} → Verdict C → Bool
-quits Silence = false
-quits (Refuses i error) = false
-quits (Cancels i) = false
-quits Exits = true
-quits (Starts id entry c) = false
-
-module _ (C : Type 0) where
-  refuse_stays : (id : Option IdData) (error : ErrorData) → quits {C = C} (refuse id error) ≡ false
-  refuse_stays None error = refl
-  refuse_stays (Some i) error = refl
-
-  unregistered_stays : (b : Bool) (name : List ℕ) (id : Option IdData) → quits {C = C} (cond b Silence (refuse id (unknown_method name))) ≡ false
-  unregistered_stays true name id = refl
-  unregistered_stays false name id = refuse_stays id (unknown_method name)
-
-  cancel_live_stays : (id : Option IdData) → quits {C = C} (cancel_live [] id) ≡ false
-  cancel_live_stays None = refl
-  cancel_live_stays (Some i) = refl
-
-  cancel_stays : (id : Option IdData) (params : Option Data) → quits {C = C} (cancel [] id params) ≡ false
-  cancel_stays None params = cancel_live_stays (cancelled_id params)
-  cancel_stays (Some i) params = refl
-
-  started_stays : (id : Option IdData) (entry : Entry) (params : Option Data) (reading : Reading C) → quits (started id entry params reading) ≡ false
-  started_stays id entry params (call c) = refl
-  started_stays id entry params missing = refuse_stays id _
-  started_stays id entry params unexpected = refuse_stays id _
-  started_stays id entry params unfit = refuse_stays id _
-
-  if_of_kind_stays : (kind : Kind) (id : Option IdData) (v : Verdict C) → quits v ≡ false → quits (if_of_kind [] kind id v) ≡ false
-  if_of_kind_stays Notification (Some i) v p = refl
-  if_of_kind_stays Notification None v p = p
-  if_of_kind_stays Request None v p = refl
-  if_of_kind_stays Request (Some i) v p = p
-
-  passed_stays : (life : Life) (gate : Gate) (id : Option IdData) (v : Verdict C) → quits v ≡ false → quits (passed life gate id v).verdict ≡ false
-  passed_stays life NotInitialized id v p = refuse_stays id _
-  passed_stays life Invalid id v p = refuse_stays id _
-  passed_stays life (Open l) id v p = p
-
-  by_layer_quits : (life : Life) (r : RequestData) (entry : Entry) (reading : Reading C) (layer : Layer) → quits (by_layer life [] r entry reading layer).verdict ≡ is_exit_layer layer
-  by_layer_quits life r entry reading Exit = refl
-  by_layer_quits life r entry reading Cancel = cancel_stays r.id r.params
-  by_layer_quits life r entry reading Initialize = passed_stays life _ r.id _ (if_of_kind_stays entry.kind r.id _ (started_stays r.id entry r.params reading))
-  by_layer_quits life r entry reading Shutdown = passed_stays life _ r.id _ (if_of_kind_stays entry.kind r.id _ (started_stays r.id entry r.params reading))
-  by_layer_quits life r entry reading Normal = passed_stays life _ r.id _ (if_of_kind_stays entry.kind r.id _ (started_stays r.id entry r.params reading))
-
-  by_entry_quits : (life : Life) (reads : Entry → Option Data → Reading C) (r : RequestData) (entry : Option Entry) → quits (by_entry life [] reads r entry).verdict ≡ is_exit_entry entry
-  by_entry_quits life reads r None = unregistered_stays (is_optional r.method) r.method r.id
-  by_entry_quits life reads r (Some entry) = by_layer_quits life r entry (reads entry r.params) entry.layer
-
-  admission_quits : (life : Life) (find : List ℕ → Option Entry) (reads : Entry → Option Data → Reading C) (item : ItemData) → quits (admission life [] find reads item).verdict ≡ is_exit find item
-  admission_quits life find reads (message (request r)) = by_entry_quits life reads r (find r.method)
-  admission_quits life find reads (message (response r)) = refl
-  admission_quits life find reads (fault code) = refl
-  admission_quits life find reads tick = refl
-
-  -- an exit finds the life as it was
-  by_layer_life : (life : Life) (r : RequestData) (entry : Entry) (reading : Reading C) → (by_layer life [] r entry reading Exit).life ≡ life
-  by_layer_life life r entry reading = refl
-
-  abbrev LeavesLife : Life → Bool → Admission C → Type 0
-  LeavesLife life true a = a.life ≡ life
-  LeavesLife life false a = Unit {0}
-
-  by_layer_leaves : (life : Life) (r : RequestData) (entry : Entry) (reading : Reading C) (layer : Layer) → LeavesLife life (is_exit_layer layer) (by_layer life [] r entry reading layer)
-  by_layer_leaves life r entry reading Exit = refl
-  by_layer_leaves life r entry reading Cancel = tt
-  by_layer_leaves life r entry reading Initialize = tt
-  by_layer_leaves life r entry reading Shutdown = tt
-  by_layer_leaves life r entry reading Normal = tt
-
-  admission_leaves : (life : Life) (find : List ℕ → Option Entry) (reads : Entry → Option Data → Reading C) (item : ItemData) → LeavesLife life (is_exit find item) (admission life [] find reads item)
-  admission_leaves life find reads (message (request r)) = at_entry (find r.method)
+  ended_none : (s : State H semantics.Call semantics.Task) → FitsLife s → is_exited s.desk.life ≡ true → live s ≡ []
+  ended_none s p ended = at s.desk.life ended p.works_fit
     where
-      at_entry : (entry : Option Entry) → LeavesLife life (is_exit_entry entry) (by_entry life [] reads r entry)
-      at_entry None = tt
-      at_entry (Some entry) = by_layer_leaves life r entry (reads entry r.params) entry.layer
-  admission_leaves life find reads (message (response r)) = tt
-  admission_leaves life find reads (fault code) = tt
-  admission_leaves life find reads tick = tt
+      at : (life : Life) → is_exited life ≡ true → WorksFit life s.slots s.queue → live s ≡ []
+      at Uninitialized e w = absurd (true≢false (sym e))
+      at Initializing e w = absurd (true≢false (sym e))
+      at Initialized e w = absurd (true≢false (sym e))
+      at ShutDown e w = absurd (true≢false (sym e))
+      at Exited e w = no_length (live s) w
 
-module _ {H C : Type 0} (rules : Rules H C) where
-  obeys_notes : (s s2 : State H) (v : Verdict rules.Call) (e : Effect) → Obeys rules s v e s2 → Notes (quits v) s s2
-  obeys_notes s s2 Silence e p = ap (λ (x : State H). x.exited) p.1
-  obeys_notes s s2 (Refuses i error) e p = ap (λ (x : State H). x.exited) p.1
-  obeys_notes s s2 (Cancels i) e p = ap (λ (x : State H). x.exited) p.1
-  obeys_notes s s2 Exits e p = ap (λ (x : State H). x.exited) p.1
-  obeys_notes s s2 (Starts id entry c) e p = p.exited
+  pub facts : {P : Type 0} (order : Order P) → FactsHold semantics order
+  facts order rounds service items e last h = (
+    run_settled order rounds _ _ items e (settled_opening service h.max h.wait) h.runs,
+    run_fits order rounds _ _ items e (fits_opening service h.max h.wait h.some) h.runs,
+  )
 
-  notes_before : (b : Bool) (s s2 : State H) (a : Admission rules.Call) → LeavesLife rules.Call s.life b a → Notes b (record { service = s.service; life = a.life; exited = s.exited }) s2 → Notes b s s2
-  notes_before true s s2 a l p = p ∙ ap Some l
-  notes_before false s s2 a l p = p
+  pub answered : {P : Type 0} (order : Order P) → AnsweredOnce semantics order
+  answered order = record {
+    counts = λ rounds service items e last h. run_counts semantics order rounds laws (record { session = opening service h.max h.wait; pick = h.pick }) (record { session = last; pick = h.then }) items e (settled_opening service h.max h.wait) refl h.runs;
+    after_exit = λ rounds service items e last h is. ended_none last (run_fits order rounds _ _ items e (fits_opening service h.max h.wait h.some) h.runs) (run_exits order rounds _ _ items e is h.runs);
+  }
 
-  -- an exit is noted, and nothing else is
-  pub step_notes : (s s2 : State H) (item : ItemData) (e : Effect) → Step rules s item e s2 → Notes (is_exit (rules.find s.service) item) s s2
-  step_notes s s2 item e p =
-      let a = admission_of rules s item in
-      let mid : State H = record { service = s.service; life = a.life; exited = s.exited } in
-      notes_before (is_exit (rules.find s.service) item) s s2 a (admission_leaves rules.Call s.life (rules.find s.service) rules.reads item)
-      (subst (λ b. Notes b mid s2) (admission_quits rules.Call s.life (rules.find s.service) rules.reads item) (obeys_notes mid s2 a.verdict e p))
+  -- ---- after a cancel
 
--- ---- tables that answer alike
-
-pub same_exit : (f g : List ℕ → Option Entry) (item : ItemData) → ((name : List ℕ) → f name ≡ g name) → is_exit f item ≡ is_exit g item
-same_exit f g (message (request r)) same = ap is_exit_entry (same r.method)
-same_exit f g (message (response r)) same = refl
-same_exit f g (fault code) same = refl
-same_exit f g tick same = refl
-
-pub served_same : (f g : List ℕ → Option Entry) (items : List ItemData) → ((name : List ℕ) → f name ≡ g name) → served f items ≡ served g items
-served_same f g [] same = refl
-served_same f g (item ∷ items) same =
-    ap (λ b. if b then item ∷ [] else item ∷ served f items) (same_exit f g item same)
-    ∙ ap (λ l. if is_exit g item then item ∷ [] else item ∷ l) (served_same f g items same)
-
-pub has_exit_same : (f g : List ℕ → Option Entry) (items : List ItemData) → ((name : List ℕ) → f name ≡ g name) → has_exit f items ≡ has_exit g items
-has_exit_same f g [] same = refl
-has_exit_same f g (item ∷ items) same =
-    ap (λ b. b || has_exit f items) (same_exit f g item same) ∙ ap (λ b. is_exit g item || b) (has_exit_same f g items same)
-
--- ---- the first exit
-
-pub has_exit-append : (find : List ℕ → Option Entry) (xs ys : List ItemData) → has_exit find (xs ++ ys) ≡ (has_exit find xs || has_exit find ys)
-has_exit-append find [] ys = refl
-has_exit-append find (x ∷ xs) ys = ap (λ b. is_exit find x || b) (has_exit-append find xs ys) ∙ sym (or_assoc (is_exit find x) (has_exit find xs) (has_exit find ys))
-  where
-    or_assoc : (a b c : Bool) → ((a || b) || c) ≡ (a || (b || c))
-    or_assoc true b c = refl
-    or_assoc false b c = refl
-
--- what is served goes on behind items with no exit
-pub served-open : (find : List ℕ → Option Entry) (xs ys : List ItemData) → has_exit find xs ≡ false → served find (xs ++ ys) ≡ xs ++ served find ys
-served-open find [] ys none = refl
-served-open find (x ∷ xs) ys none = at (is_exit find x) none (λ h. served-open find xs ys h)
-  where
-    at : (b : Bool) → (b || has_exit find xs) ≡ false → (has_exit find xs ≡ false → served find (xs ++ ys) ≡ xs ++ served find ys)
-        → (if b then x ∷ [] else x ∷ served find (xs ++ ys)) ≡ x ∷ (xs ++ served find ys)
-    at true h more = cc
-    at false h more = ap (λ l. x ∷ l) (more h)
-
--- and it ends with the first exit
-pub served-closed : (find : List ℕ → Option Entry) (xs : List ItemData) (exit : ItemData) (ys : List ItemData) → has_exit find xs ≡ false → is_exit find exit ≡ true
-    → served find ((xs ++ exit ∷ []) ++ ys) ≡ xs ++ exit ∷ []
-served-closed find xs exit ys none is =
-    ap (served find) (append_assoc xs (exit ∷ []) ys) ∙ served-open find xs (exit ∷ ys) none
-    ∙ ap (λ b. xs ++ (if b then exit ∷ [] else exit ∷ served find ys)) is
-
--- ---- a session that goes on
-
-abbrev pub is_exited : Life → Bool
-is_exited Uninitialized = false
-is_exited Initialized = false
-is_exited ShutDown = false
-is_exited Exited = true
-
-pub not_exited : (life : Life) → (life ≡ Exited → ⊥) → is_exited life ≡ false
-not_exited Uninitialized h = refl
-not_exited Initialized h = refl
-not_exited ShutDown h = refl
-not_exited Exited h = absurd (h refl)
-
-pub alive : (life : Life) → is_exited life ≡ false → life ≡ Exited → ⊥
-alive life h e = true≢false (sym (ap is_exited e) ∙ h)
-
-module _ (C : Type 0) where
-  passed_lives : (life : Life) (layer : Layer) (id : Option IdData) (v : Verdict C) → is_exit_layer layer ≡ false → is_exited (passed life (gate_of life layer) id v).life ≡ is_exited life
-  passed_lives life Exit id v h = absurd (true≢false h)
-  passed_lives life Cancel id v h = refl
-  passed_lives Uninitialized Initialize id v h = refl
-  passed_lives Uninitialized Shutdown id v h = refl
-  passed_lives Uninitialized Normal id v h = refl
-  passed_lives Initialized Initialize id v h = refl
-  passed_lives Initialized Shutdown id v h = refl
-  passed_lives Initialized Normal id v h = refl
-  passed_lives ShutDown Initialize id v h = refl
-  passed_lives ShutDown Shutdown id v h = refl
-  passed_lives ShutDown Normal id v h = refl
-  passed_lives Exited Initialize id v h = refl
-  passed_lives Exited Shutdown id v h = refl
-  passed_lives Exited Normal id v h = refl
-
-  by_layer_lives : (life : Life) (r : RequestData) (entry : Entry) (reading : Reading C) (layer : Layer) → is_exited (by_layer life [] r entry reading layer).life ≡ is_exited life
-  by_layer_lives life r entry reading Exit = refl
-  by_layer_lives life r entry reading Cancel = refl
-  by_layer_lives life r entry reading Initialize = passed_lives life Initialize r.id _ refl
-  by_layer_lives life r entry reading Shutdown = passed_lives life Shutdown r.id _ refl
-  by_layer_lives life r entry reading Normal = passed_lives life Normal r.id _ refl
-
-  admission_lives : (life : Life) (find : List ℕ → Option Entry) (reads : Entry → Option Data → Reading C) (item : ItemData) → is_exited (admission life [] find reads item).life ≡ is_exited life
-  admission_lives life find reads (message (request r)) = at_entry (find r.method)
+  none_live : (i : IdData) (ids : List IdData) → times i ids ≡ 0 → is_live i ids ≡ false
+  none_live i [] h = refl
+  none_live i (j ∷ ids) h = at (same_id i j) h (none_live i ids)
     where
-      at_entry : (entry : Option Entry) → is_exited (by_entry life [] reads r entry).life ≡ is_exited life
-      at_entry None = refl
-      at_entry (Some entry) = by_layer_lives life r entry (reads entry r.params) entry.layer
-  admission_lives life find reads (message (response r)) = refl
-  admission_lives life find reads (fault code) = refl
-  admission_lives life find reads tick = refl
+      at : (b : Bool) → one_if b + times i ids ≡ 0 → (times i ids ≡ 0 → is_live i ids ≡ false) → (b || is_live i ids) ≡ false
+      at true k ih = absurd (omega (arith, k))
+      at false k ih = ih (omega (arith, k))
 
-life_after_lives : (life : Life) (layer : Layer) (outcome : Result Data ErrorData) → is_exited (life_after life layer outcome) ≡ is_exited life
-life_after_lives Uninitialized Initialize (Ok value) = refl
-life_after_lives Uninitialized Initialize (Err error) = refl
-life_after_lives Uninitialized Shutdown outcome = refl
-life_after_lives Uninitialized Exit outcome = refl
-life_after_lives Uninitialized Cancel outcome = refl
-life_after_lives Uninitialized Normal outcome = refl
-life_after_lives Initialized layer outcome = refl
-life_after_lives ShutDown layer outcome = refl
-life_after_lives Exited layer outcome = refl
+  live_none : (i : IdData) (ids : List IdData) → is_live i ids ≡ false → times i ids ≡ 0
+  live_none i [] h = refl
+  live_none i (j ∷ ids) h = at (same_id i j) h (live_none i ids)
+    where
+      at : (b : Bool) → (b || is_live i ids) ≡ false → (is_live i ids ≡ false → times i ids ≡ 0) → one_if b + times i ids ≡ 0
+      at true k ih = absurd (true≢false k)
+      at false k ih = omega (arith, ih k)
 
-module _ {H C : Type 0} (rules : Rules H C) where
-  obeys_lives : (s s2 : State H) (v : Verdict rules.Call) (e : Effect) → quits v ≡ false → Obeys rules s v e s2 → is_exited s2.life ≡ is_exited s.life
-  obeys_lives s s2 Silence e h p = ap (λ (x : State H). is_exited x.life) p.1
-  obeys_lives s s2 (Refuses i error) e h p = ap (λ (x : State H). is_exited x.life) p.1
-  obeys_lives s s2 (Cancels i) e h p = ap (λ (x : State H). is_exited x.life) p.1
-  obeys_lives s s2 Exits e h p = absurd (true≢false h)
-  obeys_lives s s2 (Starts id entry c) e h p = ap is_exited p.life ∙ life_after_lives s.life entry.layer p.outcome
+  taken_out : (i : IdData) (ids : List IdData) → is_live i (filter (λ j. not (same_id i j)) ids) ≡ false
+  taken_out i [] = refl
+  taken_out i (j ∷ ids) = at (same_id i j) refl (taken_out i ids)
+    where
+      at : (b : Bool) → same_id i j ≡ b → is_live i (filter (λ k. not (same_id i k)) ids) ≡ false → is_live i (cond (not b) (j ∷ filter (λ k. not (same_id i k)) ids) (filter (λ k. not (same_id i k)) ids)) ≡ false
+      at true e ih = ih
+      at false e ih = ap (λ b. b || is_live i (filter (λ k. not (same_id i k)) ids)) e ∙ ih
 
-  -- a step that is no exit leaves the session alive
-  pub step_lives : (s s2 : State H) (item : ItemData) (e : Effect) → is_exit (rules.find s.service) item ≡ false → Step rules s item e s2 → is_exited s2.life ≡ is_exited s.life
-  step_lives s s2 item e stays p =
-      let a = admission_of rules s item in
-      obeys_lives (record { service = s.service; life = a.life; exited = s.exited }) s2 a.verdict e (admission_quits rules.Call s.life (rules.find s.service) rules.reads item ∙ stays) p
-      ∙ admission_lives rules.Call s.life (rules.find s.service) rules.reads item
+  pub cancelled : {P : Type 0} (order : Order P) → CancelledOnce semantics order
+  cancelled order = record {
+    gone = λ s s2 item i e q is h.
+        let done = subst (λ (v : Verdict semantics.Call). Applies semantics h.mid v h.rest s2) is h.applies in
+        ap (λ (x : State H semantics.Call semantics.Task). is_live i (live x)) done.1 ∙ ap (is_live i) (cancelled_live h.mid i) ∙ taken_out i (live h.mid);
+    silent = λ rounds s s2 items i e q gone none real h.
+        let says = run_says semantics order rounds laws i s s2 items e q h in
+        let before : times i (live s.session) ≡ 0 = live_none i (live s.session) gone in
+        let no_faults : (if same_id i null_id then faults items else 0) ≡ 0 = ap (λ (b : Bool). if b then faults items else 0) real in
+        let all : answers_to i e.out + times i (live s2.session) ≡ 0 = omega (arith, says, before, none, no_faults) in
+        (omega (arith, all), none_live i (live s2.session) (omega (arith, all)));
+  }
+
+-- ---- a round
+
+module _ {C T : Type 0} where
+  -- it was polled in this round, or is still to be
+  abbrev untried : Work C T → Bool
+  untried w = not w.due && is_fresh w.phase
+
+  marked_tried : (ws : List (Work C T)) → list_any untried (map marked ws) ≡ false
+  marked_tried [] = refl
+  marked_tried (w ∷ ws) = marked_tried ws
+
+  moved_tried : (max : ℕ) (slots queue : List (Work C T)) → list_any untried slots ≡ false → list_any untried (moved_slots max slots queue) ≡ false
+  moved_tried max slots queue p = list_any-append untried slots (map marked (take (max - length slots) queue)) ∙ none_both (list_any untried slots) _ p (marked_tried (take (max - length slots) queue))
+
+  -- where none is left to be polled, each was
+  all_tried : (ws : List (Work C T)) → dues ws ≡ 0 → list_any untried ws ≡ false → list_any (λ w. is_fresh w.phase) ws ≡ false
+  all_tried [] n p = refl
+  all_tried (w ∷ ws) n p = at w.due n' p (all_tried ws)
+    where
+      n' : cond w.due 1 0 + dues ws ≡ 0
+      n' = sym (dues-cons w ws) ∙ n
+
+      at : (b : Bool) → cond b 1 0 + dues ws ≡ 0 → ((not b && is_fresh w.phase) || list_any untried ws) ≡ false → (dues ws ≡ 0 → list_any untried ws ≡ false → list_any (λ v. is_fresh v.phase) ws ≡ false)
+          → (is_fresh w.phase || list_any (λ v. is_fresh v.phase) ws) ≡ false
+      at true k q ih = absurd (omega (arith, k))
+      at false k q ih = let parts = or_none (is_fresh w.phase) (list_any untried ws) q in none_both (is_fresh w.phase) _ parts.0 (ih (omega (arith, k)) parts.1)
+
+module _ {H C T : Type 0} (semantics : Semantics H C T) where
+  poll_tried : (s s2 : State H semantics.Call semantics.Task) (place : ℕ) (e : Effect) → list_any untried s.slots ≡ false → Poll semantics s place e s2 → list_any untried s2.slots ≡ false
+  poll_tried s s2 place e q p = ap (λ (x : State H semantics.Call semantics.Task). list_any untried x.slots) p.leaves ∙ at p.progress
+    where
+      stood : list_any untried (p.before ++ p.work ∷ p.after) ≡ false
+      stood = ap (list_any untried) (sym p.stands) ∙ q
+
+      held_tried : (before after : List (Work semantics.Call semantics.Task)) (w v : Work semantics.Call semantics.Task) → untried v ≡ false → list_any untried (before ++ w ∷ after) ≡ false → list_any untried (before ++ v ∷ after) ≡ false
+      held_tried [] after w v k h = none_both (untried v) _ k (or_none (untried w) (list_any untried after) h).1
+      held_tried (x ∷ before) after w v k h = let parts = or_none (untried x) (list_any untried (before ++ w ∷ after)) h in none_both (untried x) _ parts.0 (held_tried before after w v k parts.1)
+
+      at : (progress : Progress semantics.Task) → list_any untried (after_poll s p.before p.work p.after p.service progress p.desk).slots ≡ false
+      at (Pending t) = held_tried p.before p.after p.work (record { id = p.work.id; entry = p.work.entry; phase = Held t; due = false }) refl stood
+      at (Done outcome) = moved_tried s.max (p.before ++ p.after) s.queue (none_out untried p.before p.work p.after stood)
+
+  module _ {P : Type 0} (order : Order P) where
+    polls_tried : (s s2 : State H semantics.Call semantics.Task) (p p2 : P) (places : List ℕ) (e : Effect) → list_any untried s.slots ≡ false → PollsAt semantics order s p places e s2 p2 → list_any untried s2.slots ≡ false
+    polls_tried s s2 p p2 [] e q h = ap (λ (x : State H semantics.Call semantics.Task). list_any untried x.slots) h.1 ∙ q
+    polls_tried s s2 p p2 (place ∷ places) e q h = polls_tried h.0 s2 _ p2 places h.2 (poll_tried s h.0 place h.1 q h.3) h.5
+
+    polls_left : (s s2 : State H semantics.Call semantics.Task) (p p2 : P) (places : List ℕ) (e : Effect) → PollsAt semantics order s p places e s2 p2 → length places + left s2 ≡ left s
+    polls_left s s2 p p2 [] e h = let same : left s2 ≡ left s = ap left h.1 in omega (arith, same)
+    polls_left s s2 p p2 (place ∷ places) e h =
+        let first : left h.0 + 1 ≡ left s = poll_falls semantics s h.0 place h.1 h.3 in
+        let rest = polls_left h.0 s2 _ p2 places h.2 h.5 in
+        omega (arith, first, rest)
+
+  pub polled : {P : Type 0} (order : Order P) → RoundsPollAll semantics order
+  polled order s s2 p p2 e q h =
+      let start : State H semantics.Call semantics.Task = record s { slots = map marked s.slots } in
+      let n : length h.places + left s2 ≡ left start = polls_left order start s2 p p2 h.places e h.polls in
+      let none : dues s2.slots ≡ 0 = h.none_left in
+      let all : dues (map marked s.slots) ≡ length s.slots = dues-marked s.slots in
+      record {
+        once = omega (arith, n, none, all);
+        polled = all_tried s2.slots none (polls_tried order start s2 p p2 h.places e (marked_tried s.slots) h.polls);
+        full = (polls_settled semantics order start s2 p p2 h.places e (marked_settled s q) h.polls).slots_full;
+      }
