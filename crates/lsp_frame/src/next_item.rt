@@ -83,9 +83,9 @@ pub(crate) fn find_next(
 {
     let mut at = state;
     let mut place = 0;
-    let mut looked = looked;
+    let mut reached = looked;
     'transitions: loop {
-        match transition_from(alloc, limits, at, bytes, place, &mut looked)? {
+        match transition_from(alloc, limits, at, bytes, place, &mut reached)? {
             Transition::Stop => {
                 let (state, n) = waiting(at, bytes.len() - place);
                 return Ok(Next {
@@ -93,7 +93,7 @@ pub(crate) fn find_next(
                     unfinished: false,
                     state,
                     consumed: place + n,
-                    looked: looked.saturating_sub(n),
+                    looked: reached.saturating_sub(n),
                 });
             }
             Transition::Unfinished => {
@@ -102,20 +102,20 @@ pub(crate) fn find_next(
                     unfinished: true,
                     state: at,
                     consumed: place,
-                    looked,
+                    looked: reached,
                 });
             }
             Transition::Go(item, to, n) => {
                 at = to;
                 place += n;
-                looked = looked.saturating_sub(n);
+                reached = reached.saturating_sub(n);
                 if let Some(found) = item {
                     return Ok(Next {
                         item: Some(found),
                         unfinished: false,
                         state: at,
                         consumed: place,
-                        looked,
+                        looked: reached,
                     });
                 }
             }

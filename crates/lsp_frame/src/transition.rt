@@ -86,7 +86,11 @@ fn at_head(limits: Limits, block: &[u8]) -> Transition
         Ok(None) => search_after(ParseError::MissingContentLength, 1),
         Ok(Some(len)) => {
             if limits.body < len {
-                Transition::Go(Some(Err(ParseError::BodyTooLong)), DecodeState::Skip(len), block.len())
+                Transition::Go(
+                    Some(Err(ParseError::BodyTooLong)),
+                    DecodeState::Skip(len),
+                    block.len(),
+                )
             } else {
                 Transition::Go(None, DecodeState::Body(len), block.len())
             }

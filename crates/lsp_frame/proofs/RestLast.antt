@@ -1,0 +1,134 @@
+-- A transition never tells that input ended, so that fault stands at most at the end of the items.
+use Rattle.std.proofs.Common.{◌≡◌, ℕ, zero, suc, List, [], ◌∷◌, length, take, drop, Bool, true, false, ◌==◌, nat_lt, cond, Option, Some, None, Result, Ok, Err, refl, sym, ap, ◌∙◌, codes}
+use Rattle.std.specs.Prelude.{⊤, bytes_eq}
+use Rattle.std.specs.Str.{is_utf8}
+use Rattle.serde_json.specs.Read.{read}
+use Rattle.serde_json.specs.Data.{Data}
+use Rattle.lsp_rpc.specs.Message.{MessageData, clean_message}
+use Rattle.lsp_frame.specs.Blocks.{Header, block_len, headers_in}
+use Rattle.lsp_frame.specs.Headers.{length_of, is_type_good, length_or_fault, length_after, on_length, content_length}
+use Rattle.lsp_frame.specs.Transitions.{Item, fault, Transition, stop, unfinished, go, transition, first_place, at_place, of_message, of_value, body_item, at_headers, at_head, at_block}
+use Rattle.lsp_frame.specs.Items.{items_after, items_within, transitions_left, unless_rest, without_last_rest}
+use Rattle.lsp_frame.specs.Laws.{ToldIsItems}
+use Rattle.lsp_frame.specs.declared.limits.Limits.{Limits}
+use Rattle.lsp_frame.specs.declared.parse_error.ParseError.{ParseError}
+use Rattle.lsp_frame.specs.declared.parse_error.ParseError.TheVariants.{InvalidContentType, Utf8, Rest, HeadTooLong, BodyTooLong}
+use Rattle.lsp_frame.specs.declared.state.DecodeState.{DecodeState}
+use Rattle.lsp_frame.specs.declared.state.DecodeState.TheVariants.{Frame, Search, Body, Skip}
+
+-- the item stays where the last `Rest` is taken away
+abbrev Stays : Item → Type 0
+Stays x = unless_rest x ≡ x ∷ []
+
+-- what a transition gives stays
+abbrev GivesNoRest : Transition → Type 0
+GivesNoRest stop = ⊤
+GivesNoRest unfinished = ⊤
+GivesNoRest (go None k n) = ⊤
+GivesNoRest (go (Some x) k n) = Stays x
+
+-- a fault of headers stays
+abbrev FaultStays : Result (Option ℕ) ParseError → Type 0
+FaultStays (Ok n) = ⊤
+FaultStays (Err e) = Stays (fault e)
+
+message_stays : (o : Option MessageData) → Stays (of_message o)
+message_stays None = refl
+message_stays (Some m) = refl
+
+value_stays : (o : Option Data) → Stays (of_value o)
+value_stays None = refl
+value_stays (Some d) = message_stays (clean_message d)
+
+body_stays : (bs : List ℕ) (b : Bool) → Stays (cond b (of_value (read bs)) (fault Utf8))
+body_stays bs true = value_stays (read bs)
+body_stays bs false = refl
+
+length_stays : (o : Option ℕ) → FaultStays (length_or_fault o)
+length_stays None = refl
+length_stays (Some n) = tt
+
+-- by whether the name is `Content-Length` or `Content-Type`, the value is UTF-8, and the type is good
+header_stays : (a b u g : Bool) (before : Option ℕ) (value : List ℕ)
+    → FaultStays (cond a (cond u (length_or_fault (length_of value)) (Err Utf8)) (cond b (cond u (cond g (Ok before) (Err InvalidContentType)) (Err Utf8)) (Ok before)))
+header_stays true b true g before value = length_stays (length_of value)
+header_stays true b false g before value = refl
+header_stays false true true true before value = tt
+header_stays false true true false before value = refl
+header_stays false true false g before value = refl
+header_stays false false u g before value = tt
+
+later_stays : (r : Result (Option ℕ) ParseError) (next : Option ℕ → Result (Option ℕ) ParseError) → FaultStays r → ((n : Option ℕ) → FaultStays (next n)) → FaultStays (on_length r next)
+later_stays (Ok n) next is later = later n
+later_stays (Err e) next is later = is
+
+headers_stay : (before : Option ℕ) (hs : List Header) → FaultStays (content_length before hs)
+headers_stay before [] = tt
+headers_stay before (h ∷ hs) = later_stays (length_after before h) (λ n. content_length n hs) (header_stays (bytes_eq h.0 (codes "Content-Length")) (bytes_eq h.0 (codes "Content-Type")) (is_utf8 h.1) (is_type_good h.1) before h.1) (λ n. headers_stay n hs)
+
+module _ (limits : Limits) where
+  limit_gives : (q n : ℕ) (b : Bool) → GivesNoRest (cond b (go (Some (fault BodyTooLong)) (Skip n) q) (go None (Body n) q))
+  limit_gives q n true = refl
+  limit_gives q n false = tt
+
+  headers_give : (q : ℕ) (r : Result (Option ℕ) ParseError) → FaultStays r → GivesNoRest (at_headers limits q r)
+  headers_give q (Err e) is = is
+  headers_give q (Ok None) is = refl
+  headers_give q (Ok (Some n)) is = limit_gives q n (nat_lt limits.body n)
+
+  head_gives : (q : ℕ) (hs : Option (List Header)) → GivesNoRest (at_head limits q hs)
+  head_gives q None = refl
+  head_gives q (Some hs) = headers_give q (content_length None hs) (headers_stay None hs)
+
+  no_block_gives : (b : Bool) → GivesNoRest (cond b unfinished (go (Some (fault HeadTooLong)) Search 1))
+  no_block_gives true = tt
+  no_block_gives false = refl
+
+  block_gives : (bs : List ℕ) (o : Option ℕ) → GivesNoRest (at_block limits bs o)
+  block_gives bs None = no_block_gives (nat_lt (length bs) limits.head)
+  block_gives bs (Some q) = head_gives q (headers_in 2 (take q bs))
+
+  frame_gives : (bs : List ℕ) (b : Bool) → GivesNoRest (cond b stop (at_block limits bs (block_len (take limits.head bs))))
+  frame_gives bs true = tt
+  frame_gives bs false = block_gives bs (block_len (take limits.head bs))
+
+  search_gives : (o : Option ℕ) → GivesNoRest (at_place o)
+  search_gives None = tt
+  search_gives (Some r) = tt
+
+  body_gives : (n : ℕ) (bs : List ℕ) (a b : Bool) → GivesNoRest (cond a unfinished (cond b (go None Frame 0) (go (Some (body_item (take n bs))) Frame n)))
+  body_gives n bs true b = tt
+  body_gives n bs false true = tt
+  body_gives n bs false false = body_stays (take n bs) (is_utf8 (take n bs))
+
+  skip_gives : (n : ℕ) (b : Bool) → GivesNoRest (cond b stop (go None Frame n))
+  skip_gives n true = tt
+  skip_gives n false = tt
+
+  transition_gives : (s : DecodeState) (bs : List ℕ) → GivesNoRest (transition limits s bs)
+  transition_gives Frame bs = frame_gives bs (length bs == 0)
+  transition_gives Search bs = search_gives (first_place (codes "Content-Length") bs)
+  transition_gives (Body n) bs = body_gives n bs (nat_lt (length bs) n) (n == 0)
+  transition_gives (Skip n) bs = skip_gives n (nat_lt (length bs) n)
+
+-- ---- the items
+
+one_more : (x : Item) (xs : List Item) → Stays x → without_last_rest (x ∷ xs) ≡ x ∷ without_last_rest xs
+one_more x [] is = is
+one_more x (y ∷ ys) is = refl
+
+after_transition : (limits : Limits) (n : ℕ) (bs : List ℕ) → ((k : DecodeState) (rest : List ℕ) → items_within limits [] n k rest ≡ without_last_rest (items_within limits (fault Rest ∷ []) n k rest))
+    → (l : Transition) → GivesNoRest l
+    → items_after (λ k d. items_within limits [] n k (drop d bs)) [] l ≡ without_last_rest (items_after (λ k d. items_within limits (fault Rest ∷ []) n k (drop d bs)) (fault Rest ∷ []) l)
+after_transition limits n bs later stop is = refl
+after_transition limits n bs later unfinished is = refl
+after_transition limits n bs later (go None k d) is = later k (drop d bs)
+after_transition limits n bs later (go (Some x) k d) is =
+    ap (λ xs. x ∷ xs) (later k (drop d bs)) ∙ sym (one_more x (items_within limits (fault Rest ∷ []) n k (drop d bs)) is)
+
+transitions_give : (limits : Limits) (n : ℕ) (k : DecodeState) (bs : List ℕ) → items_within limits [] n k bs ≡ without_last_rest (items_within limits (fault Rest ∷ []) n k bs)
+transitions_give limits zero k bs = refl
+transitions_give limits (suc n) k bs = after_transition limits n bs (transitions_give limits n) (transition limits k bs) (transition_gives limits k bs)
+
+pub told_is_items_lem : ToldIsItems
+told_is_items_lem a = transitions_give a.limits (transitions_left a.state a.held) a.state a.held
