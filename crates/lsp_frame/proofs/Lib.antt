@@ -16,3 +16,4 @@ pub mod FramesRead
 pub mod EncodedRead
 pub mod ClearPlaces
 pub mod HeldBytes
+pub mod BodyHere

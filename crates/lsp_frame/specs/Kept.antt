@@ -38,3 +38,10 @@ waiting Frame len = Frame
 waiting Search len = Search
 waiting (Body n) len = Body n
 waiting (Skip n) len = Skip (n - len)
+
+-- a body that isn't empty is here, whole
+abbrev pub IsBodyHere : DecodeState → List ℕ → Type 0
+IsBodyHere Frame bs = ⊥
+IsBodyHere Search bs = ⊥
+IsBodyHere (Body n) bs = (0 < n) × (n ≤ length bs)
+IsBodyHere (Skip n) bs = ⊥

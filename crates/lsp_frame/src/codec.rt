@@ -1,5 +1,5 @@
 // The codec.
-ghost use Rattle.std.specs.Prelude.{◌≡◌, ◌↔◌, ◌≤◌, ◌++◌, [], ◌∷◌, ℕ, List, length, IfOk, IfSome, OnOk, OnErr, None, option_map, false};
+ghost use Rattle.std.specs.Prelude.{◌≡◌, ◌≢◌, ◌↔◌, ◌≤◌, ◌++◌, [], ◌∷◌, ℕ, List, length, IfOk, IfSome, IsOk, OnOk, OnErr, None, option_map, false};
 ghost use Rattle.lsp_rpc.specs.Back.{IsReadable};
 ghost use Rattle.lsp_rpc.specs.Message.{message_has_float};
 ghost use Rattle.lsp_rpc.specs.Shown.{show_message};
@@ -125,6 +125,8 @@ impl LanguageServerCodec {
         ensures floats { IfOk result (λ d. IsFloatFree d) }
         ensures limits { OnOk result (self.new.limits ≡ self.old.limits) }
         ensures err { OnErr result (self.new ≡ self.old) }
+        // Memory is taken for an item alone.
+        ensures memory { OnErr result (told_at self.old ≢ []) }
     {
         let next = find_next(
             self.alloc,
@@ -145,6 +147,8 @@ impl LanguageServerCodec {
         ensures items { IfOk result (λ r. items_at self.old ≡ with_item (option_map fault r) []) }
         ensures rest { IfOk result (λ r. IfSome r (λ e. e ≡ ParseError.Rest)) }
         ensures same { self.new ≡ self.old }
+        // No memory is taken.
+        ensures memory { IsOk result }
     {
         let next = find_next(
             self.alloc,

@@ -1,8 +1,8 @@
 // The transitions up to the next item.
-ghost use Rattle.std.specs.Prelude.{◌≡◌, ◌≤◌, ◌+◌, ◌++◌, ◌-◌, ◌⊎◌, [], ℕ, List, length, drop, option_map, IfOk, None, if◌then◌else◌};
+ghost use Rattle.std.specs.Prelude.{◌≡◌, ◌≢◌, ◌≤◌, ◌+◌, ◌++◌, ◌-◌, ◌⊎◌, [], ℕ, List, length, drop, option_map, IfOk, OnErr, None, if◌then◌else◌};
 ghost use Rattle.lsp_frame.specs.Transitions.{Item, transition as transition_of};
 ghost use Rattle.lsp_frame.specs.Items.{all_from, with_item, Stands, IsTrimmed};
-ghost use Rattle.lsp_frame.specs.Kept.{IsLooked, IsAllowed, unneeded, waiting as waiting_state};
+ghost use Rattle.lsp_frame.specs.Kept.{IsLooked, IsAllowed, IsBodyHere, unneeded, waiting as waiting_state};
 ghost use Rattle.lsp_frame.specs.Shown.{show_found, show_transition, IsWithinBytes, IsItemFloatFree, IsFoundFloatFree};
 
 use crate::limits::Limits;
@@ -41,6 +41,7 @@ fn transition_from(
     ensures within { IfOk result (λ t. IsWithinBytes (length bytes.now - place) t) }
     ensures floats { IfOk result (λ t. IsItemFloatFree t) }
     ensures looked { IsLooked (drop place bytes.now) looked.new }
+    ensures memory { OnErr result (IsBodyHere state (drop place bytes.now)) }
 {
     transition_at(alloc, limits, state, &bytes[place..], looked)
 }
@@ -80,6 +81,7 @@ pub(crate) fn find_next(
     ensures allowed { IfOk result (λ r. IsAllowed limits r.state) }
     ensures clear { IfOk result (λ r. IsLooked (drop r.consumed bytes.now) r.looked) }
     ensures floats { IfOk result (λ r. IsFoundFloatFree r.item) }
+    ensures memory { OnErr result (all_from limits [] state bytes.now ≢ []) }
 {
     let mut at = state;
     let mut place = 0;

@@ -1,7 +1,7 @@
 // One transition of decoding.
-ghost use Rattle.std.specs.Prelude.{◌≡◌, ◌<◌, ◌≤◌, length, take, codes, IfOk, Some};
+ghost use Rattle.std.specs.Prelude.{◌≡◌, ◌<◌, ◌≤◌, length, take, codes, IfOk, OnErr, Some};
 ghost use Rattle.lsp_frame.specs.Blocks.{headers_in};
-ghost use Rattle.lsp_frame.specs.Kept.{IsLooked};
+ghost use Rattle.lsp_frame.specs.Kept.{IsLooked, IsBodyHere};
 ghost use Rattle.lsp_frame.specs.Transitions.{transition as transition_of, at_head as head_transition, at_body as body_transition, at_skip as skip_transition, at_place as search_transition, first_place, go, fault as fault_item};
 ghost use Rattle.lsp_frame.specs.Shown.{show_transition, IsWithinBytes, IsItemFloatFree};
 
@@ -39,6 +39,7 @@ fn at_search(bytes: &[u8]) -> Transition
 
 fn at_body(alloc: Global, len: u64, bytes: &[u8]) -> Result<Transition, NoMemory>
     ensures value { IfOk result (λ t. show_transition t ≡ body_transition len bytes.now) }
+    ensures memory { OnErr result ((0 < len) × (len ≤ length bytes.now)) }
     ensures within { IfOk result (λ t. IsWithinBytes (length bytes.now) t) }
     ensures floats { IfOk result (λ t. IsItemFloatFree t) }
 {
@@ -150,6 +151,7 @@ pub(crate) fn transition_at(
     ensures within { IfOk result (λ t. IsWithinBytes (length bytes.now) t) }
     ensures floats { IfOk result (λ t. IsItemFloatFree t) }
     ensures looked { IsLooked bytes.now looked.new }
+    ensures memory { OnErr result (IsBodyHere state bytes.now) }
 {
     match state {
         DecodeState::Frame => Ok(at_frame(limits, bytes, looked)),

@@ -1,4 +1,5 @@
-use Rattle.std.proofs.Common.{◌≡◌, ◌∙◌, ◌+◌, ◌-◌, ◌≤◌, ℕ, List, subst, sym, ap, drop, length, option_map, arith, length-drop}
+use Rattle.std.proofs.Common.{◌≡◌, ◌∙◌, ◌+◌, ◌-◌, ◌≤◌, ℕ, List, subst, sym, ap, drop, length, option_map, arith, length-drop, Result, Ok, Err}
+use Rattle.std.specs.Prelude.{OnErr}
 use Rattle.std.proofs.lemmas.Grind.{common_steps}
 use Rattle.lsp_frame.specs.Items.{all_from, Stands, IsTrimmed}
 use Rattle.lsp_frame.specs.Transitions.{transition}
@@ -9,11 +10,21 @@ use Rattle.lsp_frame.specs.declared.state.DecodeState.{DecodeState}
 use Rattle.lsp_frame.proofs.ItemsByTransition.{last_at_unfinished, after_go, after_smaller}
 use Rattle.lsp_frame.proofs.WaitingItems.{items_stopped, none_stopped, waits_stopped, waits_unfinished}
 use Rattle.lsp_frame.proofs.HeldBytes.{goes_to_allowed}
+use Rattle.lsp_frame.proofs.BodyHere.{told_before}
 use Rattle.lsp_frame.proofs.ClearPlaces.{looked_further}
 use Rattle.lsp_frame.proofs.next_item.find_next.Goals as goal
 
 fits : (len place n : ℕ) → place ≤ len → n ≤ len - place → place + n ≤ len
 fits len place n a b = omega arith
+
+on_err : {T E P : Type 0} (r : Result T E) → P → OnErr r P
+on_err (Ok x) holds = tt
+on_err (Err e) holds = holds
+
+pub returns-in_err-transition_from-clause-memory : goal.returns-in_err-transition_from-clause-memory
+returns-in_err-transition_from-clause-memory c =
+    on_err c.from_residual.result
+    (told_before c.args.limits c.args.state c.transitions.at c.args.bytes.now (drop c.transitions.place c.args.bytes.now) c.transitions.invariant.same c.in_err-transition_from.ensures.memory)
 
 pub returns-in-Stop-clause-goes : goal.returns-in-Stop-clause-goes
 returns-in-Stop-clause-goes c = λ last more.
