@@ -1,6 +1,6 @@
 // The program: what its words ask for, and how it ends.
 ghost use Rattle.std.specs.Prelude.{◌≡◌, ◌↔◌, ◌≤◌, ◌<◌, ◌⊎◌, ◌+◌, ◌-◌, ◌^◌, true, false, length, map, string_bytes, IfSome};
-ghost use Rattle.lsp_server.specs.Outside.{Rose, IsFlushed};
+ghost use Rattle.lsp_server.specs.SourceSink.{CountRose, IsFlushed};
 ghost use Rattle.lsp_sample.specs.Words.{is_serve as is_serve_lem};
 ghost use Rattle.lsp_sample.specs.Run.{status_at as status_lem, Served, IsShutDown, IsNotShutDown, WroteTold, WrotePart};
 
@@ -51,13 +51,13 @@ pub fn run<I: Source, O: Sink>(
     ensures flushed { result ≤ 1 → IsFlushed (O.taken sink.old) (O.flushed sink.old) → IsFlushed (O.taken sink.new) (O.flushed sink.new) }
 
     // Each failure has its cause.
-    ensures read { result ≡ 3 → Rose (I.faults source.old) (I.faults source.new) }
-    ensures write { result ≡ 4 → Rose (O.faults sink.old) (O.faults sink.new) }
+    ensures read { result ≡ 3 → CountRose (I.faults source.old) (I.faults source.new) }
+    ensures write { result ≡ 4 → CountRose (O.faults sink.old) (O.faults sink.new) }
     ensures spent { result ≡ 5 → IfSome (I.left source.old) (λ bytes. IfSome (I.left source.new) (λ rest. 2 ^ 64 - 1 + length rest ≤ length bytes)) }
 
     // So with no failure, and with fewer bytes than reads, only memory may be wanting.
     ensures complete { is_serve_lem (map string_bytes words.now.items) ≡ true → IfSome (I.left source.old) (λ bytes. length bytes < 2 ^ 64 - 1
-        → ¬ Rose (I.faults source.old) (I.faults source.new) → ¬ Rose (O.faults sink.old) (O.faults sink.new)
+        → ¬ CountRose (I.faults source.old) (I.faults source.new) → ¬ CountRose (O.faults sink.old) (O.faults sink.new)
         → (result ≡ 0) ⊎ (result ≡ 1) ⊎ (result ≡ 6)) }
 
     // What was written by then.

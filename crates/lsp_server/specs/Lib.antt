@@ -1,9 +1,11 @@
-pub mod Outside
+pub mod SourceSink
 pub mod Memory
 pub mod MemorySource
 pub mod MemorySink
-pub mod Streams
-pub mod Stream
+pub mod ReadWrite
+pub mod Items
+pub mod Course
 pub mod Written
 pub mod Served
-pub mod Answers
+pub mod Errors
+pub mod ServerView

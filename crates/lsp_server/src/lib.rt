@@ -2,14 +2,17 @@
 #![tactic(auto)]
 
 mod memory;
-mod outside;
-mod serve;
+mod read_write;
+mod server;
+mod serving;
+mod sink;
+mod source;
 mod step;
-mod streams;
 mod write;
 
 pub use memory::{MemorySink, MemorySource, NeverSink, NeverSource};
-pub use outside::{Failed, Refused, Sink, Source};
-pub use serve::{Served, Server};
+pub use read_write::{ReadSource, WriteSink};
+pub use server::{Served, Server, Stopped};
+pub use sink::{Refused, Sink};
+pub use source::{Failed, Source};
 pub use step::ServeError;
-pub use streams::{ReadSource, WriteSink};

@@ -3,8 +3,8 @@ ghost use Rattle.std.specs.Prelude.{◌≡◌, ◌≤◌, ◌++◌, false, ℕ, 
 ghost use Rattle.std.specs.Io.KnownBytes.{Appends};
 ghost use Rattle.lsp_rpc.specs.Shown.{show_message};
 ghost use Rattle.lsp_frame.specs.Codec.{frames};
-ghost use Rattle.lsp_session.specs.Session.{have_float};
-ghost use Rattle.lsp_server.specs.Outside.{Rose, IsFlushed};
+ghost use Rattle.lsp_session.specs.Float.{have_float};
+ghost use Rattle.lsp_server.specs.SourceSink.{CountRose};
 ghost use Rattle.lsp_server.specs.Written.{IsPrefixOf};
 
 use crate::{Refused, Sink};
@@ -13,7 +13,7 @@ use lsp_frame::LanguageServerCodec;
 use lsp_rpc::{Message, NoMemory};
 use std::alloc::Global;
 
-/// Writes and flushes the frames of the messages; where there is none, nothing is written.
+/// Writes the frames of the messages; where there is none, nothing is written.
 pub(crate) fn put<O: Sink>(
     alloc: Global,
     sink: &mut O,
@@ -23,9 +23,11 @@ pub(crate) fn put<O: Sink>(
     ensures ok { OnOk result (Appends (O.taken sink.old) (O.taken sink.new) (frames (map show_message messages.now.items))) }
     ensures part { OnErr result ((written : List ℕ) × IsPrefixOf written (frames (map show_message messages.now.items))
         × Appends (O.taken sink.old) (O.taken sink.new) written) }
-    ensures flushed { OnOk result (IsFlushed (O.taken sink.old) (O.flushed sink.old) → IsFlushed (O.taken sink.new) (O.flushed sink.new)) }
+    ensures flushed { O.flushed sink.new ≡ O.flushed sink.old }
     ensures count { O.faults sink.old ≤ O.faults sink.new }
-    ensures cause { IsErrOf result Refused.Failed → Rose (O.faults sink.old) (O.faults sink.new) }
+    ensures cause { IsErrOf result Refused.Failed → CountRose (O.faults sink.old) (O.faults sink.new) }
+    ensures unfailed { OnOk result (O.faults sink.new ≡ O.faults sink.old) }
+    ensures no_memory { IsErrOf result Refused.NoMemory → O.faults sink.new ≡ O.faults sink.old }
 {
     if messages.is_empty() {
         return Ok(());
@@ -34,8 +36,7 @@ pub(crate) fn put<O: Sink>(
         Ok(bytes) => bytes,
         Err(NoMemory) => return Err(Refused::NoMemory),
     };
-    write_all(sink, bytes.as_slice())?;
-    sink.flush()
+    write_all(sink, bytes.as_slice())
 }
 
 fn encode_all(alloc: Global, messages: &Vec<Message>) -> Result<BytesMut, NoMemory>
@@ -55,7 +56,9 @@ fn write_all<O: Sink>(sink: &mut O, bytes: &[u8]) -> Result<(), Refused>
     ensures part { OnErr result ((written : List ℕ) × IsPrefixOf written bytes.now × Appends (O.taken sink.old) (O.taken sink.new) written) }
     ensures flushed { O.flushed sink.new ≡ O.flushed sink.old }
     ensures count { O.faults sink.old ≤ O.faults sink.new }
-    ensures cause { IsErrOf result Refused.Failed → Rose (O.faults sink.old) (O.faults sink.new) }
+    ensures cause { IsErrOf result Refused.Failed → CountRose (O.faults sink.old) (O.faults sink.new) }
+    ensures unfailed { OnOk result (O.faults sink.new ≡ O.faults sink.old) }
+    ensures no_memory { IsErrOf result Refused.NoMemory → O.faults sink.new ≡ O.faults sink.old }
 {
     let mut at = 0;
     while at < bytes.len() {
