@@ -14,9 +14,9 @@ use Rattle.lsp_server.specs.Items.{admitted, all_admitted, Decodes, GivesNext}
 use Rattle.lsp_server.specs.Written.{Ran, RanPart}
 use Rattle.lsp_server.specs.Served.{ServedTold}
 use Rattle.lsp_server.proofs.PointLemmas.{Point, find_at, GoesOn}
-use Rattle.lsp_server.proofs.ItemsLemmas.{same_exit, has_exit-append, served-open, run_table}
+use Rattle.lsp_server.proofs.ItemsLemmas.{same_exit, has_exit-append, served-open, served-closed, run_table}
 use Rattle.lsp_server.proofs.CodecLemmas.{decodes_nothing, decodes_more, next_found, next_none}
-use Rattle.lsp_server.proofs.RanLemmas.{ran_none, ran_kept, ran_more, part_after, part_all, part_more, ran_notes, ran_lives}
+use Rattle.lsp_server.proofs.RanLemmas.{ran_none, ran_kept, ran_more, part_after, part_all, part_whole, part_more, ran_notes, ran_lives}
 
 is_none : (o : Option Life) → is_some o ≡ false → o ≡ None
 is_none None h = refl
@@ -130,3 +130,13 @@ module _ {H D C T P : Type 0} {semantics : Semantics H C T} {m : Meaning D} {ord
   pub told_kept : (exits : Bool) (find : List ℕ → Option Entry) (a : Point semantics D P) (codec0 : At) (b : Point semantics D P) (taken : Option (List ℕ)) (codec1 : At) → Keeps b.taken taken → ServedTold (Step semantics order rounds) m find a codec0 exits b codec1
       → ServedTold (Step semantics order rounds) m find a codec0 exits (record { state = b.state; desk = b.desk; taken = taken }) codec1
   told_kept exits find a codec0 b taken codec1 kept t = record { given = t.given; decodes = t.decodes; ran = ran_kept a b taken (all_admitted t.given) t.ran kept; ends = t.ends }
+
+  -- what was served through an exit is all that is served
+  pub told_part : (find : List ℕ → Option Entry) (b : Point semantics D P) (codec1 : At) (d : Point semantics D P) (codec2 : At) → ServedTold (Step semantics order rounds) m find b codec1 true d codec2 → (c : List ℕ)
+      → RanPart (Step semantics order rounds) b.state b.taken (served find (all_admitted (items_at (more codec1 c)))) d.taken
+  told_part find b codec1 d codec2 told c =
+      let rest = all_admitted (items_at (more codec2 c)) in
+      let whole : served find (all_admitted (items_at (more codec1 c))) ≡ all_admitted told.given =
+      ap (λ l. served find (all_admitted l)) (told.decodes.items c) ∙ ap (served find) (map-append admitted told.given (items_at (more codec2 c)) ∙ ap (λ l. l ++ rest) told.ends.split)
+      ∙ served-closed find told.ends.front told.ends.exit rest told.ends.none told.ends.is ∙ sym told.ends.split in
+      subst (λ l. RanPart (Step semantics order rounds) b.state b.taken l d.taken) (sym whole) (part_whole b d (all_admitted told.given) told.ran)

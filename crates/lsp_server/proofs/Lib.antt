@@ -8,3 +8,4 @@ pub mod RanLemmas
 pub mod GoingLemmas
 pub mod ServingLemmas
 pub mod ErrorLemmas
+pub mod HandedLemmas

@@ -23,6 +23,9 @@ use Rattle.lsp_server.proofs.FramesLemmas.{frames-append}
 use Rattle.lsp_server.proofs.PointLemmas.{Point}
 use Rattle.lsp_server.proofs.ItemsLemmas.{not_exited, alive}
 
+pub grown_none : {D : Type 0} (m : Meaning D) (d : D) → Grown m d d
+grown_none m d = record { trace = []; grows = grows_none m d }
+
 -- ---- runs of any step
 
 module _ {S : Type 0} {step : S → ItemData → Effect → S → Type 0} where

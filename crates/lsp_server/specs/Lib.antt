@@ -9,3 +9,4 @@ pub mod Written
 pub mod Served
 pub mod Errors
 pub mod ServerView
+pub mod ServedView

@@ -10,6 +10,7 @@ use Rattle.lsp_session.specs.Item.{ItemData}
 use Rattle.lsp_session.specs.State.{State, Effect, live}
 use Rattle.lsp_session.specs.Run.{Picked, Run, served, has_exit, is_exit}
 use Rattle.lsp_session.specs.Count.{Counts}
+use Rattle.lsp_session.specs.Session.{SessionView}
 use Rattle.lsp_server.specs.Items.{all_admitted, stream_items, stream_told, Decodes}
 use Rattle.lsp_server.specs.Course.{Course}
 use Rattle.lsp_server.specs.Written.{Place, Ran, IsPartOf}
@@ -62,6 +63,10 @@ pub record ServedView (H D : Type 0) : Type 0 where
   pub desk : D
   pub exited : Option Life
   pub unanswered : List IdData
+
+-- what is handed back of a session
+abbrev pub handed_back : {H D C T : Type 0} → SessionView H D C T → ServedView H D
+handed_back view = record { service = view.state.service; desk = view.desk; exited = view.state.exited; unanswered = live view.state }
 
 -- what is written, and what is handed back, are those of a run over all these bytes
 pub record IsServed {H D C T P : Type 0} (course : Course (Picked (State H C T) P) D) (call : CallBytes) (served_view : ServedView H D) (pick : P) : Type 0 where

@@ -1,8 +1,6 @@
 -- What contracts see of the code's server and of the session that it runs.
-use Rattle.std.specs.Prelude.{◌≡◌, ◌≢◌, ℕ, List, [], Option, false, map}
-use Rattle.lsp_rpc.specs.Shown.{show_id}
+use Rattle.std.specs.Prelude.{◌≡◌, ℕ, List, [], Option, false}
 use Rattle.lsp_desk.specs.declared.desk.Caller.{Ghosts as CallerGhosts}
-use Rattle.lsp_desk.specs.declared.life.Life.TheVariants.{Exited}
 use Rattle.lsp_desk.specs.Meaning.{Meaning}
 use Rattle.lsp_session.specs.declared.handlers.Handlers.{Ghosts as HandlersGhosts}
 use Rattle.lsp_session.specs.declared.session.Session.{Session}
@@ -11,26 +9,21 @@ use Rattle.lsp_session.specs.State.{State}
 use Rattle.lsp_session.specs.Run.{Picked}
 use Rattle.lsp_session.specs.SessionView.{session_view, has_stopped}
 use Rattle.lsp_server.specs.declared.server.Server.{Server}
-use Rattle.lsp_server.specs.declared.server.Served.{Served}
 use Rattle.lsp_server.specs.Course.{Setting}
 use Rattle.lsp_server.specs.Written.{Place, place}
-use Rattle.lsp_server.specs.Served.{ServedView}
 
 -- ---- the server
 
-abbrev pub server_desk : {D : Type 0} → Server D → D
+abbrev pub server_desk : {D : Type 0} {d : CallerGhosts D} → Server D d → D
 server_desk s = s.socket.desk
 
 -- how many calls are polled in a round at most
-abbrev pub concurrency : {D : Type 0} → Server D → ℕ
+abbrev pub concurrency : {D : Type 0} {d : CallerGhosts D} → Server D d → ℕ
 concurrency s = s.max
 
 -- what the server runs a session with
-abbrev pub setting : {H D P : Type 0} → Server D → H → P → ℕ → Setting H D P
+abbrev pub setting : {H D P : Type 0} {d : CallerGhosts D} → Server D d → H → P → ℕ → Setting H D P
 setting server service pick rounds = record { service = service; desk = server_desk server; max = concurrency server; rounds = rounds; pick = pick }
-
-abbrev pub show_served : {H D : Type 0} → Served H D → ServedView H D
-show_served s = record { service = s.service; desk = s.desk; exited = s.exited; unanswered = map show_id s.unanswered.items }
 
 -- ---- the session
 

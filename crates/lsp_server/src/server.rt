@@ -1,15 +1,14 @@
 // The server.
-ghost use Rattle.std.specs.Prelude.{◌≡◌, ◌≢◌, ◌≤◌, ◌<◌, ◌+◌, [], ◌∷◌, ℕ, true, false, length, map, OnOk, OnErr, IfOk, IfErr, IfSome, IsErrAnd, IsErrOf};
-ghost use Rattle.lsp_rpc.specs.Shown.{show_id};
+ghost use Rattle.std.specs.Prelude.{◌≡◌, ◌≢◌, ◌≤◌, ◌<◌, ◌+◌, [], ◌∷◌, ℕ, true, false, length, OnOk, OnErr, IfOk, IfErr, IfSome, IsErrAnd, IsErrOf};
 ghost use Rattle.lsp_desk.specs.Meaning.{IsOpening, Grown};
 ghost use Rattle.lsp_session.specs.Item.{show_item, item_has_float, tick};
 ghost use Rattle.lsp_session.specs.Run.{Step};
 ghost use Rattle.lsp_session.specs.SessionView.{session_view, has_stopped};
-ghost use Rattle.lsp_session.specs.State.{live};
 ghost use Rattle.lsp_server.specs.SourceSink.{CountRose, IsFlushed};
 ghost use Rattle.lsp_server.specs.Course.{course, picked};
 ghost use Rattle.lsp_server.specs.Written.{Ran, RanPart};
-ghost use Rattle.lsp_server.specs.Served.{call_bytes, IsServed, ReadEnough, WroteTold, WrotePart};
+ghost use Rattle.lsp_server.specs.Served.{call_bytes, handed_back, IsServed, ReadEnough, WroteTold, WrotePart};
+ghost use Rattle.lsp_server.specs.ServedView.{show_served};
 ghost use Rattle.lsp_server.specs.Errors.{IsBetweenReads, IsInStep, ComesUnfailed, SaysSpent};
 
 use crate::serving::serve_reads;
@@ -51,7 +50,7 @@ pub struct Server<D: Desk + Drop> {
 }
 
 impl<D: Desk + Drop> Server<D> {
-    ghost use Rattle.lsp_server.specs.ServerView.{server_desk, concurrency, setting, show_served, standing, IsReady};
+    ghost use Rattle.lsp_server.specs.ServerView.{server_desk, concurrency, setting, standing, IsReady};
 
     /// A server over the desk of a socket. At most 4 calls are polled in a round.
     pub fn new(socket: ClientSocket<D>) -> Server<D>
@@ -221,12 +220,8 @@ fn hand_back<D: Desk + Drop, H: Handlers<D>>(
     session: Session<H, D>,
 ) -> Result<Served<H, D>, Stopped<D>>
     requires running { has_stopped session ≡ false }
-    ensures service { IfOk result (λ served. served.service ≡ (session_view H.semantics D.meaning session).state.service) }
-    ensures desk { IfOk result (λ served. served.desk ≡ (session_view H.semantics D.meaning session).desk) }
-    ensures exited { IfOk result (λ served. served.exited ≡ (session_view H.semantics D.meaning session).state.exited) }
-    ensures unanswered { IfOk result (λ served. map show_id served.unanswered.items ≡ live (session_view H.semantics D.meaning session).state) }
-    ensures stopped { IfErr result (λ stopped. stopped.error ≡ ServeError.NoMemory) }
-    ensures stopped_desk { IfErr result (λ stopped. stopped.desk ≡ (session_view H.semantics D.meaning session).desk) }
+    ensures handed { IfOk result (λ served. show_served served ≡ handed_back (session_view H.semantics D.meaning session)) }
+    ensures stopped { IfErr result (λ stopped. (stopped.error ≡ ServeError.NoMemory) × (stopped.desk ≡ (session_view H.semantics D.meaning session).desk)) }
 {
     let exited = session.exited();
     match session.unanswered() {

@@ -58,9 +58,9 @@ pub(crate) fn serve_reads<I: Source, O: Sink, D: Desk + Drop, H: Handlers<D>, P:
     ensures exact { IfErr result (λ e. IsBetweenReads e → IfSome (I.left source.old) (λ bytes. WroteTold
         (course_from H.semantics D.meaning (record { gives = P.gives; later = P.later }) rounds (session_view H.semantics D.meaning session.old) (P.state pick.old))
         (call_bytes bytes (I.left source.new) (O.taken sink.old) (O.taken sink.new)) (session_view H.semantics D.meaning session.new).desk)) }
-    ensures part { OnErr result (IfSome (I.left source.old) (λ bytes. WrotePart
+    ensures part { IfSome (I.left source.old) (λ bytes. WrotePart
         (course_from H.semantics D.meaning (record { gives = P.gives; later = P.later }) rounds (session_view H.semantics D.meaning session.old) (P.state pick.old))
-        (call_bytes bytes (I.left source.new) (O.taken sink.old) (O.taken sink.new)) 4096)) }
+        (call_bytes bytes (I.left source.new) (O.taken sink.old) (O.taken sink.new)) 4096) }
     ensures grown { Grown D.meaning (session_view H.semantics D.meaning session.old).desk (session_view H.semantics D.meaning session.new).desk }
 {
     let mut codec = LanguageServerCodec::default(alloc);

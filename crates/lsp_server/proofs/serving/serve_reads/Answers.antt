@@ -3,10 +3,10 @@ use Rattle.std.proofs.Common.{rules, arith, ◌+◌, [], take, length-take, refl
 use Rattle.lsp_session.specs.Run.{Order}
 use Rattle.lsp_session.specs.SessionView.{session_view}
 use Rattle.lsp_session.proofs.RunningLemmas.{on_ok}
-use Rattle.lsp_session.proofs.StepLemmas.{on_err}
 use Rattle.lsp_server.specs.ServerView.{standing}
-use Rattle.lsp_server.proofs.KnownLemmas.{err_of, if_told, read_enough, at_zero, consumes_none}
-use Rattle.lsp_server.proofs.RanLemmas.{ran_grown, grown_after}
+use Rattle.lsp_server.proofs.KnownLemmas.{either, if_told, read_enough, at_zero, consumes_none}
+use Rattle.lsp_server.proofs.RanLemmas.{part_whole, ran_grown, grown_after}
+use Rattle.lsp_server.proofs.GoingLemmas.{told_part}
 use Rattle.lsp_server.proofs.ServingLemmas.{serving_start, serving_kept, serving_of, serving_more, exact, at_exit, enough_at_exit, at_end, enough_at_end, wrote_before, wrote_within, wrote_at_end}
 use Rattle.lsp_server.proofs.serving.serve_reads.Goals as goal
 
@@ -69,10 +69,13 @@ returns-then-n-eq0-clause-part g c =
     let old = session_view g.H.Handlers.semantics g.D.Caller.meaning c.args.session.now in
     let p = g.P.Pick.state c.args.pick.now in
     let taken0 = g.O.Sink.taken c.args.sink.now in
-    on_err c.serve_end.result (λ part. if_told (g.I.Source.left c.args.source.now) _ (λ bytes is.
+    let d = standing g.H.Handlers.semantics g.D.Caller.meaning c.serve_end.new.session (g.P.Pick.state c.serve_end.new.pick) (g.O.Sink.taken c.serve_end.new.sink) in
+    if_told (g.I.Source.left c.args.source.now) _ (λ bytes is.
     let serving = serving_of _ _ _ _ _ _ c.loop.invariant.serving bytes is in
     let ends = at_zero bytes serving.fed c.read.new.piece (g.I.Source.left c.loop.source) (g.I.Source.left c.read.new.self) c.in-Ok.n serving.gives c.in-Ok.ensures.ends c.in-Ok.ensures.gives c.if-n-eq0.true in
-    wrote_at_end g.met.H.Handlers.laws old p taken0 bytes _ _ _ _ serving (g.I.Source.left c.read.new.self) (g.O.Sink.taken c.serve_end.new.sink) 4096 ends.0 ends.1 part)) c.serve_end.ensures.part
+    wrote_at_end g.met.H.Handlers.laws old p taken0 bytes _ _ _ _ serving (g.I.Source.left c.read.new.self) (g.O.Sink.taken c.serve_end.new.sink) 4096 ends.0 ends.1
+    (either c.serve_end.result (λ ran. part_whole _ d _ ran) c.serve_end.ensures.ok c.serve_end.ensures.part))
+
 
 
 pub returns-in_err-feed-clause-part : goal.returns-in_err-feed-clause-part
@@ -80,9 +83,9 @@ returns-in_err-feed-clause-part g c =
     let old = session_view g.H.Handlers.semantics g.D.Caller.meaning c.args.session.now in
     let p = g.P.Pick.state c.args.pick.now in
     let taken0 = g.O.Sink.taken c.args.sink.now in
-    err_of _ (if_told (g.I.Source.left c.args.source.now) _ (λ bytes is.
+    if_told (g.I.Source.left c.args.source.now) _ (λ bytes is.
     let serving = serving_of _ _ _ _ _ _ c.loop.invariant.serving bytes is in
-    wrote_before g.met.H.Handlers.laws old p taken0 bytes _ _ _ _ serving (g.I.Source.left c.read.new.self) (take c.in-Ok.n c.read.new.piece) 4096 c.in-Ok.ensures.gives (omega (arith, c.in-Ok.ensures.within, length-take c.in-Ok.n c.read.new.piece))))
+    wrote_before g.met.H.Handlers.laws old p taken0 bytes _ _ _ _ serving (g.I.Source.left c.read.new.self) (take c.in-Ok.n c.read.new.piece) 4096 c.in-Ok.ensures.gives (omega (arith, c.in-Ok.ensures.within, length-take c.in-Ok.n c.read.new.piece)))
 
 
 pub returns-in_err-serve_told-clause-part : goal.returns-in_err-serve_told-clause-part
@@ -90,10 +93,10 @@ returns-in_err-serve_told-clause-part g c =
     let old = session_view g.H.Handlers.semantics g.D.Caller.meaning c.args.session.now in
     let p = g.P.Pick.state c.args.pick.now in
     let taken0 = g.O.Sink.taken c.args.sink.now in
-    err_of _ (if_told (g.I.Source.left c.args.source.now) _ (λ bytes is.
+    if_told (g.I.Source.left c.args.source.now) _ (λ bytes is.
     let serving = serving_of _ _ _ _ _ _ c.loop.invariant.serving bytes is in
     wrote_within g.met.H.Handlers.laws old p taken0 bytes _ _ _ _ serving (g.I.Source.left c.read.new.self) (g.O.Sink.taken c.serve_told.new.sink) (take c.in-Ok.n c.read.new.piece) 4096 c.in-Ok.ensures.gives (omega (arith, c.in-Ok.ensures.within, length-take c.in-Ok.n c.read.new.piece))
-    (rw c.in_ok-feed.ensures.ok at c.in_err-serve_told.ensures.part)))
+    (rw c.in_ok-feed.ensures.ok at c.in_err-serve_told.ensures.part))
 
 
 pub returns-then-branch-clause-ok : goal.returns-then-branch-clause-ok
@@ -106,6 +109,17 @@ returns-then-branch-clause-ok g c =
     let serving = serving_of _ _ _ _ _ _ c.loop.invariant.serving bytes is in
     at_exit g.met.H.Handlers.laws old p taken0 bytes _ _ _ _ serving (g.I.Source.left c.read.new.self) (take c.in-Ok.n c.read.new.piece) c.in-Ok.ensures.gives d c.serve_told.new.codec (rw (c.in_ok-feed.ensures.ok, c.if-branch.true) at c.in_ok-serve_told.ensures.ok))
 
+
+pub returns-then-branch-clause-part : goal.returns-then-branch-clause-part
+returns-then-branch-clause-part g c =
+    let old = session_view g.H.Handlers.semantics g.D.Caller.meaning c.args.session.now in
+    let p = g.P.Pick.state c.args.pick.now in
+    let taken0 = g.O.Sink.taken c.args.sink.now in
+    let d = standing g.H.Handlers.semantics g.D.Caller.meaning c.serve_told.new.session (g.P.Pick.state c.serve_told.new.pick) (g.O.Sink.taken c.serve_told.new.sink) in
+    if_told (g.I.Source.left c.args.source.now) _ (λ bytes is.
+    let serving = serving_of _ _ _ _ _ _ c.loop.invariant.serving bytes is in
+    wrote_within g.met.H.Handlers.laws old p taken0 bytes _ _ _ _ serving (g.I.Source.left c.read.new.self) (g.O.Sink.taken c.serve_told.new.sink) (take c.in-Ok.n c.read.new.piece) 4096 c.in-Ok.ensures.gives (omega (arith, c.in-Ok.ensures.within, length-take c.in-Ok.n c.read.new.piece))
+    (told_part _ _ _ d c.serve_told.new.codec (rw (c.in_ok-feed.ensures.ok, c.if-branch.true) at c.in_ok-serve_told.ensures.ok)))
 
 pub returns-then-branch-clause-enough : goal.returns-then-branch-clause-enough
 returns-then-branch-clause-enough g c =

@@ -10,7 +10,7 @@ use Rattle.lsp_server.specs.Items.{all_admitted}
 use Rattle.lsp_server.specs.Written.{Ran, RanPart}
 use Rattle.lsp_server.specs.ServerView.{standing}
 use Rattle.lsp_server.proofs.KnownLemmas.{err_of}
-use Rattle.lsp_server.proofs.RanLemmas.{part_none, part_more, part_after, ran_more, grown_after}
+use Rattle.lsp_server.proofs.RanLemmas.{part_none, part_more, part_after, ran_more, grown_after, grown_none}
 use Rattle.lsp_server.proofs.serving.write_end.Goals as goal
 
 pub returns-in_err-fault-clause-part : goal.returns-in_err-fault-clause-part
@@ -55,3 +55,6 @@ returns-in_ok-write_step-in-Some-clause-part g c =
 pub returns-in_ok-write_step-in-Some-clause-grown : goal.returns-in_ok-write_step-in-Some-clause-grown
 returns-in_ok-write_step-in-Some-clause-grown g c =
     on_err c.write_step-in-Some.result (λ grown. grown_after _ _ _ _ c.in_ok-write_step-in-Some.ensures.ok grown) c.write_step-in-Some.ensures.grown
+
+pub returns-in_err-fault-clause-grown : goal.returns-in_err-fault-clause-grown
+returns-in_err-fault-clause-grown g c = err_of _ (grown_none g.D.Caller.meaning _)
