@@ -1,5 +1,5 @@
 -- How serving goes on over the reads, and what it comes to.
-use Rattle.std.proofs.Common.{◌≡◌, inl, inr, ℕ, ◌+◌, ◌≤◌, List, [], ◌∷◌, ◌++◌, length, refl, sym, ◌∙◌, ap, subst, append_assoc, length-append, arith, Bool, true, false}
+use Rattle.std.proofs.Common.{◌≡◌, inl, inr, ℕ, ◌+◌, ◌*◌, ◌≤◌, List, [], ◌∷◌, ◌++◌, length, refl, sym, ◌∙◌, ap, subst, append_assoc, length-append, arith, Bool, true, false}
 use Rattle.std.specs.Prelude.{Option, Some, None, ◌||◌}
 use Rattle.std.specs.Io.KnownBytes.{Consumes, Keeps}
 use Rattle.std.proofs.lemmas.List.{append-nil, map-append}
@@ -26,8 +26,9 @@ module _ {H D C T P : Type 0} (semantics : Semantics H C T) (m : Meaning D) (ord
   -- the loop over the reads has come this far
   pub record Serving (a : Point semantics D P) (left0 : Option (List ℕ)) (b : Point semantics D P) (left1 : Option (List ℕ)) (codec : At) (count : ℕ) : Type 0 where
     pub fed : List ℕ
-    -- each read gave a byte at least
+    -- each read gave a byte at least, and 4,096 at most
     pub each : count ≤ length fed
+    pub most : length fed ≤ count * 4096
     pub gives : Consumes left0 left1 fed
     pub going : Going semantics m order rounds a (more start fed) b codec
     pub told : told_at codec ≡ []
@@ -37,6 +38,7 @@ module _ {H D C T P : Type 0} {semantics : Semantics H C T} {m : Meaning D} {ord
   serving_start a left0 codec goes_on fresh = record {
     fed = [];
     each = omega arith;
+    most = omega arith;
     gives = consumes_none left0;
     going = subst (λ c. Going semantics m order rounds a (more start []) a c) (sym fresh) (going_start a start goes_on);
     told = ap told_at fresh;
@@ -48,6 +50,7 @@ module _ {H D C T P : Type 0} {semantics : Semantics H C T} {m : Meaning D} {ord
     serving_kept left2 keeps = record {
       fed = serving.fed;
       each = serving.each;
+      most = serving.most;
       gives = consumes_kept left0 left1 left2 serving.fed serving.gives keeps;
       going = serving.going;
       told = serving.told;
@@ -93,10 +96,11 @@ module _ {H D C T P : Type 0} {semantics : Semantics H C T} {m : Meaning D} {ord
             ∙ ap (λ x. x || has_exit (find_at semantics a) (all_admitted told.given)) serving.going.none ∙ sym (has_exit_same (find_at semantics b) (find_at semantics a) (all_admitted told.given) same_table) ∙ none
 
       pub serving_more : (left2 : Option (List ℕ)) (piece : List ℕ) → Consumes left1 left2 piece → (d : Point semantics D P) (codec2 : At) (next : ℕ)
-          → ServedTold (Step semantics order rounds) m (find_at semantics b) b (more codec1 piece) false d codec2 → GoesOn semantics d → next ≤ count + length piece → Serving semantics m order rounds a left0 d left2 codec2 next
-      serving_more left2 piece gives d codec2 next told goes_on enough = record {
+          → ServedTold (Step semantics order rounds) m (find_at semantics b) b (more codec1 piece) false d codec2 → GoesOn semantics d → next ≤ count + length piece → length serving.fed + length piece ≤ next * 4096 → Serving semantics m order rounds a left0 d left2 codec2 next
+      serving_more left2 piece gives d codec2 next told goes_on enough few = record {
         fed = serving.fed ++ piece;
         each = omega (arith, length-append serving.fed piece, serving.each);
+        most = omega (arith, length-append serving.fed piece, few);
         gives = all_gives left2 piece gives d codec2 false told;
         going = record {
           given = all left2 piece gives d codec2 false told;

@@ -1,5 +1,5 @@
 // The server.
-ghost use Rattle.std.specs.Prelude.{◌≡◌, ◌≢◌, ◌≤◌, ◌<◌, ◌+◌, [], ◌∷◌, ℕ, true, false, length, OnOk, OnErr, IfOk, IfErr, IfSome, IsErrAnd, IsErrOf};
+ghost use Rattle.std.specs.Prelude.{◌≡◌, ◌≢◌, ◌≤◌, ◌<◌, ◌+◌, ◌*◌, [], ◌∷◌, ℕ, true, false, length, OnOk, OnErr, IfOk, IfErr, IfSome, IsErrAnd, IsErrOf};
 ghost use Rattle.lsp_desk.specs.Meaning.{IsOpening, Grown};
 ghost use Rattle.lsp_session.specs.Item.{show_item, item_has_float, tick};
 ghost use Rattle.lsp_session.specs.Run.{Step};
@@ -186,6 +186,9 @@ impl<D: Desk + Drop> Server<D> {
         ensures counts { (I.faults source.old ≤ I.faults source.new) × (O.faults sink.old ≤ O.faults sink.new) }
         ensures read_told { I.faults source.old < I.faults source.new → IsErrAnd result (λ stopped. stopped.error ≡ ServeError.ReadFault) }
         ensures write_told { O.faults sink.old < O.faults sink.new → IsErrAnd result (λ stopped. stopped.error ≡ ServeError.WriteFault) }
+
+        // Each of at most `reads` reads takes at most 4,096 bytes.
+            ensures few { IfSome (I.left source.old) (λ bytes. IfSome (I.left source.new) (λ rest. length bytes ≤ length rest + reads * 4096)) }
 
         // So with no failure, and with more reads than bytes, only memory may be wanting, or turns
         // of a desk that others use.

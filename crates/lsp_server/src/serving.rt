@@ -1,5 +1,5 @@
 // How a server serves the items of a source, read by read.
-ghost use Rattle.std.specs.Prelude.{◌≡◌, ◌≢◌, ◌≤◌, ◌<◌, ◌+◌, [], ◌∷◌, ℕ, List, Bool, true, false, None, length, OnOk, OnErr, IfOk, IfErr, IfSome, IsErrOf, option_map};
+ghost use Rattle.std.specs.Prelude.{◌≡◌, ◌≢◌, ◌≤◌, ◌<◌, ◌+◌, ◌*◌, [], ◌∷◌, ℕ, List, Bool, true, false, None, length, OnOk, OnErr, IfOk, IfErr, IfSome, IsErrOf, option_map};
 ghost use Rattle.lsp_desk.specs.Meaning.{Grown};
 ghost use Rattle.lsp_frame.specs.Codec.{items_at, more, told_at};
 ghost use Rattle.lsp_session.specs.Item.{show_item, item_has_float};
@@ -51,6 +51,7 @@ pub(crate) fn serve_reads<I: Source, O: Sink, D: Desk + Drop, H: Handlers<D>, P:
     ensures write { IsErrOf result ServeError.WriteFault → CountRose (O.faults sink.old) (O.faults sink.new) }
     ensures reads_spent { IsErrOf result ServeError.ReadsSpent → IfSome (I.left source.old) (λ bytes.
         IfSome (I.left source.new) (λ rest. reads + length rest ≤ length bytes)) }
+    ensures few { IfSome (I.left source.old) (λ bytes. IfSome (I.left source.new) (λ rest. length bytes ≤ length rest + reads * 4096)) }
     ensures desk_spent { IfErr result (λ e. SaysSpent D.meaning (session_view H.semantics D.meaning session.new).desk e) }
     ensures counts { (I.faults source.old ≤ I.faults source.new) × (O.faults sink.old ≤ O.faults sink.new) }
     ensures read_told { I.faults source.old < I.faults source.new → IsErrOf result ServeError.ReadFault }

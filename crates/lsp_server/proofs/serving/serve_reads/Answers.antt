@@ -1,10 +1,10 @@
 -- The loop over the reads: each piece, the end of input, an exit, and each error.
-use Rattle.std.proofs.Common.{rules, arith, ◌+◌, [], take, length-take, refl}
+use Rattle.std.proofs.Common.{rules, arith, ◌+◌, ◌*◌, [], take, length-take, refl}
 use Rattle.lsp_session.specs.Run.{Order}
 use Rattle.lsp_session.specs.SessionView.{session_view}
 use Rattle.lsp_session.proofs.RunningLemmas.{on_ok}
 use Rattle.lsp_server.specs.ServerView.{standing}
-use Rattle.lsp_server.proofs.KnownLemmas.{either, if_told, read_enough, at_zero, consumes_none}
+use Rattle.lsp_server.proofs.KnownLemmas.{either, if_told, read_enough, few_read, kept_none, at_zero, consumes_none}
 use Rattle.lsp_server.proofs.RanLemmas.{part_whole, ran_grown, grown_after}
 use Rattle.lsp_server.proofs.GoingLemmas.{told_part}
 use Rattle.lsp_server.proofs.ServingLemmas.{serving_start, serving_kept, serving_of, serving_more, exact, at_exit, enough_at_exit, at_end, enough_at_end, wrote_before, wrote_within, wrote_at_end}
@@ -139,7 +139,7 @@ loop-preserved g c =
     record {
       serving = serving_more _ _ _ _ _ _ c.loop.invariant.serving g.met.H.Handlers.laws (g.I.Source.left c.read.new.self) (take c.in-Ok.n c.read.new.piece) c.in-Ok.ensures.gives d c.serve_told.new.codec (c.loop.counter + 1)
           (rw (c.in_ok-feed.ensures.ok, c.if-branch.false) at c.in_ok-serve_told.ensures.ok) (record { exited = still.0; lives = still.1 })
-          (omega (arith, c.in-Ok.ensures.within, length-take c.in-Ok.n c.read.new.piece));
+          (omega (arith, c.in-Ok.ensures.within, length-take c.in-Ok.n c.read.new.piece)) (omega (arith, c.loop.invariant.serving.most, length-take c.in-Ok.n c.read.new.piece, c.in-Ok.ensures.within));
       ready = c.in_ok-serve_told.ensures.ready;
       size = search rules;
       flushed = search rules;
@@ -205,3 +205,35 @@ pub returns-then-branch-clause-grown : goal.returns-then-branch-clause-grown
 returns-then-branch-clause-grown g c =
     grown_after _ _ _ _ c.loop.invariant.serving.going.ran c.serve_told.ensures.grown
 
+
+-- ---- few bytes are read
+
+pub returns-in-Err-clause-few : goal.returns-in-Err-clause-few
+returns-in-Err-clause-few g c = if_told (g.I.Source.left c.args.source.now) _ (λ bytes is.
+    let serving = serving_of _ _ _ _ _ _ c.loop.invariant.serving bytes is in
+    few_read bytes serving.fed [] (g.I.Source.left c.loop.source) (g.I.Source.left c.read.new.self) (c.args.reads * 4096) serving.gives (kept_none (g.I.Source.left c.loop.source) (g.I.Source.left c.read.new.self) c.in-Err.ensures.kept) (omega (arith, serving.most)))
+
+pub returns-then-n-eq0-clause-few : goal.returns-then-n-eq0-clause-few
+returns-then-n-eq0-clause-few g c = if_told (g.I.Source.left c.args.source.now) _ (λ bytes is.
+    let serving = serving_of _ _ _ _ _ _ c.loop.invariant.serving bytes is in
+    few_read bytes serving.fed (take c.in-Ok.n c.read.new.piece) (g.I.Source.left c.loop.source) (g.I.Source.left c.read.new.self) (c.args.reads * 4096) serving.gives c.in-Ok.ensures.gives (omega (arith, serving.most, length-take c.in-Ok.n c.read.new.piece, c.if-n-eq0.true)))
+
+pub returns-in_err-feed-clause-few : goal.returns-in_err-feed-clause-few
+returns-in_err-feed-clause-few g c = if_told (g.I.Source.left c.args.source.now) _ (λ bytes is.
+    let serving = serving_of _ _ _ _ _ _ c.loop.invariant.serving bytes is in
+    few_read bytes serving.fed (take c.in-Ok.n c.read.new.piece) (g.I.Source.left c.loop.source) (g.I.Source.left c.read.new.self) (c.args.reads * 4096) serving.gives c.in-Ok.ensures.gives (omega (arith, serving.most, length-take c.in-Ok.n c.read.new.piece, c.in-Ok.ensures.within)))
+
+pub returns-in_err-serve_told-clause-few : goal.returns-in_err-serve_told-clause-few
+returns-in_err-serve_told-clause-few g c = if_told (g.I.Source.left c.args.source.now) _ (λ bytes is.
+    let serving = serving_of _ _ _ _ _ _ c.loop.invariant.serving bytes is in
+    few_read bytes serving.fed (take c.in-Ok.n c.read.new.piece) (g.I.Source.left c.loop.source) (g.I.Source.left c.read.new.self) (c.args.reads * 4096) serving.gives c.in-Ok.ensures.gives (omega (arith, serving.most, length-take c.in-Ok.n c.read.new.piece, c.in-Ok.ensures.within)))
+
+pub returns-then-branch-clause-few : goal.returns-then-branch-clause-few
+returns-then-branch-clause-few g c = if_told (g.I.Source.left c.args.source.now) _ (λ bytes is.
+    let serving = serving_of _ _ _ _ _ _ c.loop.invariant.serving bytes is in
+    few_read bytes serving.fed (take c.in-Ok.n c.read.new.piece) (g.I.Source.left c.loop.source) (g.I.Source.left c.read.new.self) (c.args.reads * 4096) serving.gives c.in-Ok.ensures.gives (omega (arith, serving.most, length-take c.in-Ok.n c.read.new.piece, c.in-Ok.ensures.within)))
+
+pub returns-clause-few : goal.returns-clause-few
+returns-clause-few g c = if_told (g.I.Source.left c.args.source.now) _ (λ bytes is.
+    let serving = serving_of _ _ _ _ _ _ c.loop.invariant.serving bytes is in
+    few_read bytes serving.fed [] (g.I.Source.left c.loop.source) (g.I.Source.left c.loop.source) (c.args.reads * 4096) serving.gives (consumes_none (g.I.Source.left c.loop.source)) (omega (arith, serving.most)))
