@@ -5,7 +5,7 @@ use Rattle.std.proofs.lemmas.Bool.Decides.{Decides-eqb}
 use Rattle.std.proofs.lemmas.Slice.Eq.{starts_is}
 use Rattle.std.specs.List.{starts_with}
 use Rattle.memchr.specs.Find.{OccursAt, FindsNeedle}
-use Rattle.lsp_frame.specs.Lines.{first_place}
+use Rattle.lsp_frame.specs.Transitions.{first_place}
 
 whole_again : (n : ℕ) (xs : List ℕ) → xs ≡ take n xs ++ drop n xs
 whole_again n xs = grind (arith, common_steps)

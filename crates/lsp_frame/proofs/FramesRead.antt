@@ -1,5 +1,5 @@
--- A frame that was written is read as one item, and decoding goes on behind it.
-use Rattle.std.proofs.Common.{◌≡◌, ℕ, suc, ◌+◌, ◌^◌, ◌<◌, ◌≤◌, List, [], ◌∷◌, ◌++◌, length, take, drop, false, ◌==◌, nat_lt, cond, Option, Some, None, Ok, codes, decimal, refl, sym, ap, ◌∙◌, arith, append_assoc, append-nil, length-append}
+-- A frame that was written is read as one item, and decoding goes on after it.
+use Rattle.std.proofs.Common.{◌≡◌, ℕ, suc, ◌+◌, ◌-◌, ◌^◌, ◌<◌, ◌≤◌, List, [], ◌∷◌, ◌++◌, length, take, drop, false, ◌==◌, nat_lt, cond, Option, Some, None, Ok, codes, decimal, refl, sym, ap, ◌∙◌, arith, append_assoc, append-nil, length-append}
 use Rattle.std.specs.Option.{option_and_then}
 use Rattle.std.specs.Str.{IsUtf8}
 use Rattle.std.proofs.lemmas.Str.{is_utf8-from_IsUtf8}
@@ -7,19 +7,22 @@ use Rattle.std.proofs.lemmas.Grind.{common_steps}
 use Rattle.std.proofs.lemmas.List.Elements.{All-nil, All-cons}
 use Rattle.std.proofs.lemmas.List.Sums.{AllPass-from_list_all}
 use Rattle.httparse.specs.Grammar.{is_token_byte, Field, IsField, IsToken, crlf, print_section}
-use Rattle.lsp_frame.specs.Blocks.{Header, block_len, place_behind, headers_in}
+use Rattle.lsp_frame.specs.Blocks.{Header, block_len, place_after, headers_in}
 use Rattle.lsp_frame.specs.Headers.{content_length}
 use Rattle.serde_json.specs.Data.{Data}
 use Rattle.serde_json.specs.Read.{read}
 use Rattle.lsp_rpc.specs.Message.{MessageData, response, request, message_text, clean_message}
-use Rattle.lsp_frame.specs.Frames.{head_text, framed, frame_text, frames}
+use Rattle.lsp_rpc.specs.Back.{ReadsAs}
+use Rattle.lsp_frame.specs.Frames.{head_text, framed, frame_text, frames, IsBodyWithin, IsWithin, IsReadBack}
 use Rattle.lsp_frame.specs.Laws.{FramesRead, MessagesRead}
-use Rattle.lsp_frame.specs.Lines.{Item, message, fault, go, line_at, block_line, head_line, length_line, body_item, of_value, of_message}
+use Rattle.lsp_frame.specs.Transitions.{Item, message, fault, go, transition, at_block, at_head, at_headers, body_item, of_value, of_message}
 use Rattle.lsp_frame.specs.Items.{items_after, all_from, items}
-use Rattle.lsp_frame.specs.declared.parse_error.ParseError.TheVariants.{Utf8, Rest}
-use Rattle.lsp_frame.specs.declared.kind.Kind.TheVariants.{Frame, Body}
+use Rattle.lsp_frame.specs.declared.parse_error.ParseError.TheVariants.{Utf8, Rest, BodyTooLong}
+use Rattle.lsp_frame.specs.declared.state.DecodeState.TheVariants.{Frame, Body, Skip}
+use Rattle.lsp_frame.specs.declared.limits.Limits.{Limits}
+use Rattle.lsp_frame.proofs.TransitionSteady.{front_more}
 use Rattle.lsp_frame.proofs.Sections.{headers_of_section}
-use Rattle.lsp_frame.proofs.ItemsByLine.{all_from-line}
+use Rattle.lsp_frame.proofs.ItemsByTransition.{all_from-transition}
 use Rattle.lsp_frame.proofs.DecimalText.{AreDigits, decimal_digits, length_of-decimal, trim_ows-decimal, decimal_passes, is_utf8-decimal}
 
 -- ---- the block of a written head
@@ -28,17 +31,17 @@ not_lf : (c : ℕ) → 48 ≤ c → (c == 10) ≡ false
 not_lf c low = grind arith
 
 -- digits hold no empty line
-behind_digits : (i : ℕ) (ds ys : List ℕ) → AreDigits ds → place_behind i false (ds ++ ys) ≡ place_behind (i + length ds) false ys
-behind_digits i [] ys are = ap (λ j. place_behind j false ys) (omega arith)
-behind_digits i (c ∷ cs) ys are =
+after_digits : (i : ℕ) (ds ys : List ℕ) → AreDigits ds → place_after i false (ds ++ ys) ≡ place_after (i + length ds) false ys
+after_digits i [] ys are = ap (λ j. place_after j false ys) (omega arith)
+after_digits i (c ∷ cs) ys are =
     let later : i + 1 + length cs ≡ i + suc (length cs) = omega arith in
-    rw (not_lf c are.0) (behind_digits (i + 1) cs ys are.2 ∙ ap (λ j. place_behind j false ys) later)
+    rw (not_lf c are.0) (after_digits (i + 1) cs ys are.2 ∙ ap (λ j. place_after j false ys) later)
 
 block_of_head : (n : ℕ) (rest : List ℕ) → n < 2 ^ 64 → block_len (head_text n ++ rest) ≡ Some (length (head_text n))
 block_of_head n rest fits =
     let size : 16 + length (decimal n) + 4 ≡ length (head_text n) = omega (arith, length-append (decimal n) (codes "\r\n\r\n")) in
-    ap (place_behind 16 false) (append_assoc (decimal n) (codes "\r\n\r\n") rest)
-    ∙ behind_digits 16 (decimal n) (codes "\r\n\r\n" ++ rest) (decimal_digits n fits)
+    ap (place_after 16 false) (append_assoc (decimal n) (codes "\r\n\r\n") rest)
+    ∙ after_digits 16 (decimal n) (codes "\r\n\r\n" ++ rest) (decimal_digits n fits)
     ∙ ap Some (omega (arith, size))
 
 -- ---- its header
@@ -65,7 +68,7 @@ headers_of_head n fits =
 length_of_head : (n : ℕ) → n < 2 ^ 64 → content_length None ((codes "Content-Length", decimal n) ∷ []) ≡ Ok (Some n)
 length_of_head n fits = rw (is_utf8-decimal n fits, length_of-decimal n fits) refl
 
--- ---- the lines of a frame
+-- ---- the transitions of a frame
 
 not_zero : (n : ℕ) → 0 < n → (n == 0) ≡ false
 not_zero n some = grind arith
@@ -73,61 +76,88 @@ not_zero n some = grind arith
 front : (xs ys : List ℕ) → take (length xs) (xs ++ ys) ≡ xs
 front xs ys = grind (arith, common_steps)
 
-behind : (xs ys : List ℕ) → drop (length xs) (xs ++ ys) ≡ ys
-behind xs ys = grind (arith, common_steps)
+after : (xs ys : List ℕ) → drop (length xs) (xs ++ ys) ≡ ys
+after xs ys = grind (arith, common_steps)
 
-line_of_head : (head rest : List ℕ) (hs : List Header) (n : ℕ) → 0 < length head → block_len (head ++ rest) ≡ Some (length head) → headers_in 2 head ≡ Some hs → content_length None hs ≡ Ok (Some n)
-    → line_at Frame (head ++ rest) ≡ go None (Body n) (length head)
-line_of_head head rest hs n some block headers len =
-    let begun : (length (head ++ rest) == 0) ≡ false = not_zero (length (head ++ rest)) (omega (arith, length-append head rest)) in
-    rw begun
-    (ap (block_line (head ++ rest)) block
-    ∙ ap (λ h. head_line (length head) (headers_in 2 h)) (front head rest)
-    ∙ ap (head_line (length head)) headers
-    ∙ ap (length_line (length head)) len)
+within_front : (m : ℕ) (xs ys : List ℕ) → length xs ≤ m → take m (xs ++ ys) ≡ xs ++ take (m - length xs) ys
+within_front m xs ys fits = front_more m xs ys ∙ ap (λ t. t ++ take (m - length xs) ys) (whole m xs fits)
+  where
+    whole : (m : ℕ) (xs : List ℕ) → length xs ≤ m → take m xs ≡ xs
+    whole m xs fits = grind (arith, common_steps)
 
-line_of_body : (body rest : List ℕ) → 0 < length body → line_at (Body (length body)) (body ++ rest) ≡ go (Some (body_item body)) Frame (length body)
-line_of_body body rest some =
-    let there : nat_lt (length (body ++ rest)) (length body) ≡ false = grind (arith, length-append body rest) in
-    rw (there, not_zero (length body) some) (ap (λ b. go (Some (body_item b)) Frame (length body)) (front body rest))
+not_less : (a b : ℕ) → b ≤ a → nat_lt a b ≡ false
+not_less a b le = grind arith
 
-head_lines : (last : List Item) (head rest : List ℕ) (n : ℕ) → line_at Frame (head ++ rest) ≡ go None (Body n) (length head) → all_from last Frame (head ++ rest) ≡ all_from last (Body n) rest
-head_lines last head rest n line =
-    all_from-line last Frame (head ++ rest)
-    ∙ ap (items_after (λ j d. all_from last j (drop d (head ++ rest))) last) line
-    ∙ ap (all_from last (Body n)) (behind head rest)
+module _ (limits : Limits) where
+  transition_of_head : (head rest : List ℕ) (hs : List Header) (n : ℕ) → 0 < length head → length head ≤ limits.head → n ≤ limits.body
+      → ((r : List ℕ) → block_len (head ++ r) ≡ Some (length head)) → headers_in 2 head ≡ Some hs → content_length None hs ≡ Ok (Some n)
+      → transition limits Frame (head ++ rest) ≡ go None (Body n) (length head)
+  transition_of_head head rest hs n some short small block headers len =
+      let begun : (length (head ++ rest) == 0) ≡ false = not_zero (length (head ++ rest)) (omega (arith, length-append head rest)) in
+      let allowed : nat_lt limits.body n ≡ false = not_less limits.body n small in
+      rw begun
+      (ap (λ t. at_block limits (head ++ rest) (block_len t)) (within_front limits.head head rest short)
+      ∙ ap (at_block limits (head ++ rest)) (block (take (limits.head - length head) rest))
+      ∙ ap (λ h. at_head limits (length head) (headers_in 2 h)) (front head rest)
+      ∙ ap (at_head limits (length head)) headers
+      ∙ ap (at_headers limits (length head)) len
+      ∙ ap (λ b. cond b (go (Some (fault BodyTooLong)) (Skip n) (length head)) (go None (Body n) (length head))) allowed)
 
-body_lines : (last : List Item) (body rest : List ℕ) → 0 < length body → all_from last (Body (length body)) (body ++ rest) ≡ body_item body ∷ all_from last Frame rest
-body_lines last body rest some =
-    all_from-line last (Body (length body)) (body ++ rest)
-    ∙ ap (items_after (λ j d. all_from last j (drop d (body ++ rest))) last) (line_of_body body rest some)
-    ∙ ap (λ t. body_item body ∷ all_from last Frame t) (behind body rest)
+  transition_of_body : (body rest : List ℕ) → 0 < length body → transition limits (Body (length body)) (body ++ rest) ≡ go (Some (body_item body)) Frame (length body)
+  transition_of_body body rest some =
+      let there : nat_lt (length (body ++ rest)) (length body) ≡ false = grind (arith, length-append body rest) in
+      rw (there, not_zero (length body) some) (ap (λ b. go (Some (body_item b)) Frame (length body)) (front body rest))
 
-frame_lines : (last : List Item) (body rest : List ℕ) → 0 < length body → length body < 2 ^ 64 → all_from last Frame (framed body ++ rest) ≡ body_item body ∷ all_from last Frame rest
-frame_lines last body rest some fits =
-    let n = length body in
-    let head = head_text n in
-    let begun : 0 < length head = omega arith in
-    ap (all_from last Frame) (append_assoc head body rest)
-    ∙ head_lines last head (body ++ rest) n
-    (line_of_head head (body ++ rest) ((codes "Content-Length", decimal n) ∷ []) n begun (block_of_head n (body ++ rest) fits) (headers_of_head n fits) (length_of_head n fits))
-    ∙ body_lines last body rest some
+  head_transitions : (last : List Item) (head rest : List ℕ) (n : ℕ) → transition limits Frame (head ++ rest) ≡ go None (Body n) (length head)
+      → all_from limits last Frame (head ++ rest) ≡ all_from limits last (Body n) rest
+  head_transitions last head rest n is =
+      all_from-transition limits last Frame (head ++ rest)
+      ∙ ap (items_after (λ j d. all_from limits last j (drop d (head ++ rest))) last) is
+      ∙ ap (all_from limits last (Body n)) (after head rest)
+
+  body_transitions : (last : List Item) (body rest : List ℕ) → 0 < length body
+      → all_from limits last (Body (length body)) (body ++ rest) ≡ body_item body ∷ all_from limits last Frame rest
+  body_transitions last body rest some =
+      all_from-transition limits last (Body (length body)) (body ++ rest)
+      ∙ ap (items_after (λ j d. all_from limits last j (drop d (body ++ rest))) last) (transition_of_body body rest some)
+      ∙ ap (λ t. body_item body ∷ all_from limits last Frame t) (after body rest)
+
+  frame_transitions : (last : List Item) (body rest : List ℕ) → IsBodyWithin limits body → length body < 2 ^ 64
+      → all_from limits last Frame (framed body ++ rest) ≡ body_item body ∷ all_from limits last Frame rest
+  frame_transitions last body rest within fits =
+      let n = length body in
+      let head = head_text n in
+      let begun : 0 < length head = omega arith in
+      ap (all_from limits last Frame) (append_assoc head body rest)
+      ∙ head_transitions last head (body ++ rest) n
+      (transition_of_head head (body ++ rest) ((codes "Content-Length", decimal n) ∷ []) n begun within.2 within.1 (λ r. block_of_head n r fits) (headers_of_head n fits) (length_of_head n fits))
+      ∙ body_transitions last body rest within.0
 
 pub frames_read_lem : FramesRead
-frames_read_lem body rest some fits = (frame_lines (fault Rest ∷ []) body rest some fits, frame_lines [] body rest some fits)
+frames_read_lem limits body rest within fits = (frame_transitions limits (fault Rest ∷ []) body rest within fits, frame_transitions limits [] body rest within fits)
 
--- ---- the frame of a text
+-- ---- the frames of messages that are read back
 
 text_some : (m : MessageData) → 0 < length (message_text m)
 text_some (response r) = omega arith
 text_some (request r) = omega arith
 
--- the body is a text, so it tells what its JSON value is
-pub text_read : (body : List ℕ) → IsUtf8 body → 0 < length body → length body < 2 ^ 64 → items (framed body) ≡ of_value (read body) ∷ []
-text_read body utf8 some fits =
-    ap items (sym (append-nil (framed body)))
-    ∙ (frames_read_lem body [] some fits).0
-    ∙ ap (λ b. cond b (of_value (read body)) (fault Utf8) ∷ []) (is_utf8-from_IsUtf8 body utf8)
+pub messages_read_lem : MessagesRead
+messages_read_lem limits [] c back = refl
+messages_read_lem limits (m ∷ ms) c back =
+    ap (items limits) (append_assoc (frame_text m) (frames ms) c)
+    ∙ (frames_read_lem limits (message_text m) (frames ms ++ c) (text_some m, back.0.1.0, back.0.1.1) back.0.0.1).0
+    ∙ ap (λ x. x ∷ items limits (frames ms ++ c)) back.0.0.0
+    ∙ ap (λ xs. message m ∷ xs) (messages_read_lem limits ms c back.1)
+
+-- a message that is read back stands alone in its frame
+pub frame_read_alone : (m : MessageData) → IsReadBack m → (limits : Limits) → IsWithin limits m → items limits (frame_text m) ≡ message m ∷ []
+frame_read_alone m back limits within =
+    ap (items limits) (sym (append-nil (frame_text m)))
+    ∙ (frames_read_lem limits (message_text m) [] (text_some m, within.0, within.1) back.1).0
+    ∙ ap (λ x. x ∷ []) back.0
+
+-- ---- the text of a message that can be read back
 
 abbrev IsMessage : Option MessageData → MessageData → Type 0
 IsMessage o m = o ≡ Some m
@@ -136,19 +166,9 @@ value_back : (o : Option Data) (m : MessageData) → IsMessage (option_and_then 
 value_back None m e = let f : IsMessage None m = e in absurd cc
 value_back (Some d) m e = ap of_message e
 
--- a text that is read back as a message, in its frame; the text is written from another that is the same
-pub message_read_back : (text written : List ℕ) (m : MessageData) → written ≡ text → text ≡ message_text m → option_and_then clean_message (read text) ≡ Some m
-    → (0 < length written → items (framed written) ≡ of_value (read written) ∷ []) → items (frame_text m) ≡ message m ∷ []
-message_read_back text written m same is back reads =
-    let some : 0 < length written = rw (same, is) (text_some m) in
-    ap (λ t. items (framed t)) (sym is ∙ sym same) ∙ reads some ∙ ap (λ t. of_value (read t) ∷ []) same ∙ ap (λ x. x ∷ []) (value_back (read text) m back)
-
--- ---- the frames of messages that read back
-
-pub messages_read_lem : MessagesRead
-messages_read_lem [] c back = refl
-messages_read_lem (m ∷ ms) c back =
-    ap items (append_assoc (frame_text m) (frames ms) c)
-    ∙ (frames_read_lem (message_text m) (frames ms ++ c) (text_some m) back.0.1).0
-    ∙ ap (λ x. x ∷ items (frames ms ++ c)) back.0.0
-    ∙ ap (λ xs. message m ∷ xs) (messages_read_lem ms c back.1)
+-- a text that is read as a message, and is that message's, is read back
+pub text_read_back : (text : List ℕ) (m : MessageData) → IsUtf8 text → length text < 2 ^ 64 → text ≡ message_text m → ReadsAs text m → IsReadBack m
+text_read_back text m utf8 fits is back = (
+  ap body_item (sym is) ∙ ap (λ b. cond b (of_value (read text)) (fault Utf8)) (is_utf8-from_IsUtf8 text utf8) ∙ value_back (read text) m back,
+  rw (sym is) fits,
+)

@@ -11,7 +11,7 @@ next_item xs i d h = grind (arith, common_steps)
 within_take : {A : Type 0} → (xs : List A) (count i : ℕ) (d : A) → i < count → get_or (take count xs) i d ≡ get_or xs i d
 within_take xs count i d h = grind (arith, common_steps)
 
--- the headers from place i on give what the one at i gives, and then those behind it
+-- the headers from place i on give what the one at i gives, and then those after it
 pub next_header : {A : Type 0} → (f : A → Header) (xs : List A) (count i : ℕ) (d : A) (before : Option ℕ) (r : Result (Option ℕ) ParseError) → i < count → count ≤ length xs
     → r ≡ length_after before (f (get_or xs i d))
     → content_length before (map f (drop i (take count xs))) ≡ on_length r (λ n. content_length n (map f (drop (i + 1) (take count xs))))

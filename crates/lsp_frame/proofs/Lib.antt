@@ -1,6 +1,6 @@
 pub mod Sections
-pub mod LineSteady
-pub mod ItemsByLine
+pub mod TransitionSteady
+pub mod ItemsByTransition
 pub mod CallLists
 pub mod LengthParse
 pub mod HeaderByHeader
@@ -8,8 +8,11 @@ pub mod FirstPlace
 pub mod TypeParts
 pub mod RestLast
 pub mod ToldGrows
-pub mod LineMoves
-pub mod Searched
-pub mod WhatIsLeft
+pub mod TransitionMoves
+pub mod WaitingItems
+pub mod ItemsLeft
 pub mod DecimalText
 pub mod FramesRead
+pub mod EncodedRead
+pub mod ClearPlaces
+pub mod HeldBytes

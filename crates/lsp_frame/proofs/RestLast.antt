@@ -1,4 +1,4 @@
--- A line never tells that input ended, so that fault stands at most at the end of the items.
+-- A transition never tells that input ended, so that fault stands at most at the end of the items.
 use Rattle.std.proofs.Common.{◌≡◌, ℕ, zero, suc, List, [], ◌∷◌, length, take, drop, Bool, true, false, ◌==◌, nat_lt, cond, Option, Some, None, Result, Ok, Err, refl, sym, ap, ◌∙◌, codes}
 use Rattle.std.specs.Prelude.{⊤, bytes_eq}
 use Rattle.std.specs.Str.{is_utf8}
@@ -7,20 +7,21 @@ use Rattle.serde_json.specs.Data.{Data}
 use Rattle.lsp_rpc.specs.Message.{MessageData, clean_message}
 use Rattle.lsp_frame.specs.Blocks.{Header, block_len, headers_in}
 use Rattle.lsp_frame.specs.Headers.{length_of, is_type_good, length_or_fault, length_after, on_length, content_length}
-use Rattle.lsp_frame.specs.Lines.{Item, fault, Line, stop, unfinished, go, line_at, first_place, search_of, of_message, of_value, body_item, length_line, head_line, block_line}
-use Rattle.lsp_frame.specs.Items.{items_after, items_within, lines_left, unless_rest, without_last_rest}
+use Rattle.lsp_frame.specs.Transitions.{Item, fault, Transition, stop, unfinished, go, transition, first_place, at_place, of_message, of_value, body_item, at_headers, at_head, at_block}
+use Rattle.lsp_frame.specs.Items.{items_after, items_within, transitions_left, unless_rest, without_last_rest}
 use Rattle.lsp_frame.specs.Laws.{ToldIsItems}
+use Rattle.lsp_frame.specs.declared.limits.Limits.{Limits}
 use Rattle.lsp_frame.specs.declared.parse_error.ParseError.{ParseError}
-use Rattle.lsp_frame.specs.declared.parse_error.ParseError.TheVariants.{InvalidContentType, Utf8, Rest}
-use Rattle.lsp_frame.specs.declared.kind.Kind.{Kind}
-use Rattle.lsp_frame.specs.declared.kind.Kind.TheVariants.{Frame, Search, Body}
+use Rattle.lsp_frame.specs.declared.parse_error.ParseError.TheVariants.{InvalidContentType, Utf8, Rest, HeadTooLong, BodyTooLong}
+use Rattle.lsp_frame.specs.declared.state.DecodeState.{DecodeState}
+use Rattle.lsp_frame.specs.declared.state.DecodeState.TheVariants.{Frame, Search, Body, Skip}
 
 -- the item stays where the last `Rest` is taken away
 abbrev Stays : Item → Type 0
 Stays x = unless_rest x ≡ x ∷ []
 
--- what a line gives stays
-abbrev GivesNoRest : Line → Type 0
+-- what a transition gives stays
+abbrev GivesNoRest : Transition → Type 0
 GivesNoRest stop = ⊤
 GivesNoRest unfinished = ⊤
 GivesNoRest (go None k n) = ⊤
@@ -65,36 +66,50 @@ headers_stay : (before : Option ℕ) (hs : List Header) → FaultStays (content_
 headers_stay before [] = tt
 headers_stay before (h ∷ hs) = later_stays (length_after before h) (λ n. content_length n hs) (header_stays (bytes_eq h.0 (codes "Content-Length")) (bytes_eq h.0 (codes "Content-Type")) (is_utf8 h.1) (is_type_good h.1) before h.1) (λ n. headers_stay n hs)
 
-length_gives : (q : ℕ) (r : Result (Option ℕ) ParseError) → FaultStays r → GivesNoRest (length_line q r)
-length_gives q (Err e) is = is
-length_gives q (Ok None) is = refl
-length_gives q (Ok (Some n)) is = tt
+module _ (limits : Limits) where
+  limit_gives : (q n : ℕ) (b : Bool) → GivesNoRest (cond b (go (Some (fault BodyTooLong)) (Skip n) q) (go None (Body n) q))
+  limit_gives q n true = refl
+  limit_gives q n false = tt
 
-head_gives : (q : ℕ) (hs : Option (List Header)) → GivesNoRest (head_line q hs)
-head_gives q None = refl
-head_gives q (Some hs) = length_gives q (content_length None hs) (headers_stay None hs)
+  headers_give : (q : ℕ) (r : Result (Option ℕ) ParseError) → FaultStays r → GivesNoRest (at_headers limits q r)
+  headers_give q (Err e) is = is
+  headers_give q (Ok None) is = refl
+  headers_give q (Ok (Some n)) is = limit_gives q n (nat_lt limits.body n)
 
-block_gives : (bs : List ℕ) (o : Option ℕ) → GivesNoRest (block_line bs o)
-block_gives bs None = tt
-block_gives bs (Some q) = head_gives q (headers_in 2 (take q bs))
+  head_gives : (q : ℕ) (hs : Option (List Header)) → GivesNoRest (at_head limits q hs)
+  head_gives q None = refl
+  head_gives q (Some hs) = headers_give q (content_length None hs) (headers_stay None hs)
 
-frame_gives : (bs : List ℕ) (b : Bool) → GivesNoRest (cond b stop (block_line bs (block_len bs)))
-frame_gives bs true = tt
-frame_gives bs false = block_gives bs (block_len bs)
+  no_block_gives : (b : Bool) → GivesNoRest (cond b unfinished (go (Some (fault HeadTooLong)) Search 1))
+  no_block_gives true = tt
+  no_block_gives false = refl
 
-search_gives : (o : Option ℕ) → GivesNoRest (search_of o)
-search_gives None = tt
-search_gives (Some r) = tt
+  block_gives : (bs : List ℕ) (o : Option ℕ) → GivesNoRest (at_block limits bs o)
+  block_gives bs None = no_block_gives (nat_lt (length bs) limits.head)
+  block_gives bs (Some q) = head_gives q (headers_in 2 (take q bs))
 
-body_gives : (n : ℕ) (bs : List ℕ) (a b : Bool) → GivesNoRest (cond a unfinished (cond b (go None Frame 0) (go (Some (body_item (take n bs))) Frame n)))
-body_gives n bs true b = tt
-body_gives n bs false true = tt
-body_gives n bs false false = body_stays (take n bs) (is_utf8 (take n bs))
+  frame_gives : (bs : List ℕ) (b : Bool) → GivesNoRest (cond b stop (at_block limits bs (block_len (take limits.head bs))))
+  frame_gives bs true = tt
+  frame_gives bs false = block_gives bs (block_len (take limits.head bs))
 
-line_gives : (k : Kind) (bs : List ℕ) → GivesNoRest (line_at k bs)
-line_gives Frame bs = frame_gives bs (length bs == 0)
-line_gives Search bs = search_gives (first_place (codes "Content-Length") bs)
-line_gives (Body n) bs = body_gives n bs (nat_lt (length bs) n) (n == 0)
+  search_gives : (o : Option ℕ) → GivesNoRest (at_place o)
+  search_gives None = tt
+  search_gives (Some r) = tt
+
+  body_gives : (n : ℕ) (bs : List ℕ) (a b : Bool) → GivesNoRest (cond a unfinished (cond b (go None Frame 0) (go (Some (body_item (take n bs))) Frame n)))
+  body_gives n bs true b = tt
+  body_gives n bs false true = tt
+  body_gives n bs false false = body_stays (take n bs) (is_utf8 (take n bs))
+
+  skip_gives : (n : ℕ) (b : Bool) → GivesNoRest (cond b stop (go None Frame n))
+  skip_gives n true = tt
+  skip_gives n false = tt
+
+  transition_gives : (s : DecodeState) (bs : List ℕ) → GivesNoRest (transition limits s bs)
+  transition_gives Frame bs = frame_gives bs (length bs == 0)
+  transition_gives Search bs = search_gives (first_place (codes "Content-Length") bs)
+  transition_gives (Body n) bs = body_gives n bs (nat_lt (length bs) n) (n == 0)
+  transition_gives (Skip n) bs = skip_gives n (nat_lt (length bs) n)
 
 -- ---- the items
 
@@ -102,18 +117,18 @@ one_more : (x : Item) (xs : List Item) → Stays x → without_last_rest (x ∷ 
 one_more x [] is = is
 one_more x (y ∷ ys) is = refl
 
-after_line : (n : ℕ) (bs : List ℕ) → ((k : Kind) (rest : List ℕ) → items_within [] n k rest ≡ without_last_rest (items_within (fault Rest ∷ []) n k rest))
-    → (l : Line) → GivesNoRest l
-    → items_after (λ k d. items_within [] n k (drop d bs)) [] l ≡ without_last_rest (items_after (λ k d. items_within (fault Rest ∷ []) n k (drop d bs)) (fault Rest ∷ []) l)
-after_line n bs later stop is = refl
-after_line n bs later unfinished is = refl
-after_line n bs later (go None k d) is = later k (drop d bs)
-after_line n bs later (go (Some x) k d) is =
-    ap (λ xs. x ∷ xs) (later k (drop d bs)) ∙ sym (one_more x (items_within (fault Rest ∷ []) n k (drop d bs)) is)
+after_transition : (limits : Limits) (n : ℕ) (bs : List ℕ) → ((k : DecodeState) (rest : List ℕ) → items_within limits [] n k rest ≡ without_last_rest (items_within limits (fault Rest ∷ []) n k rest))
+    → (l : Transition) → GivesNoRest l
+    → items_after (λ k d. items_within limits [] n k (drop d bs)) [] l ≡ without_last_rest (items_after (λ k d. items_within limits (fault Rest ∷ []) n k (drop d bs)) (fault Rest ∷ []) l)
+after_transition limits n bs later stop is = refl
+after_transition limits n bs later unfinished is = refl
+after_transition limits n bs later (go None k d) is = later k (drop d bs)
+after_transition limits n bs later (go (Some x) k d) is =
+    ap (λ xs. x ∷ xs) (later k (drop d bs)) ∙ sym (one_more x (items_within limits (fault Rest ∷ []) n k (drop d bs)) is)
 
-lines_give : (n : ℕ) (k : Kind) (bs : List ℕ) → items_within [] n k bs ≡ without_last_rest (items_within (fault Rest ∷ []) n k bs)
-lines_give zero k bs = refl
-lines_give (suc n) k bs = after_line n bs (lines_give n) (line_at k bs) (line_gives k bs)
+transitions_give : (limits : Limits) (n : ℕ) (k : DecodeState) (bs : List ℕ) → items_within limits [] n k bs ≡ without_last_rest (items_within limits (fault Rest ∷ []) n k bs)
+transitions_give limits zero k bs = refl
+transitions_give limits (suc n) k bs = after_transition limits n bs (transitions_give limits n) (transition limits k bs) (transition_gives limits k bs)
 
 pub told_is_items_lem : ToldIsItems
-told_is_items_lem a = lines_give (lines_left a.kind a.held) a.kind a.held
+told_is_items_lem a = transitions_give a.limits (transitions_left a.state a.held) a.state a.held

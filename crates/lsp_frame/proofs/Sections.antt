@@ -14,7 +14,7 @@ use Rattle.httparse.specs.declared.Status.TheVariants.{Complete}
 use Rattle.std.specs.Prelude.{Ok}
 use Rattle.std.proofs.lemmas.List.{length-map}
 use Rattle.lsp_frame.specs.Laws.{GoodBlocks}
-use Rattle.lsp_frame.specs.Blocks.{header_at, named_at, value_at, behind_end, headers_in, ended, Header}
+use Rattle.lsp_frame.specs.Blocks.{header_at, named_at, value_at, after_end, headers_in, ended, Header}
 
 -- a run of bytes that pass, and then one that does not
 pub run_stops : (test : ℕ → Bool) (xs : List ℕ) (c : ℕ) (ys : List ℕ) → AllPass test xs → test c ≡ false → prefix_len test (xs ++ c ∷ ys) ≡ length xs
@@ -24,7 +24,7 @@ run_stops test (x ∷ xs) c ys pass stops =
     let later : AllPass test xs = λ k d h. pass (suc k) d (omega arith) in
     rw here (omega (arith, run_stops test xs c ys later stops))
 
-pub behind_print_end : (e : LineEnd) (rest : List ℕ) → behind_end (print_end e ++ rest) ≡ Some rest
+pub behind_print_end : (e : LineEnd) (rest : List ℕ) → after_end (print_end e ++ rest) ≡ Some rest
 behind_print_end crlf rest = refl
 behind_print_end lf rest = refl
 
@@ -42,7 +42,7 @@ value_parts name raw e rest pass =
     let n = newline_ends e rest in
     let parts = run_parts is_value_byte raw n.0 n.1 pass n.3 in
     let whole : raw ++ (print_end e ++ rest) ≡ raw ++ n.0 ∷ n.1 = ap (λ t. raw ++ t) n.2 in
-    rw whole (rw (parts.0, parts.1) (ap (option_map (λ r. ((name, trim_ows raw), r))) (ap behind_end (sym n.2) ∙ behind_print_end e rest)))
+    rw whole (rw (parts.0, parts.1) (ap (option_map (λ r. ((name, trim_ows raw), r))) (ap after_end (sym n.2) ∙ behind_print_end e rest)))
 
 colon_stops : is_token_byte 58 ≡ false
 unfolding is_token_byte
@@ -71,17 +71,17 @@ header_parts f rest is =
     ap (λ n. n == 0) (run_stops is_token_byte f.name 58 tail is.name.1 colon_stops) ∙ positive (length f.name) is.name.0 in
     rw (regrouped f rest) (rw some (rw (parts.0, parts.1) (value_parts f.name f.raw f.end rest is.raw)))
 
--- a line that begins with a byte of a name is not empty
+-- a transition that begins with a byte of a name is not empty
 differ : (a b : ℕ) → (a ≡ b → ⊥) → eqb a b ≡ false
 differ a b h = grind arith
 
-not_end : (c : ℕ) (bs : List ℕ) → is_token_byte c ≡ true → behind_end (c ∷ bs) ≡ None
+not_end : (c : ℕ) (bs : List ℕ) → is_token_byte c ≡ true → after_end (c ∷ bs) ≡ None
 not_end c bs token =
     let apart : (d : ℕ) → is_token_byte d ≡ false → eqb d c ≡ false =
     λ d stops. differ d c (λ e. true≢false (sym token ∙ ap is_token_byte (sym e) ∙ stops)) in
     rw (apart 10 lf_stops, apart 13 cr_stops) refl
 
-first_byte : (name tail : List ℕ) → IsToken name → behind_end (name ++ tail) ≡ None
+first_byte : (name tail : List ℕ) → IsToken name → after_end (name ++ tail) ≡ None
 first_byte [] tail is = absurd (omega (arith, is.0))
 first_byte (c ∷ name) tail is = not_end c (name ++ tail) (is.1 0 0 (omega arith))
 
@@ -98,8 +98,8 @@ headers_of_section (f ∷ fs) (suc k) last all few =
     let is : IsField f = all 0 f (omega arith) in
     let section = print_section fs last in
     let whole : print_section (f ∷ fs) last ≡ print_field f ++ section = append_assoc (print_field f) (flat_map print_field fs) (print_end last) in
-    let begins : behind_end (print_field f ++ section) ≡ None =
-    ap behind_end (regrouped f section) ∙ first_byte f.name (58 ∷ (f.raw ++ (print_end f.end ++ section))) is.name in
+    let begins : after_end (print_field f ++ section) ≡ None =
+    ap after_end (regrouped f section) ∙ first_byte f.name (58 ∷ (f.raw ++ (print_end f.end ++ section))) is.name in
     rw whole (rw begins (rw (header_parts f section is) (rw (headers_of_section fs k last (field_later f fs all) (omega arith)) refl)))
 
 -- ---- what has headers is a section
@@ -119,7 +119,7 @@ IsRead o p = o ≡ Some p
 abbrev AreRead : Option (List Header) → List Header → Type 0
 AreRead o hs = o ≡ Some hs
 
-end_inverse : (xs r : List ℕ) → IsList (behind_end xs) r → (e : LineEnd) × (xs ≡ print_end e ++ r)
+end_inverse : (xs r : List ℕ) → IsList (after_end xs) r → (e : LineEnd) × (xs ≡ print_end e ++ r)
 end_inverse xs r is = first (starts_with nat_eq xs (10 ∷ [])) refl is
   where
     second : (b : Bool) → starts_with nat_eq xs (13 ∷ 10 ∷ []) ≡ b → IsList (option_map (λ n. drop n xs) (cond b (Some 2) None)) r → (e : LineEnd) × (xs ≡ print_end e ++ r)
@@ -141,7 +141,7 @@ pub record IsValueAt (name bs : List ℕ) (p : Header × List ℕ) : Type 0 wher
   whole : bs ≡ raw ++ (print_end end ++ p.1)
   same : (name, trim_ows raw) ≡ p.0
 
-value_read : (name bs : List ℕ) (p : Header × List ℕ) (n : ℕ) → n ≡ prefix_len is_value_byte bs → (o : Option (List ℕ)) → behind_end (drop n bs) ≡ o
+value_read : (name bs : List ℕ) (p : Header × List ℕ) (n : ℕ) → n ≡ prefix_len is_value_byte bs → (o : Option (List ℕ)) → after_end (drop n bs) ≡ o
     → IsRead (option_map (λ r. ((name, trim_ows (take n bs)), r)) o) p → IsValueAt name bs p
 value_read name bs p n at None e is = let h : IsRead None p = is in absurd cc
 value_read name bs p n at (Some r) e is =
@@ -158,7 +158,7 @@ value_read name bs p n at (Some r) e is =
 value_inverse : (name bs : List ℕ) (p : Header × List ℕ) → IsRead (value_at name bs) p → IsValueAt name bs p
 value_inverse name bs p is = value_read name bs p (prefix_len is_value_byte bs) refl _ refl is
 
--- a line of the grammar stands at the front
+-- a transition of the grammar stands at the front
 pub record IsHeaderAt (bs : List ℕ) (p : Header × List ℕ) : Type 0 where
   field : Field
   is : IsField field
@@ -208,7 +208,7 @@ pub record IsSection (bs : List ℕ) (k : ℕ) (hs : List Header) : Type 0 where
   pub same : map name_and_value fields ≡ hs
 
 -- no headers: the empty line alone
-none_read : (bs rest : List ℕ) (k : ℕ) (hs : List Header) (b : Bool) → (length rest == 0) ≡ b → IsList (behind_end bs) rest → AreRead (cond b (Some []) None) hs → IsSection bs k hs
+none_read : (bs rest : List ℕ) (k : ℕ) (hs : List Header) (b : Bool) → (length rest == 0) ≡ b → IsList (after_end bs) rest → AreRead (cond b (Some []) None) hs → IsSection bs k hs
 none_read bs rest k hs false z e is = let h : AreRead None hs = is in absurd cc
 none_read bs rest k hs true z e is =
     let end = end_inverse bs rest e in
@@ -256,18 +256,18 @@ first_read : (k : ℕ) → Sound k → (bs : List ℕ) (o : Option (Header × Li
 first_read k sound bs None e hs is = let h : AreRead None hs = is in absurd cc
 first_read k sound bs (Some p) e hs is = later_read k sound bs p (headers_in k p.1) refl (header_inverse bs p e) hs is
 
-begin_zero : (bs : List ℕ) (o : Option (List ℕ)) → behind_end bs ≡ o → (hs : List Header) → AreRead (ended o None) hs → IsSection bs 0 hs
+begin_zero : (bs : List ℕ) (o : Option (List ℕ)) → after_end bs ≡ o → (hs : List Header) → AreRead (ended o None) hs → IsSection bs 0 hs
 begin_zero bs None e hs is = let h : AreRead None hs = is in absurd cc
 begin_zero bs (Some rest) e hs is = none_read bs rest 0 hs _ refl e is
 
-begin_suc : (k : ℕ) → Sound k → (bs : List ℕ) (o : Option (List ℕ)) → behind_end bs ≡ o → (hs : List Header)
+begin_suc : (k : ℕ) → Sound k → (bs : List ℕ) (o : Option (List ℕ)) → after_end bs ≡ o → (hs : List Header)
     → AreRead (ended o (option_and_then (λ p. option_map (λ xs. p.0 ∷ xs) (headers_in k p.1)) (header_at bs))) hs → IsSection bs (suc k) hs
 begin_suc k sound bs None e hs is = first_read k sound bs (header_at bs) refl hs is
 begin_suc k sound bs (Some rest) e hs is = none_read bs rest (suc k) hs _ refl e is
 
 pub section_of_headers : (k : ℕ) → Sound k
-section_of_headers zero bs hs is = begin_zero bs (behind_end bs) refl hs is
-section_of_headers (suc k) bs hs is = begin_suc k (section_of_headers k) bs (behind_end bs) refl hs is
+section_of_headers zero bs hs is = begin_zero bs (after_end bs) refl hs is
+section_of_headers (suc k) bs hs is = begin_suc k (section_of_headers k) bs (after_end bs) refl hs is
 
 -- a block has headers where it is a good block
 pub good_blocks_lem : GoodBlocks

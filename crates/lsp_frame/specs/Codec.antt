@@ -1,7 +1,8 @@
 -- The words that contracts above this crate cite.
-pub use Rattle.lsp_frame.specs.Lines.{Item, message, fault}
-pub use Rattle.lsp_frame.specs.Items.{At, start, more, with_item, items_at, told_at, items, told}
-pub use Rattle.lsp_frame.specs.Frames.{frame_text, frames}
+pub use Rattle.lsp_frame.specs.declared.limits.Limits.{Limits}
+pub use Rattle.lsp_frame.specs.Transitions.{Item, message, fault}
+pub use Rattle.lsp_frame.specs.Items.{At, start, more, with_item, items_at, told_at, items, told, IsWaiting, most_held, AreLimits, default_limits}
+pub use Rattle.lsp_frame.specs.Frames.{frame_text, frames, IsWithin, IsReadBack}
 pub use Rattle.lsp_frame.specs.Faults.{code_of_fault, text_of_fault}
 pub use Rattle.lsp_frame.specs.Shown.{shown, IsFloatFree}
-pub use Rattle.lsp_frame.specs.Calls.{Call, fed, gave, Does, Leads, bytes_fed, items_given}
+pub use Rattle.lsp_frame.specs.Calls.{Call, fed, gave, finished, encoded, failed, Gives, LeadsBy, Leads, bytes_fed, items_given, messages_encoded}

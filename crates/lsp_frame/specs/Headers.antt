@@ -40,7 +40,7 @@ abbrev pub names_utf8 : List (List ℕ) → Bool
 names_utf8 [] = false
 names_utf8 (p ∷ ps) = or_answer (charset_in p) (names_utf8 ps)
 
--- the parts behind the first
+-- the parts after the first
 abbrev pub tail_parts : List (List ℕ) → List (List ℕ)
 tail_parts [] = []
 tail_parts (p ∷ ps) = ps
@@ -54,7 +54,7 @@ abbrev pub length_or_fault : Option ℕ → Result (Option ℕ) ParseError
 length_or_fault (Some n) = Ok (Some n)
 length_or_fault None = Err InvalidContentLength
 
--- the length behind one more header, or the header's fault
+-- the length after one more header, or the header's fault
 abbrev pub length_after : Option ℕ → Header → Result (Option ℕ) ParseError
 length_after before h =
     if bytes_eq h.0 (codes "Content-Length") then (if is_utf8 h.1 then length_or_fault (length_of h.1) else Err Utf8)

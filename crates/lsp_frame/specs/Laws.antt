@@ -1,29 +1,37 @@
--- What holds of all blocks, lines, inputs and lists of calls.
-use Rattle.std.specs.Prelude.{◌≡◌, ℕ, ◌^◌, ◌<◌, ◌≤◌, ◌⊎◌, ◌↔◌, List, [], ◌∷◌, ◌++◌, length, map, nat_eq, true, Option, Some, None, codes, ⊤}
+-- What holds of all blocks, transitions, inputs and lists of calls.
+use Rattle.std.specs.Prelude.{◌≡◌, ℕ, ◌^◌, ◌<◌, ◌≤◌, ◌⊎◌, ◌↔◌, List, [], ◌∷◌, ◌++◌, length, drop, map, nat_eq, true, Option, Some, None, codes, ⊤}
 use Rattle.std.specs.List.{starts_with}
+use Rattle.lsp_rpc.specs.Message.{MessageData}
+use Rattle.lsp_rpc.specs.Back.{IsReadable}
 use Rattle.lsp_frame.specs.Blocks.{Header, headers_in, IsGoodBlock}
-use Rattle.lsp_rpc.specs.Message.{MessageData, message_text}
-use Rattle.lsp_frame.specs.Frames.{framed, frames}
-use Rattle.lsp_frame.specs.Lines.{Item, message, go, line_at, body_item}
-use Rattle.lsp_frame.specs.Items.{At, start, items_at, told_at, items, told, without_last_rest}
-use Rattle.lsp_frame.specs.Calls.{Call, Leads, bytes_fed, items_given}
-use Rattle.lsp_frame.specs.declared.kind.Kind.{Kind}
-use Rattle.lsp_frame.specs.declared.kind.Kind.TheVariants.{Frame, Search, Body}
+use Rattle.lsp_frame.specs.Frames.{framed, frames, IsBodyWithin, IsWithin, IsReadBack}
+use Rattle.lsp_frame.specs.Transitions.{Item, message, go, transition, body_item}
+use Rattle.lsp_frame.specs.Items.{At, start, all_from, items_after, items_at, told_at, items, told, without_last_rest}
+use Rattle.lsp_frame.specs.Calls.{Call, Leads, bytes_fed, items_given, messages_encoded}
+use Rattle.lsp_frame.specs.declared.limits.Limits.{Limits}
+use Rattle.lsp_frame.specs.declared.state.DecodeState.{DecodeState}
+use Rattle.lsp_frame.specs.declared.state.DecodeState.TheVariants.{Frame, Search, Body, Skip}
 
 -- a block has headers where it is a good block, and they are those of the grammar of `httparse`
 abbrev pub GoodBlocks : Type 0
 GoodBlocks = (block : List ℕ) (hs : List Header) → (headers_in 2 block ≡ Some hs) ↔ IsGoodBlock block hs
 
--- a line that may go on without a byte: a search that finds its text where it begins, and an empty body
-abbrev pub MayStay : Kind → List ℕ → Type 0
+-- the items are those on the way from transition to transition, with nothing left out before the stop
+abbrev pub ByTransitions : Type 0
+ByTransitions = (limits : Limits) (last : List Item) (s : DecodeState) (bs : List ℕ)
+    → all_from limits last s bs ≡ items_after (λ j n. all_from limits last j (drop n bs)) last (transition limits s bs)
+
+-- a transition that may go on without a byte: a search that finds its text where it begins, and an empty body or skip
+abbrev pub MayStay : DecodeState → List ℕ → Type 0
 MayStay Frame bs = ⊥
 MayStay Search bs = starts_with nat_eq bs (codes "Content-Length") ≡ true
 MayStay (Body n) bs = n ≡ 0
+MayStay (Skip n) bs = n ≡ 0
 
--- a line that goes on moves forward by at least one byte, save where it may stay; then it tells nothing and a frame line follows
-abbrev pub LinesMove : Type 0
-LinesMove = (k : Kind) (bs : List ℕ) (x : Option Item) (j : Kind) (n : ℕ) → line_at k bs ≡ go x j n
-    → (n ≤ length bs) × ((0 < n) ⊎ (MayStay k bs × (x ≡ None) × (j ≡ Frame)))
+-- a transition that goes on moves forward by at least one byte, save where it may stay; then it tells nothing and a frame follows
+abbrev pub TransitionsMove : Type 0
+TransitionsMove = (limits : Limits) (s : DecodeState) (bs : List ℕ) (x : Option Item) (j : DecodeState) (n : ℕ) → transition limits s bs ≡ go x j n
+    → (n ≤ length bs) × ((0 < n) ⊎ (MayStay s bs × (x ≡ None) × (j ≡ Frame)))
 
 -- what is told is the items without the fault of an input that ends inside a frame
 abbrev pub ToldIsItems : Type 0
@@ -31,23 +39,37 @@ ToldIsItems = (a : At) → told_at a ≡ without_last_rest (items_at a)
 
 -- what is told stays told, and begins the items, whatever bytes follow
 abbrev pub ToldStays : Type 0
-ToldStays = (b c : List ℕ) → ((xs : List Item) × (told (b ++ c) ≡ told b ++ xs)) × ((xs : List Item) × (items (b ++ c) ≡ told b ++ xs))
+ToldStays = (limits : Limits) (b c : List ℕ)
+    → ((xs : List Item) × (told limits (b ++ c) ≡ told limits b ++ xs)) × ((xs : List Item) × (items limits (b ++ c) ≡ told limits b ++ xs))
 
--- over any list of calls, the items given, followed by those that are left, are those of all the bytes fed
+-- over any list of calls, also those that fail, the items given, followed by those that are left, are those of all the bytes fed
 abbrev pub GivesAll : Type 0
-GivesAll = (calls : List Call) (a : At) → Leads calls start a
-    → (told (bytes_fed calls) ≡ items_given calls ++ told_at a) × (items (bytes_fed calls) ≡ items_given calls ++ items_at a)
+GivesAll = (limits : Limits) (calls : List Call) (a : At) → Leads calls (start limits) a
+    → (told limits (bytes_fed calls) ≡ items_given calls ++ told_at a)
+    × (items limits (bytes_fed calls) ≡ items_given calls ++ items_at a)
+    × (a.limits ≡ limits)
 
--- a frame tells what its body is, and decoding goes on behind it
+-- a frame within the limits tells what its body is, and decoding goes on after it
 abbrev pub FramesRead : Type 0
-FramesRead = (body c : List ℕ) → 0 < length body → length body < 2 ^ 64
-    → (items (framed body ++ c) ≡ body_item body ∷ items c) × (told (framed body ++ c) ≡ body_item body ∷ told c)
+FramesRead = (limits : Limits) (body c : List ℕ) → IsBodyWithin limits body → length body < 2 ^ 64
+    → (items limits (framed body ++ c) ≡ body_item body ∷ items limits c) × (told limits (framed body ++ c) ≡ body_item body ∷ told limits c)
 
--- the text of each message is read as that message, and its length fits 64 bits
-abbrev pub ReadBack : List MessageData → Type 0
-ReadBack [] = ⊤
-ReadBack (m ∷ ms) = ((body_item (message_text m) ≡ message m) × (length (message_text m) < 2 ^ 64)) × ReadBack ms
+-- each message is read back from its text, and its frame is within the limits
+abbrev pub AreReadBack : Limits → List MessageData → Type 0
+AreReadBack limits [] = ⊤
+AreReadBack limits (m ∷ ms) = (IsReadBack m × IsWithin limits m) × AreReadBack limits ms
 
--- frames of messages that are read back tell these messages, and decoding goes on behind them
+-- frames of messages that are read back tell these messages, and decoding goes on after them
 abbrev pub MessagesRead : Type 0
-MessagesRead = (ms : List MessageData) (c : List ℕ) → ReadBack ms → items (frames ms ++ c) ≡ map message ms ++ items c
+MessagesRead = (limits : Limits) (ms : List MessageData) (c : List ℕ) → AreReadBack limits ms
+    → items limits (frames ms ++ c) ≡ map message ms ++ items limits c
+
+-- each message can be read back from its text, and its frame is within the limits
+abbrev pub AreReadable : Limits → List MessageData → Type 0
+AreReadable limits [] = ⊤
+AreReadable limits (m ∷ ms) = (IsReadable m × IsWithin limits m) × AreReadable limits ms
+
+-- what a list of calls encoded is read, by any codec whose limits allow it, as the messages that were encoded, if these can be read back
+abbrev pub EncodedRead : Type 0
+EncodedRead = (limits : Limits) (calls : List Call) (a b : At) (c : List ℕ) → Leads calls a b → AreReadable limits (messages_encoded calls)
+    → items limits (frames (messages_encoded calls) ++ c) ≡ map message (messages_encoded calls) ++ items limits c

@@ -2,8 +2,9 @@ pub mod Faults
 pub mod Blocks
 pub mod NoSpan
 pub mod Headers
-pub mod Lines
+pub mod Transitions
 pub mod Items
+pub mod Kept
 pub mod Frames
 pub mod Shown
 pub mod Calls

@@ -1,18 +1,19 @@
 // The codec.
-ghost use Rattle.std.specs.Prelude.{◌≡◌, ◌↔◌, ◌++◌, [], ◌∷◌, ℕ, List, IfOk, IfSome, OnOk, OnErr, None, option_map, false};
+ghost use Rattle.std.specs.Prelude.{◌≡◌, ◌↔◌, ◌≤◌, ◌++◌, [], ◌∷◌, ℕ, List, length, IfOk, IfSome, OnOk, OnErr, None, option_map, false};
 ghost use Rattle.lsp_rpc.specs.Back.{IsReadable};
 ghost use Rattle.lsp_rpc.specs.Message.{message_has_float};
 ghost use Rattle.lsp_rpc.specs.Shown.{show_message};
-ghost use Rattle.lsp_frame.specs.Lines.{fault, message as message_item};
-ghost use Rattle.lsp_frame.specs.Items.{start, more, items, items_at, told_at, with_item};
-ghost use Rattle.lsp_frame.specs.Frames.{frame_text};
+ghost use Rattle.lsp_frame.specs.declared.limits.Limits.{Limits as AnyLimits};
+ghost use Rattle.lsp_frame.specs.Transitions.{fault, message as message_item};
+ghost use Rattle.lsp_frame.specs.Items.{start, more, items, items_at, told_at, with_item, IsWaiting, most_held, AreLimits, default_limits};
+ghost use Rattle.lsp_frame.specs.Frames.{frame_text, IsWithin, IsReadBack};
 ghost use Rattle.lsp_frame.specs.Shown.{shown, show_found, IsFloatFree, IsFoundFloatFree};
 
-use crate::body::Found;
 use crate::encode::push_frame;
-use crate::kind::Kind;
-use crate::next::find_next;
+use crate::limits::Limits;
+use crate::next_item::find_next;
 use crate::parse_error::ParseError;
+use crate::state::DecodeState;
 use bytes::BytesMut;
 use lsp_rpc::Message;
 use no_memory::NoMemory;
@@ -31,46 +32,69 @@ pub enum Decoded {
 }
 
 // What is answered where this item comes next.
-fn answer_of(item: Option<Found>) -> Decoded
+fn answer_of(item: Option<Result<Message, ParseError>>) -> Decoded
     ensures value { shown result ≡ option_map show_found item }
     ensures floats { IsFoundFloatFree item → IsFloatFree result }
 {
     match item {
-        Some(Found::Message(message)) => Decoded::Item(message),
-        Some(Found::Fault(fault)) => Decoded::Fault(fault),
+        Some(Ok(message)) => Decoded::Item(message),
+        Some(Err(fault)) => Decoded::Fault(fault),
         None => Decoded::More,
     }
 }
 
 /// Reads messages from bytes that come in pieces, and writes messages, each in its frame.
 ///
-/// A contract sees the bytes held and the kind of line that comes next. After `NoMemory` nothing
-/// has changed, and the call may be made again.
+/// A contract sees the limits, the state and the bytes held. After `NoMemory` nothing has changed,
+/// and the call may be made again.
 #[derive(Drop)]
 pub struct LanguageServerCodec {
     bytes: BytesMut,
-    kind: Kind,
+    state: DecodeState,
+    // How far the bytes were looked through for the empty line that ends a head.
+    looked: usize,
+    limits: Limits,
     alloc: Global,
 }
 
 impl Model for LanguageServerCodec {
     ghost use Rattle.lsp_frame.specs.Items.{At};
+    ghost use Rattle.lsp_frame.specs.Kept.{IsLooked, IsAllowed};
 
     ghost Value = { At };
 
-    ghost view = { λ s. record { kind = s.kind; held = s.bytes.items } };
+    ghost view = { λ s. record { limits = s.limits; state = s.state; held = s.bytes.items } };
+
+    ghost invariant = { λ s. IsLooked s.bytes.items s.looked × IsAllowed s.limits s.state };
 }
 
 impl LanguageServerCodec {
-    /// A codec that was fed nothing.
+    /// A codec that was fed nothing, with the default limits.
     pub fn default(alloc: Global) -> LanguageServerCodec
-        ensures { result ≡ start }
+        ensures { result ≡ start default_limits }
+    {
+        LanguageServerCodec::with_limits(alloc, Limits::default())
+    }
+
+    /// A codec that was fed nothing, with these limits.
+    pub fn with_limits(alloc: Global, limits: Limits) -> LanguageServerCodec
+        requires { AreLimits limits }
+        ensures { result ≡ start limits }
     {
         LanguageServerCodec {
             bytes: BytesMut::new(alloc),
-            kind: Kind::Frame,
+            state: DecodeState::Frame,
+            looked: 0,
+            limits,
             alloc,
         }
+    }
+
+    /// How many bytes are held: those that were fed and that what was decoded doesn't cover.
+    pub fn held(&self) -> u64
+        ensures { result ≡ length self.now.held }
+    {
+        self.bytes.len() as u64
     }
 
     /// Appends a piece, which may be empty, to the bytes fed.
@@ -83,6 +107,8 @@ impl LanguageServerCodec {
     }
 
     /// The next item that the bytes fed tell, or `More` where all of them are given.
+    ///
+    /// After `More` at most the greatest of 13 bytes and the two limits are held.
     pub fn decode(&mut self) -> Result<Decoded, NoMemory>
         // The item is the first of those that are left, whatever bytes may follow.
         ensures items { IfOk result (λ d. (c : List ℕ)
@@ -92,12 +118,24 @@ impl LanguageServerCodec {
         // `More` comes exactly where nothing is told, and then nothing is told until more is fed.
         ensures more { IfOk result (λ d. (shown d ≡ None) ↔ (told_at self.old ≡ [])) }
         ensures waits { IfOk result (λ d. shown d ≡ None → told_at self.new ≡ []) }
+        // Then decoding went on as far as it can, and what it needs no more isn't held.
+        ensures trimmed { IfOk result (λ d. shown d ≡ None → IsWaiting self.new) }
+        ensures held { IfOk result (λ d. shown d ≡ None
+            → length self.new.held ≤ most_held self.new.limits) }
         ensures floats { IfOk result (λ d. IsFloatFree d) }
+        ensures limits { OnOk result (self.new.limits ≡ self.old.limits) }
         ensures err { OnErr result (self.new ≡ self.old) }
     {
-        let next = find_next(self.alloc, self.kind, self.bytes.as_slice())?;
-        self.bytes.advance(next.place);
-        self.kind = next.kind;
+        let next = find_next(
+            self.alloc,
+            self.limits,
+            self.state,
+            self.bytes.as_slice(),
+            self.looked,
+        )?;
+        self.bytes.advance(next.consumed);
+        self.state = next.state;
+        self.looked = next.looked;
         Ok(answer_of(next.item))
     }
 
@@ -108,7 +146,13 @@ impl LanguageServerCodec {
         ensures rest { IfOk result (λ r. IfSome r (λ e. e ≡ ParseError.Rest)) }
         ensures same { self.new ≡ self.old }
     {
-        let next = find_next(self.alloc, self.kind, self.bytes.as_slice())?;
+        let next = find_next(
+            self.alloc,
+            self.limits,
+            self.state,
+            self.bytes.as_slice(),
+            self.looked,
+        )?;
         if next.unfinished {
             Ok(Some(ParseError::Rest))
         } else {
@@ -119,16 +163,22 @@ impl LanguageServerCodec {
     /// Appends the frame of the message, whose values hold no float.
     pub fn encode(&mut self, message: &Message, out: &mut BytesMut) -> Result<(), NoMemory>
         requires { message_has_float (show_message message.now) ≡ false }
-        ensures ok { OnOk result (out.new.items ≡ out.old.items ++ frame_text (show_message message.now)) }
+        ensures ok { OnOk result (out.new.items
+            ≡ out.old.items ++ frame_text (show_message message.now)) }
         ensures err { OnErr result (out.new.items ≡ out.old.items) }
         ensures same { self.new ≡ self.old }
-        // What is written is read as the message alone, where the message can be read back from its
-        // text: it nests at most 127 deep, an error's data isn't null, and a code that a variant
-        // names is that variant.
+        // The text is read back as the message, where the message can be read back: it nests at
+        // most 127 deep, an error's data isn't null, and a code that a variant names is that
+        // variant.
+        ensures read_back { OnOk result (IsReadable (show_message message.now)
+            → IsReadBack (show_message message.now)) }
+        // Then what is written is read, within its limits, as the message alone.
         ensures reads_back { OnOk result (IsReadable (show_message message.now)
-            → items (frame_text (show_message message.now)) ≡ message_item (show_message message.now) ∷ []) }
+            → (limits : AnyLimits) → IsWithin limits (show_message message.now)
+            → items limits (frame_text (show_message message.now))
+            ≡ message_item (show_message message.now) ∷ []) }
     {
         let body = message.to_text(self.alloc)?;
-        push_frame(self.alloc, body.as_str(), out)
+        push_frame(body.as_str(), out)
     }
 }

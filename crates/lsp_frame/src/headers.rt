@@ -38,7 +38,7 @@ fn charset_in(part: &str) -> Option<bool>
     }
 }
 
-// The first part, and what stands behind it.
+// The first part, and what stands after it.
 fn cut(value: &str) -> Option<(&str, &str)>
     ensures parts { MatchOption result (parts_from [] value.now ≡ value.now ∷ [])
         (λ x. parts_from [] value.now ≡ x.0.now ∷ parts_from [] x.1.now) }
@@ -47,7 +47,7 @@ fn cut(value: &str) -> Option<(&str, &str)>
     value.split_once(';')
 }
 
-// Whether the parts behind the first name UTF-8.
+// Whether the parts after the first name UTF-8.
 fn is_type_good(value: &str) -> bool
     ensures { result ≡ type_good value.now }
 {
@@ -73,7 +73,7 @@ fn names_utf8(value: &str) -> bool
     }
 }
 
-// The length behind one more header, where the header isn't faulty.
+// The length after one more header, where the header isn't faulty.
 fn length_after(before: Option<u64>, name: &[u8], value: &[u8]) -> Result<Option<u64>, ParseError>
     ensures { result ≡ length_then before (name.now, value.now) }
 {

@@ -1,15 +1,21 @@
-// What holds of all blocks, lines, inputs and lists of calls: functions whose contract is a law.
-ghost use Rattle.lsp_frame.specs.Laws.{GoodBlocks, LinesMove, ToldIsItems, ToldStays, GivesAll, FramesRead, MessagesRead};
+// What holds of all blocks, transitions, inputs and lists of calls: functions whose contract is a
+// law.
+ghost use Rattle.lsp_frame.specs.Laws.{GoodBlocks, ByTransitions, TransitionsMove, ToldIsItems, ToldStays, GivesAll, FramesRead, MessagesRead, EncodedRead};
 
 /// A block is good where it is, whole, a head of `httparse`'s grammar with at most two headers.
 pub fn good_blocks()
     ensures { GoodBlocks }
 {}
 
-/// Each line moves forward or stops, save a search that finds its text where it begins and an
-/// empty body.
-pub fn lines_move()
-    ensures { LinesMove }
+/// The items are those on the way from transition to transition, through the stop.
+pub fn by_transitions()
+    ensures { ByTransitions }
+{}
+
+/// Each transition moves forward or stops, save a search that finds its text where it begins, and
+/// an empty body.
+pub fn transitions_move()
+    ensures { TransitionsMove }
 {}
 
 /// What is told is the items without a `Rest` at their end.
@@ -22,13 +28,13 @@ pub fn told_stays()
     ensures { ToldStays }
 {}
 
-/// Over any list of calls, the items given, followed by those that are left, are those of all the
-/// bytes fed, however they were cut into pieces.
+/// Over any list of calls, also those that fail, the items given, followed by those that are left,
+/// are those of all the bytes fed, however they were cut into pieces.
 pub fn gives_all()
     ensures { GivesAll }
 {}
 
-/// A frame tells what its body is, and decoding goes on behind it.
+/// A frame within the limits tells what its body is, and decoding goes on after it.
 pub fn frames_read()
     ensures { FramesRead }
 {}
@@ -36,4 +42,9 @@ pub fn frames_read()
 /// Frames of messages whose texts are read back tell these messages.
 pub fn messages_read()
     ensures { MessagesRead }
+{}
+
+/// What a list of calls encoded tells the messages that were encoded, if these can be read back.
+pub fn encoded_read()
+    ensures { EncodedRead }
 {}

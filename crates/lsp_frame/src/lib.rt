@@ -1,7 +1,7 @@
 //! Messages in frames, by the base protocol of LSP 3.17.
 //!
 //! A frame is a head of at most two headers, as `httparse` reads them, an empty line and a body
-//! of the length that the head gives.
+//! of the length that the head gives. `Limits` bound both.
 #![tactic(auto)]
 
 mod block;
@@ -10,16 +10,19 @@ mod codec;
 mod encode;
 mod head;
 mod headers;
-mod kind;
 mod law;
-mod line;
-mod next;
+mod limits;
+mod next_item;
 mod parse_error;
+mod state;
 #[cfg(test)]
 mod tests;
+mod transition;
 
 pub use codec::{Decoded, LanguageServerCodec};
 pub use law::{
-    frames_read, gives_all, good_blocks, lines_move, messages_read, told_is_items, told_stays,
+    by_transitions, encoded_read, frames_read, gives_all, good_blocks, messages_read,
+    told_is_items, told_stays, transitions_move,
 };
+pub use limits::Limits;
 pub use parse_error::{BodyFault, ParseError};

@@ -32,6 +32,10 @@ pub enum ParseError {
     Body(BodyFault),
     /// The input ended inside a frame.
     Rest,
+    /// No head is whole within the limit of a head.
+    HeadTooLong,
+    /// The `Content-Length` is above the limit of a body.
+    BodyTooLong,
 }
 
 impl ParseError {
@@ -63,6 +67,8 @@ impl fmt::Display for ParseError {
             ParseError::Utf8 => f.write_str("request contains invalid UTF8"),
             ParseError::Body(_) => f.write_str("unable to parse JSON body"),
             ParseError::Rest => f.write_str("input ended inside a frame"),
+            ParseError::HeadTooLong => f.write_str("head too long"),
+            ParseError::BodyTooLong => f.write_str("body too long"),
         }
     }
 }

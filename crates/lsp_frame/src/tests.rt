@@ -1,6 +1,6 @@
 ghost use Rattle.lsp_frame.specs.Shown.{IsFloatFree};
 
-use crate::{BodyFault, Decoded, LanguageServerCodec, ParseError};
+use crate::{BodyFault, Decoded, LanguageServerCodec, Limits, ParseError};
 use bytes::BytesMut;
 use lsp_rpc::ErrorCode;
 use no_memory::NoMemory;
@@ -194,6 +194,116 @@ fn ends_inside_a_frame(rt: HostRuntime) -> Result<(), Fail> {
     Ok(())
 }
 
+// Heads of at most 30 bytes, and bodies of at most 40.
+const SMALL: Limits = Limits { head: 30, body: 40 };
+
+// The items of these pieces, with the limits of `SMALL`, are these.
+fn expect_small(
+    rt: &impl Abort,
+    alloc: Global,
+    pieces: &[&'static [u8]],
+    items: &[&'static str],
+    rest: Option<ParseError>,
+) -> Result<(), Fail> {
+    let mut codec = LanguageServerCodec::with_limits(alloc, SMALL);
+    for piece in pieces {
+        codec.feed(piece)?;
+    }
+    expect_items(rt, alloc, &mut codec, items)?;
+    let Decoded::More = codec.decode()? else {
+        panic!(rt; "all is given");
+    };
+    assert!(rt; codec.finish()? == rest);
+    Ok(())
+}
+
+#[test]
+fn limits(rt: HostRuntime) -> Result<(), Fail> {
+    let alloc = rt.alloc();
+    assert!(rt;
+        Limits::default()
+            == Limits {
+                head: 8_192,
+                body: 67_108_864
+            }
+    );
+    expect_small(&rt, alloc, &[MESSAGE], &[EXIT], None)?;
+    // A body of 41 bytes is skipped, and one of 40 isn't.
+    expect_small(
+        &rt,
+        alloc,
+        &[
+            b"Content-Length: 41\r\n\r\nxxxxxxxxxxxxxxxxxxxxxxxxxxxxxxxxxxxxxxxxx",
+            MESSAGE,
+            b"Content-Length: 40\r\n\r\nxxxxxxxxxxxxxxxxxxxxxxxxxxxxxxxxxxxxxxxx",
+        ],
+        &["BodyTooLong", EXIT, "Body(Json)"],
+        None,
+    )?;
+    // The text in a skipped body is no head.
+    expect_small(
+        &rt,
+        alloc,
+        &[b"Content-Length: 55\r\n\r\n", MESSAGE, b"Content-Le"],
+        &["BodyTooLong"],
+        Some(ParseError::Rest),
+    )?;
+    expect_small(
+        &rt,
+        alloc,
+        &[b"X: aaaaaaaaaaaaaaaaaaaaaaaaaaaaaaaaaaaaaaaa\r\n", MESSAGE],
+        &["HeadTooLong", EXIT],
+        None,
+    )?;
+    // A head of 30 bytes, and one of 31.
+    expect_small(
+        &rt,
+        alloc,
+        &[
+            b"Content-Length: 0000000002\r\n\r\n{}",
+            b"Content-Length: 00000000002\r\n\r\n{}",
+            MESSAGE,
+        ],
+        &["Body(Message)", "HeadTooLong", EXIT],
+        None,
+    )?;
+    let a29 = b"aaaaaaaaaaaaaaaaaaaaaaaaaaaaa";
+    expect_small(&rt, alloc, &[a29], &[], Some(ParseError::Rest))?;
+    expect_small(&rt, alloc, &[a29, b"a"], &["HeadTooLong"], None)?;
+    expect_stream(
+        &rt,
+        alloc,
+        &[b"Content-Length: 67108865\r\n\r\n"],
+        &["BodyTooLong", "More"],
+    )
+}
+
+#[test]
+fn holds_little(rt: HostRuntime) -> Result<(), Fail> {
+    let mut codec = LanguageServerCodec::with_limits(rt.alloc(), SMALL);
+    // What is fed, the item that it tells, and how many bytes are held then.
+    let table: [(&[u8], &str, u64); 8] = [
+        (b"Content-Length: 33\r\n\r", "More", 21),
+        (b"\n{\"jsonrpc\":", "More", 11),
+        (b"\"2.0\",\"method\":\"exit\"}", EXIT, 0),
+        (b"Content-Length: 41\r\n\r\nxyz", "BodyTooLong", 3),
+        (b"0123456789", "More", 0),
+        (b"0123456789012345678901234567", "More", 0),
+        (
+            b"aaaaaaaaaaaaaaaaaaaaaaaaaaaaaaaaaaaaaaaa",
+            "HeadTooLong",
+            39,
+        ),
+        (b"", "More", 13),
+    ];
+    for (piece, want, held) in table {
+        codec.feed(piece)?;
+        expect_items(&rt, rt.alloc(), &mut codec, &[want])?;
+        assert!(rt; codec.held() == held);
+    }
+    Ok(())
+}
+
 #[test]
 fn writes_a_frame(rt: HostRuntime) -> Result<(), Fail> {
     let mut codec = LanguageServerCodec::default(rt.alloc());
@@ -253,6 +363,16 @@ fn faults(rt: HostRuntime) -> Result<(), Fail> {
             ParseError::Rest,
             ErrorCode::ParseError,
             "input ended inside a frame",
+        ),
+        (
+            ParseError::HeadTooLong,
+            ErrorCode::ParseError,
+            "head too long",
+        ),
+        (
+            ParseError::BodyTooLong,
+            ErrorCode::ParseError,
+            "body too long",
         ),
     ];
     for (fault, code, text) in table {

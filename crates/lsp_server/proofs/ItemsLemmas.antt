@@ -4,8 +4,8 @@ use Rattle.std.specs.Prelude.{◌||◌, if◌then◌else◌, Option, Some, None}
 use Rattle.std.proofs.lemmas.List.{append-nil}
 use Rattle.lsp_rpc.specs.Message.{request, response}
 use Rattle.lsp_desk.specs.declared.life.Life.{Life}
-use Rattle.lsp_desk.specs.declared.life.Life.TheVariants.{Uninitialized, Initialized, ShutDown, Exited}
-use Rattle.lsp_desk.specs.Desk.{is_exited}
+use Rattle.lsp_desk.specs.declared.life.Life.TheVariants.{Uninitialized, Initializing, Initialized, ShutDown, Exited}
+use Rattle.lsp_desk.specs.Lives.{is_exited}
 use Rattle.lsp_session.specs.declared.table.Entry.{Entry}
 use Rattle.lsp_session.specs.Item.{ItemData, message, fault, tick}
 use Rattle.lsp_session.specs.Semantics.{Semantics, IsLawful}
@@ -71,6 +71,7 @@ module _ {H C T P : Type 0} (semantics : Semantics H C T) (laws : IsLawful seman
 
 pub not_exited : (life : Life) → (life ≡ Exited → ⊥) → is_exited life ≡ false
 not_exited Uninitialized h = refl
+not_exited Initializing h = refl
 not_exited Initialized h = refl
 not_exited ShutDown h = refl
 not_exited Exited h = absurd (h refl)

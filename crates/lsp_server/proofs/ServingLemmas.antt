@@ -5,6 +5,7 @@ use Rattle.std.specs.Io.KnownBytes.{Consumes, Keeps}
 use Rattle.std.proofs.lemmas.List.{append-nil, map-append}
 use Rattle.lsp_desk.specs.Meaning.{Meaning, Grown}
 use Rattle.lsp_frame.specs.Codec.{Item, At, start, more, items_at, told_at, frames}
+use Rattle.lsp_frame.specs.declared.limits.Limits.{Limits}
 use Rattle.lsp_session.specs.declared.table.Entry.{Entry}
 use Rattle.lsp_session.specs.Item.{ItemData}
 use Rattle.lsp_session.specs.Semantics.{Semantics, IsLawful}
@@ -22,7 +23,7 @@ use Rattle.lsp_server.proofs.CodecLemmas.{decodes_more, decodes_fed, told_now, m
 use Rattle.lsp_server.proofs.RanLemmas.{ran_more, part_none}
 use Rattle.lsp_server.proofs.GoingLemmas.{Going, going_start, going_served}
 
-module _ {H D C T P : Type 0} (semantics : Semantics H C T) (m : Meaning D) (order : Order P) (rounds : ℕ) where
+module _ {H D C T P : Type 0} (semantics : Semantics H C T) (m : Meaning D) (order : Order P) (rounds : ℕ) (limits : Limits) where
   -- the loop over the reads has come this far
   pub record Serving (a : Point semantics D P) (left0 : Option (List ℕ)) (b : Point semantics D P) (left1 : Option (List ℕ)) (codec : At) (count : ℕ) : Type 0 where
     pub fed : List ℕ
@@ -30,23 +31,23 @@ module _ {H D C T P : Type 0} (semantics : Semantics H C T) (m : Meaning D) (ord
     pub each : count ≤ length fed
     pub most : length fed ≤ count * 4096
     pub gives : Consumes left0 left1 fed
-    pub going : Going semantics m order rounds a (more start fed) b codec
+    pub going : Going semantics m order rounds a (more (start limits) fed) b codec
     pub told : told_at codec ≡ []
 
-module _ {H D C T P : Type 0} {semantics : Semantics H C T} {m : Meaning D} {order : Order P} {rounds : ℕ} where
-  pub serving_start : (a : Point semantics D P) (left0 : Option (List ℕ)) (codec : At) → GoesOn semantics a → codec ≡ start → Serving semantics m order rounds a left0 a left0 codec 0
+module _ {H D C T P : Type 0} {semantics : Semantics H C T} {m : Meaning D} {order : Order P} {rounds : ℕ} {limits : Limits} where
+  pub serving_start : (a : Point semantics D P) (left0 : Option (List ℕ)) (codec : At) → GoesOn semantics a → codec ≡ start limits → Serving semantics m order rounds limits a left0 a left0 codec 0
   serving_start a left0 codec goes_on fresh = record {
     fed = [];
     each = omega arith;
     most = omega arith;
     gives = consumes_none left0;
-    going = subst (λ c. Going semantics m order rounds a (more start []) a c) (sym fresh) (going_start a start goes_on);
+    going = subst (λ c. Going semantics m order rounds a (more (start limits) []) a c) (sym fresh) (going_start a (start limits) goes_on);
     told = ap told_at fresh;
   }
 
-  module _ (a : Point semantics D P) (left0 : Option (List ℕ)) (b : Point semantics D P) (left1 : Option (List ℕ)) (codec1 : At) (count : ℕ) (serving : Serving semantics m order rounds a left0 b left1 codec1 count) where
+  module _ (a : Point semantics D P) (left0 : Option (List ℕ)) (b : Point semantics D P) (left1 : Option (List ℕ)) (codec1 : At) (count : ℕ) (serving : Serving semantics m order rounds limits a left0 b left1 codec1 count) where
     -- the same where a read failed
-    pub serving_kept : (left2 : Option (List ℕ)) → Keeps left1 left2 → Serving semantics m order rounds a left0 b left2 codec1 count
+    pub serving_kept : (left2 : Option (List ℕ)) → Keeps left1 left2 → Serving semantics m order rounds limits a left0 b left2 codec1 count
     serving_kept left2 keeps = record {
       fed = serving.fed;
       each = serving.each;
@@ -57,8 +58,8 @@ module _ {H D C T P : Type 0} {semantics : Semantics H C T} {m : Meaning D} {ord
     }
 
     -- the same where the bytes are told
-    pub serving_of : (bytes : List ℕ) → left0 ≡ Some bytes → Serving semantics m order rounds a (Some bytes) b left1 codec1 count
-    serving_of bytes is = subst (λ l. Serving semantics m order rounds a l b left1 codec1 count) is serving
+    pub serving_of : (bytes : List ℕ) → left0 ≡ Some bytes → Serving semantics m order rounds limits a (Some bytes) b left1 codec1 count
+    serving_of bytes is = subst (λ l. Serving semantics m order rounds limits a l b left1 codec1 count) is serving
 
     module _ (laws : IsLawful semantics) where
       abbrev so_far : List ItemData
@@ -68,8 +69,8 @@ module _ {H D C T P : Type 0} {semantics : Semantics H C T} {m : Meaning D} {ord
       same_table name = run_table semantics laws order rounds a.state b.state so_far serving.going.ran.effect serving.going.ran.run name
 
       -- the items given so far are those that the bytes read tell
-      told_is : stream_told serving.fed ≡ so_far
-      told_is = ap all_admitted (told_now (more start serving.fed) codec1 serving.going.given serving.going.decodes ∙ ap (λ l. serving.going.given ++ l) serving.told ∙ append-nil serving.going.given)
+      told_is : stream_told limits serving.fed ≡ so_far
+      told_is = ap all_admitted (told_now (more (start limits) serving.fed) codec1 serving.going.given serving.going.decodes ∙ ap (λ l. serving.going.given ++ l) serving.told ∙ append-nil serving.going.given)
 
       -- ---- one piece more
 
@@ -81,9 +82,9 @@ module _ {H D C T P : Type 0} {semantics : Semantics H C T} {m : Meaning D} {ord
         all_gives : Consumes left0 left2 (serving.fed ++ piece)
         all_gives = consumes_more left0 left1 left2 serving.fed piece serving.gives gives
 
-        decoded : Decodes (more start (serving.fed ++ piece)) all codec2
-        decoded = decodes_more (more start (serving.fed ++ piece)) (more codec1 piece) codec2 serving.going.given told.given
-            (decodes_fed (more start serving.fed) codec1 serving.going.given piece serving.going.decodes) told.decodes
+        decoded : Decodes (more (start limits) (serving.fed ++ piece)) all codec2
+        decoded = decodes_more (more (start limits) (serving.fed ++ piece)) (more codec1 piece) codec2 serving.going.given told.given
+            (decodes_fed (more (start limits) serving.fed) codec1 serving.going.given piece serving.going.decodes) told.decodes
 
         ran_all : Ran (Step semantics order rounds) m a (all_admitted all) d
         ran_all = subst (λ l. Ran (Step semantics order rounds) m a l d) (sym (map-append admitted serving.going.given told.given))
@@ -96,7 +97,7 @@ module _ {H D C T P : Type 0} {semantics : Semantics H C T} {m : Meaning D} {ord
             ∙ ap (λ x. x || has_exit (find_at semantics a) (all_admitted told.given)) serving.going.none ∙ sym (has_exit_same (find_at semantics b) (find_at semantics a) (all_admitted told.given) same_table) ∙ none
 
       pub serving_more : (left2 : Option (List ℕ)) (piece : List ℕ) → Consumes left1 left2 piece → (d : Point semantics D P) (codec2 : At) (next : ℕ)
-          → ServedTold (Step semantics order rounds) m (find_at semantics b) b (more codec1 piece) false d codec2 → GoesOn semantics d → next ≤ count + length piece → length serving.fed + length piece ≤ next * 4096 → Serving semantics m order rounds a left0 d left2 codec2 next
+          → ServedTold (Step semantics order rounds) m (find_at semantics b) b (more codec1 piece) false d codec2 → GoesOn semantics d → next ≤ count + length piece → length serving.fed + length piece ≤ next * 4096 → Serving semantics m order rounds limits a left0 d left2 codec2 next
       serving_more left2 piece gives d codec2 next told goes_on enough few = record {
         fed = serving.fed ++ piece;
         each = omega (arith, length-append serving.fed piece, serving.each);
@@ -114,9 +115,9 @@ module _ {H D C T P : Type 0} {semantics : Semantics H C T} {m : Meaning D} {ord
 
 -- ---- what it comes to, where the bytes are told
 
-module _ {H D C T P : Type 0} {semantics : Semantics H C T} (laws : IsLawful semantics) {m : Meaning D} {order : Order P} {rounds : ℕ}
+module _ {H D C T P : Type 0} {semantics : Semantics H C T} (laws : IsLawful semantics) {m : Meaning D} {order : Order P} {rounds : ℕ} {limits : Limits}
     (old : SessionView H D semantics.Call semantics.Task) (p : P) (taken0 : Option (List ℕ)) (bytes : List ℕ) (b : Point semantics D P) (left1 : Option (List ℕ)) (codec1 : At) (count : ℕ)
-    (serving : Serving semantics m order rounds (place old p taken0) (Some bytes) b left1 codec1 count) where
+    (serving : Serving semantics m order rounds limits (place old p taken0) (Some bytes) b left1 codec1 count) where
   abbrev a : Point semantics D P
   a = place old p taken0
 
@@ -127,7 +128,7 @@ module _ {H D C T P : Type 0} {semantics : Semantics H C T} (laws : IsLawful sem
   find_b = semantics.find b.state.session.service
 
   abbrev way : Course (Picked (State H semantics.Call semantics.Task) P) D
-  way = course_from semantics m order rounds old p
+  way = course_from semantics m order rounds limits old p
 
   abbrev before : List ItemData
   before = all_admitted serving.going.given
@@ -135,7 +136,7 @@ module _ {H D C T P : Type 0} {semantics : Semantics H C T} (laws : IsLawful sem
   tables_agree : (name : List ℕ) → find_b name ≡ find name
   tables_agree = same_table a (Some bytes) b left1 codec1 count serving laws
 
-  told_before : stream_told serving.fed ≡ before
+  told_before : stream_told limits serving.fed ≡ before
   told_before = told_is a (Some bytes) b left1 codec1 count serving laws
 
   -- ---- between two reads what was written is exact
@@ -159,7 +160,7 @@ module _ {H D C T P : Type 0} {semantics : Semantics H C T} (laws : IsLawful sem
     read_all : Consumes (Some bytes) left2 (serving.fed ++ piece)
     read_all = all_gives a (Some bytes) b left1 codec1 count serving laws left2 piece gives d codec2 true told
 
-    all_decoded : Decodes (more start (serving.fed ++ piece)) given codec2
+    all_decoded : Decodes (more (start limits) (serving.fed ++ piece)) given codec2
     all_decoded = decoded a (Some bytes) b left1 codec1 count serving laws left2 piece gives d codec2 true told
 
     -- the items given end with the exit
@@ -176,26 +177,26 @@ module _ {H D C T P : Type 0} {semantics : Semantics H C T} (laws : IsLawful sem
     exit_is : is_exit find told.ends.exit ≡ true
     exit_is = sym (same_exit find_b find told.ends.exit tables_agree) ∙ told.ends.is
 
-    served_is : served find (stream_items bytes) ≡ all_admitted given
+    served_is : served find (stream_items limits bytes) ≡ all_admitted given
     served_is =
         let left = what_is_left bytes left2 (serving.fed ++ piece) read_all in
         let rest = all_admitted (items_at (more codec2 left.0)) in
-        ap (λ l. served find (stream_items l)) left.2
+        ap (λ l. served find (stream_items limits l)) left.2
         ∙ ap (λ l. served find (all_admitted l)) (all_decoded.items left.0)
         ∙ ap (served find) (map-append admitted given (items_at (more codec2 left.0)) ∙ ap (λ l. l ++ rest) given_is)
         ∙ served-closed find front told.ends.exit rest front_open exit_is ∙ sym given_is
 
-    pub at_exit : RanFrom way (call_bytes bytes left2 taken0 d.taken) (served find (stream_items bytes)) d.state d.desk
+    pub at_exit : RanFrom way (call_bytes bytes left2 taken0 d.taken) (served find (stream_items limits bytes)) d.state d.desk
     at_exit = subst (λ l. Ran (Step semantics order rounds) m a l d) (sym served_is) (ran_all a (Some bytes) b left1 codec1 count serving laws left2 piece gives d codec2 true told)
 
-    pub enough_at_exit : (size : ℕ) → length piece ≤ size → ReadEnough find (call_bytes bytes left2 taken0 d.taken) size
+    pub enough_at_exit : (size : ℕ) → length piece ≤ size → ReadEnough way (call_bytes bytes left2 taken0 d.taken) size
     enough_at_exit size short = record {
       early = serving.fed;
       piece = piece;
       gives = read_all;
       short = short;
       none = ap (has_exit find) told_before ∙ serving.going.none;
-      enough = inr (ap (λ l. has_exit find (all_admitted l)) (told_now (more start (serving.fed ++ piece)) codec2 given all_decoded)
+      enough = inr (ap (λ l. has_exit find (all_admitted l)) (told_now (more (start limits) (serving.fed ++ piece)) codec2 given all_decoded)
           ∙ ap (has_exit find) (map-append admitted given (told_at codec2)) ∙ has_exit-append find (all_admitted given) (all_admitted (told_at codec2))
           ∙ ap (λ x. x || has_exit find (all_admitted (told_at codec2)))
           (ap (has_exit find) given_is ∙ has_exit-append find front (told.ends.exit ∷ []) ∙ ap (λ x. x || (is_exit find told.ends.exit || false)) front_open ∙ ap (λ x. x || false) exit_is));
@@ -204,17 +205,17 @@ module _ {H D C T P : Type 0} {semantics : Semantics H C T} (laws : IsLawful sem
   -- ---- the end of input ends it
 
   pub at_end : (left2 : Option (List ℕ)) (d : Point semantics D P) → left1 ≡ Some [] → Ran (Step semantics order rounds) m b (served find_b (all_admitted (items_at codec1))) d
-      → RanFrom way (call_bytes bytes left2 taken0 d.taken) (served find (stream_items bytes)) d.state d.desk
+      → RanFrom way (call_bytes bytes left2 taken0 d.taken) (served find (stream_items limits bytes)) d.state d.desk
   at_end left2 d empty last =
       let read : bytes ≡ serving.fed = all_read bytes serving.fed left1 serving.gives empty in
-      let whole : before ++ served find_b (all_admitted (items_at codec1)) ≡ served find (stream_items bytes) =
+      let whole : before ++ served find_b (all_admitted (items_at codec1)) ≡ served find (stream_items limits bytes) =
       ap (λ l. before ++ l) (served_same find_b find (all_admitted (items_at codec1)) tables_agree)
       ∙ ap (λ c. before ++ served find (all_admitted (items_at c))) (sym (more_nothing codec1))
-      ∙ going_served a (more start serving.fed) b codec1 serving.going []
-      ∙ ap (λ l. served find (all_admitted (items_at (record { kind = start.kind; held = l })))) (append-nil serving.fed ∙ sym read) in
+      ∙ going_served a (more (start limits) serving.fed) b codec1 serving.going []
+      ∙ ap (λ l. served find (stream_items limits l)) (append-nil serving.fed ∙ sym read) in
       subst (λ l. Ran (Step semantics order rounds) m a l d) whole (ran_more a b d before (served find_b (all_admitted (items_at codec1))) serving.going.ran last)
 
-  pub enough_at_end : (left2 taken : Option (List ℕ)) (size : ℕ) → left1 ≡ Some [] → left2 ≡ Some [] → ReadEnough find (call_bytes bytes left2 taken0 taken) size
+  pub enough_at_end : (left2 taken : Option (List ℕ)) (size : ℕ) → left1 ≡ Some [] → left2 ≡ Some [] → ReadEnough way (call_bytes bytes left2 taken0 taken) size
   enough_at_end left2 taken size empty after = record {
     early = serving.fed;
     piece = [];
@@ -244,8 +245,8 @@ module _ {H D C T P : Type 0} {semantics : Semantics H C T} (laws : IsLawful sem
         run = subst (λ l. Run (Step semantics order rounds) a.state l serving.going.ran.effect b.state) (sym told_before) serving.going.ran.run;
         later = served find_b coming;
         split = ap (λ l. l ++ served find_b coming) told_before ∙ ap (λ l. before ++ l) (served_same find_b find coming tables_agree)
-            ∙ going_served a (more start serving.fed) b codec1 serving.going (piece ++ left.0)
-            ∙ ap (λ l. served find (stream_items l)) (sym (append_assoc serving.fed piece left.0) ∙ sym left.2);
+            ∙ going_served a (more (start limits) serving.fed) b codec1 serving.going (piece ++ left.0)
+            ∙ ap (λ l. served find (stream_items limits l)) (sym (append_assoc serving.fed piece left.0) ∙ sym left.2);
         written = now.written;
         part = now.part;
         writes = appends_more taken0 b.taken taken2 (frames serving.going.ran.effect.out) now.written serving.going.ran.writes now.writes;

@@ -71,33 +71,33 @@ handed_back view = record { service = view.state.service; desk = view.desk; exit
 -- what is written, and what is handed back, are those of a run over all these bytes
 pub record IsServed {H D C T P : Type 0} (course : Course (Picked (State H C T) P) D) (call : CallBytes) (served_view : ServedView H D) (pick : P) : Type 0 where
   pub last : Picked (State H C T) P
-  pub ran : RanFrom course call (served course.find (stream_items call.bytes)) last served_view.desk
+  pub ran : RanFrom course call (served course.find (stream_items course.limits call.bytes)) last served_view.desk
   pub service_is : served_view.service ≡ last.session.service
   pub desk_is : course.meaning.now served_view.desk ≡ last.session.desk
   pub exited_is : served_view.exited ≡ last.session.exited
   pub unanswered_is : served_view.unanswered ≡ live last.session
   pub pick_is : pick ≡ last.pick
   -- each owed request and each fault is answered once, but for what is listed
-  pub counts : Counts course.find (served course.find (stream_items call.bytes)) ran.effect.out served_view.unanswered
+  pub counts : Counts course.find (served course.find (stream_items course.limits call.bytes)) ran.effect.out served_view.unanswered
 
 -- the bytes were read to their end, or an exit is told in those that were read, and it is the last piece, of at
 -- most so many bytes, that tells it: nothing was read after that piece
-pub record ReadEnough (find : List ℕ → Option Entry) (call : CallBytes) (size : ℕ) : Type 0 where
+pub record ReadEnough {S D : Type 0} (course : Course S D) (call : CallBytes) (size : ℕ) : Type 0 where
   pub early : List ℕ
   pub piece : List ℕ
   pub gives : Consumes (Some call.bytes) call.left (early ++ piece)
   pub short : length piece ≤ size
-  pub none : has_exit find (stream_told early) ≡ false
-  pub enough : (call.left ≡ Some []) ⊎ (has_exit find (stream_told (early ++ piece)) ≡ true)
+  pub none : has_exit course.find (stream_told course.limits early) ≡ false
+  pub enough : (call.left ≡ Some []) ⊎ (has_exit course.find (stream_told course.limits (early ++ piece)) ≡ true)
 
 -- what is written is the frames of a run over the items told by the bytes read, and no exit is among them; the
 -- desk grew by that run's trace
 pub record WroteTold {S D : Type 0} (course : Course S D) (call : CallBytes) (desk : D) : Type 0 where
   pub read : List ℕ
   pub gives : Consumes (Some call.bytes) call.left read
-  pub none : has_exit course.find (stream_told read) ≡ false
+  pub none : has_exit course.find (stream_told course.limits read) ≡ false
   pub last : S
-  pub ran : RanFrom course call (stream_told read) last desk
+  pub ran : RanFrom course call (stream_told course.limits read) last desk
 
 -- what is written begins the frames of a run over all these bytes, and holds them whole for all items
 -- that are told by the bytes read but for a last piece of at most so many bytes
@@ -108,9 +108,9 @@ pub record WrotePart {S D : Type 0} (course : Course S D) (call : CallBytes) (si
   pub short : length piece ≤ size
   pub first : Effect
   pub mid : S
-  pub run : Run course.step course.start (stream_told early) first mid
+  pub run : Run course.step course.start (stream_told course.limits early) first mid
   pub later : List ItemData
-  pub split : stream_told early ++ later ≡ served course.find (stream_items call.bytes)
+  pub split : stream_told course.limits early ++ later ≡ served course.find (stream_items course.limits call.bytes)
   pub written : List ℕ
   pub part : IsPartOf course.step mid later written
   pub writes : Appends call.taken call.taken_after (frames first.out ++ written)

@@ -2,6 +2,7 @@
 use Rattle.std.specs.Prelude.{◌≡◌, ℕ, List, [], Option, false}
 use Rattle.lsp_desk.specs.declared.desk.Caller.{Ghosts as CallerGhosts}
 use Rattle.lsp_desk.specs.Meaning.{Meaning}
+use Rattle.lsp_frame.specs.declared.limits.Limits.{Limits}
 use Rattle.lsp_session.specs.declared.handlers.Handlers.{Ghosts as HandlersGhosts}
 use Rattle.lsp_session.specs.declared.session.Session.{Session}
 use Rattle.lsp_session.specs.Semantics.{Semantics}
@@ -21,9 +22,16 @@ server_desk s = s.socket.desk
 abbrev pub concurrency : {D : Type 0} {d : CallerGhosts D} → Server D d → ℕ
 concurrency s = s.max
 
+-- how many calls that wait let no further request wait
+abbrev pub waiting : {D : Type 0} {d : CallerGhosts D} → Server D d → ℕ
+waiting s = s.wait
+
+abbrev pub server_limits : {D : Type 0} {d : CallerGhosts D} → Server D d → Limits
+server_limits s = s.limits
+
 -- what the server runs a session with
 abbrev pub setting : {H D P : Type 0} {d : CallerGhosts D} → Server D d → H → P → ℕ → Setting H D P
-setting server service pick rounds = record { service = service; desk = server_desk server; max = concurrency server; rounds = rounds; pick = pick }
+setting server service pick rounds = record { service = service; desk = server_desk server; max = concurrency server; wait = waiting server; rounds = rounds; limits = server_limits server; pick = pick }
 
 -- ---- the session
 

@@ -3,8 +3,8 @@ ghost use Rattle.std.specs.Prelude.{◌≡◌, ◌≢◌, ◌≤◌, [], ◌∷�
 ghost use Rattle.std.specs.Io.KnownBytes.{Keeps};
 ghost use Rattle.lsp_desk.specs.Meaning.{Grown};
 ghost use Rattle.lsp_session.specs.Item.{show_item, item_has_float};
-ghost use Rattle.lsp_session.specs.Run.{Step, is_exit};
-ghost use Rattle.lsp_session.specs.SessionView.{session_view};
+ghost use Rattle.lsp_session.specs.Run.{Step, order_by, is_exit};
+ghost use Rattle.lsp_session.specs.SessionView.{session_view, desk_of, life_of};
 ghost use Rattle.lsp_server.specs.SourceSink.{CountRose, Flushes};
 ghost use Rattle.lsp_server.specs.Course.{picked};
 ghost use Rattle.lsp_server.specs.Written.{Ran, RanPart};
@@ -59,29 +59,30 @@ pub(crate) fn write_step<O: Sink, D: Desk + Drop, H: Handlers<D>, P: Pick>(
     rounds: u64,
 ) -> Result<(), ServeError>
     requires ready { IsReady H.semantics D.meaning session.old }
-    requires alive { (session_view H.semantics D.meaning session.old).state.desk.life ≢ Life.Exited }
+    requires alive { life_of D.meaning session.old ≢ Life.Exited }
     requires float_free { item_has_float (show_item item) ≡ false }
-    ensures ok { OnOk result (Ran (Step H.semantics (record { gives = P.gives; later = P.later }) rounds) D.meaning
+    ensures ok { OnOk result (Ran (Step H.semantics (order_by P.gives P.later) rounds) D.meaning
         (standing H.semantics D.meaning session.old (P.state pick.old) (O.taken sink.old)) (show_item item ∷ [])
         (standing H.semantics D.meaning session.new (P.state pick.new) (O.taken sink.new))) }
     ensures ready { OnOk result (IsReady H.semantics D.meaning session.new) }
     ensures lives { OnOk result (is_exit (H.semantics.find (session_view H.semantics D.meaning session.old).state.service) (show_item item) ≡ false
-        → (session_view H.semantics D.meaning session.new).state.desk.life ≢ Life.Exited) }
-    ensures part { OnErr result (RanPart (Step H.semantics (record { gives = P.gives; later = P.later }) rounds)
+        → life_of D.meaning session.new ≢ Life.Exited) }
+    ensures part { OnErr result (RanPart (Step H.semantics (order_by P.gives P.later) rounds)
         (picked (session_view H.semantics D.meaning session.old) (P.state pick.old)) (O.taken sink.old) (show_item item ∷ []) (O.taken sink.new)) }
-    ensures grown { OnErr result (Grown D.meaning (session_view H.semantics D.meaning session.old).desk (session_view H.semantics D.meaning session.new).desk) }
+    ensures grown { OnErr result (Grown D.meaning (desk_of session.old) (desk_of session.new)) }
     ensures flushed { O.flushed sink.new ≡ O.flushed sink.old }
     ensures count { O.faults sink.old ≤ O.faults sink.new }
     ensures write { IsErrOf result ServeError.WriteFault → CountRose (O.faults sink.old) (O.faults sink.new) }
     ensures unfailed { OnOk result (O.faults sink.new ≡ O.faults sink.old) }
     ensures left { IfErr result (λ e. LeavesSink e → O.faults sink.new ≡ O.faults sink.old) }
-    ensures spent { IfErr result (λ e. SaysSpent D.meaning (session_view H.semantics D.meaning session.new).desk e) }
+    ensures spent { IfErr result (λ e. SaysSpent D.meaning (desk_of session.new) e) }
     ensures others { IfErr result IsInStep }
 {
     match lsp_session::step(session, item, pick, rounds) {
         Ok(()) => {}
         Err(SessionFault::DeskSpent(n)) => return Err(ServeError::DeskSpent(n)),
-        Err(_) => return Err(ServeError::NoMemory),
+        Err(SessionFault::NoMemory) => return Err(ServeError::NoMemory),
+        Err(SessionFault::Exited(_)) => unreachable!(),
     }
     let out = session.take_out();
     match put(alloc, sink, &out) {

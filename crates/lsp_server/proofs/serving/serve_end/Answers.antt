@@ -2,7 +2,7 @@
 use Rattle.lsp_session.specs.SessionView.{session_view}
 use Rattle.lsp_server.specs.ServerView.{standing}
 use Rattle.lsp_server.proofs.KnownLemmas.{err_of}
-use Rattle.lsp_session.proofs.RunningLemmas.{on_ok}
+use Rattle.lsp_server.proofs.KnownLemmas.{on_ok}
 use Rattle.lsp_server.proofs.RanLemmas.{part_kept, part_whole, ran_kept, ran_grown}
 use Rattle.lsp_server.proofs.serving.serve_end.Goals as goal
 

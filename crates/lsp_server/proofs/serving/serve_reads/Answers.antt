@@ -2,7 +2,7 @@
 use Rattle.std.proofs.Common.{rules, arith, ◌+◌, ◌*◌, [], take, length-take, refl}
 use Rattle.lsp_session.specs.Run.{Order}
 use Rattle.lsp_session.specs.SessionView.{session_view}
-use Rattle.lsp_session.proofs.RunningLemmas.{on_ok}
+use Rattle.lsp_server.proofs.KnownLemmas.{on_ok}
 use Rattle.lsp_server.specs.ServerView.{standing}
 use Rattle.lsp_server.proofs.KnownLemmas.{either, if_told, read_enough, few_read, kept_none, at_zero, consumes_none}
 use Rattle.lsp_server.proofs.RanLemmas.{part_whole, ran_grown, grown_after}
@@ -12,8 +12,8 @@ use Rattle.lsp_server.proofs.serving.serve_reads.Goals as goal
 
 pub loop-init : goal.loop-init
 loop-init g c = record {
-  serving = serving_start (standing g.H.Handlers.semantics g.D.Caller.meaning c.args.session.now (g.P.Pick.state c.args.pick.now) (g.O.Sink.taken c.args.sink.now)) (g.I.Source.left c.args.source.now) c.default-codec.result
-      (record { exited = c.requires.unexited; lives = c.requires.alive }) c.default-codec.ensures;
+  serving = serving_start (standing g.H.Handlers.semantics g.D.Caller.meaning c.args.session.now (g.P.Pick.state c.args.pick.now) (g.O.Sink.taken c.args.sink.now)) (g.I.Source.left c.args.source.now) c.with_limits-codec.result
+      (record { exited = c.requires.unexited; lives = c.requires.alive }) c.with_limits-codec.ensures;
   ready = c.requires.ready;
   size = refl;
   flushed = λ is. is;

@@ -12,7 +12,7 @@ invariant-loop g l =
     let m = g.D.Caller.meaning in
     let order : Order g.P.Pick.State = record { gives = g.P.Pick.gives; later = g.P.Pick.later } in
     record {
-      serving : Serving sem m order l.fn.rounds (standing sem m l.initial.session (g.P.Pick.state l.initial.pick) (g.O.Sink.taken l.initial.sink)) (g.I.Source.left l.initial.source)
+      serving : Serving sem m order l.fn.rounds l.fn.limits (standing sem m l.initial.session (g.P.Pick.state l.initial.pick) (g.O.Sink.taken l.initial.sink)) (g.I.Source.left l.initial.source)
           (standing sem m l.session (g.P.Pick.state l.pick) (g.O.Sink.taken l.sink)) (g.I.Source.left l.source) l.codec l.counter;
       ready : IsReady sem m l.session;
       size : length l.piece ≡ 4096;

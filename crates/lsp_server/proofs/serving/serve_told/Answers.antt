@@ -6,7 +6,6 @@ use Rattle.lsp_frame.specs.Codec.{items_at, more}
 use Rattle.lsp_session.specs.Item.{show_item}
 use Rattle.lsp_session.specs.Run.{Order, Step, served}
 use Rattle.lsp_session.specs.SessionView.{session_view}
-use Rattle.lsp_session.proofs.StepLemmas.{on_any_err}
 use Rattle.lsp_server.specs.Items.{all_admitted, GivesNext}
 use Rattle.lsp_server.specs.Written.{RanPart}
 use Rattle.lsp_server.specs.ServerView.{standing}

@@ -4,8 +4,8 @@ use Rattle.lsp_frame.specs.Codec.{items_at}
 use Rattle.lsp_session.specs.Item.{ItemData, fault, tick}
 use Rattle.lsp_session.specs.Run.{Order, Step, served}
 use Rattle.lsp_session.specs.SessionView.{session_view}
-use Rattle.lsp_session.proofs.RunningLemmas.{on_ok}
-use Rattle.lsp_session.proofs.StepLemmas.{on_err}
+use Rattle.lsp_server.proofs.KnownLemmas.{on_ok}
+use Rattle.lsp_server.proofs.KnownLemmas.{on_err}
 use Rattle.lsp_server.specs.Items.{all_admitted}
 use Rattle.lsp_server.specs.Written.{Ran, RanPart}
 use Rattle.lsp_server.specs.ServerView.{standing}

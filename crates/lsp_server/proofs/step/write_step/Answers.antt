@@ -15,8 +15,8 @@ pub returns-in-Err-DeskSpent-clause-part : goal.returns-in-Err-DeskSpent-clause-
 returns-in-Err-DeskSpent-clause-part g c =
     part_none (picked (session_view g.H.Handlers.semantics g.D.Caller.meaning c.args.session.now) (g.P.Pick.state c.args.pick.now)) (g.O.Sink.taken c.args.sink.now) (show_item c.args.item ∷ [])
 
-pub returns-in-Err-clause-part : goal.returns-in-Err-clause-part
-returns-in-Err-clause-part g c =
+pub returns-in-Err-NoMemory-clause-part : goal.returns-in-Err-NoMemory-clause-part
+returns-in-Err-NoMemory-clause-part g c =
     part_none (picked (session_view g.H.Handlers.semantics g.D.Caller.meaning c.args.session.now) (g.P.Pick.state c.args.pick.now)) (g.O.Sink.taken c.args.sink.now) (show_item c.args.item ∷ [])
 
 pub returns-in-Ok-put-clause-ok : goal.returns-in-Ok-put-clause-ok
@@ -52,6 +52,6 @@ returns-clause-part g c =
     let sem = g.H.Handlers.semantics in
     let m = g.D.Caller.meaning in
     let order : Order g.P.Pick.State = record { gives = g.P.Pick.gives; later = g.P.Pick.later } in
-    let p = c.in-Err-NoMemory.ensures.part in
+    let p = c.in-Err-NoMemory-put.ensures.part in
     part_one sem m order c.args.rounds (g.O.Sink.taken c.args.sink.now) (g.O.Sink.taken c.put.new.sink) (session_view sem m c.args.session.now) (session_view sem m c.step.new.session)
     (g.P.Pick.state c.args.pick.now) (g.P.Pick.state c.step.new.pick) (show_item c.args.item) (map show_message c.take_out-out.result.items) p.0 c.in-Ok.ensures.ok c.requires.ready.taken c.take_out-out.ensures.taken p.1 p.2

@@ -1,7 +1,9 @@
 use Rattle.std.specs.Prelude.{◌↔◌}
-use Rattle.std.proofs.Common.{◌≡◌, Option, None, subst, sym, ap, ◌∙◌}
-use Rattle.lsp_frame.specs.Lines.{Item}
-use Rattle.lsp_frame.proofs.WhatIsLeft.{AtOf, none_told}
+use Rattle.std.proofs.Common.{◌≡◌, ◌≤◌, length, drop, Option, None, subst, sym, ap, ◌∙◌}
+use Rattle.lsp_frame.specs.Transitions.{Item}
+use Rattle.lsp_frame.specs.Items.{most_held}
+use Rattle.lsp_frame.proofs.ItemsLeft.{AtOf, none_told, none_found}
+use Rattle.lsp_frame.proofs.HeldBytes.{held_at_most}
 use Rattle.lsp_frame.proofs.codec.LanguageServerCodec.decode.Goals as goal
 
 alike : (P : Type 0) (x y : Option Item) → x ≡ y → (y ≡ None) ↔ P → (x ≡ None) ↔ P
@@ -11,6 +13,16 @@ pub returns-clause-more : goal.returns-clause-more
 returns-clause-more c =
     let e = c.in_ok-next.ensures in
     let next = c.in_ok-next.next in
+    let limits = c.self.inside.limits in
     alike _ _ _ c.answer_of.ensures.value
-    (none_told c.args.self.now c.self.inside.kind next.kind c.as_slice.result.now _ next.item next.unfinished
-    (ap (AtOf c.self.inside.kind) c.as_slice.ensures ∙ c.self.view_is) e.goes e.ends)
+    (none_told limits c.args.self.now c.self.inside.state next.state c.as_slice.result.now _ next.item next.unfinished
+    (ap (AtOf limits c.self.inside.state) c.as_slice.ensures ∙ c.self.view_is) e.goes e.ends)
+
+pub returns-clause-held : goal.returns-clause-held
+returns-clause-held c = λ none.
+    let e = c.in_ok-next.ensures in
+    let next = c.in_ok-next.next in
+    let limits = c.self.inside.limits in
+    let waits = e.waits (none_found next.item (sym c.answer_of.ensures.value ∙ none)) in
+    subst (λ t. length t ≤ most_held limits) (sym (c.advance.ensures.items ∙ ap (drop next.consumed) (sym c.as_slice.ensures)))
+    (held_at_most limits next.state (drop next.consumed c.as_slice.result.now) waits e.allowed)

@@ -1,0 +1,80 @@
+use Rattle.std.proofs.Common.{◌≡◌, ◌∙◌, ◌+◌, ◌-◌, ◌≤◌, ℕ, List, subst, sym, ap, drop, length, option_map, arith, length-drop}
+use Rattle.std.proofs.lemmas.Grind.{common_steps}
+use Rattle.lsp_frame.specs.Items.{all_from, Stands, IsTrimmed}
+use Rattle.lsp_frame.specs.Transitions.{transition}
+use Rattle.lsp_frame.specs.Kept.{IsLooked}
+use Rattle.lsp_frame.specs.Shown.{show_transition, show_found, IsWithinBytes}
+use Rattle.lsp_frame.specs.declared.limits.Limits.{Limits}
+use Rattle.lsp_frame.specs.declared.state.DecodeState.{DecodeState}
+use Rattle.lsp_frame.proofs.ItemsByTransition.{last_at_unfinished, after_go, after_smaller}
+use Rattle.lsp_frame.proofs.WaitingItems.{items_stopped, none_stopped, waits_stopped, waits_unfinished}
+use Rattle.lsp_frame.proofs.HeldBytes.{goes_to_allowed}
+use Rattle.lsp_frame.proofs.ClearPlaces.{looked_further}
+use Rattle.lsp_frame.proofs.next_item.find_next.Goals as goal
+
+fits : (len place n : ℕ) → place ≤ len → n ≤ len - place → place + n ≤ len
+fits len place n a b = omega arith
+
+pub returns-in-Stop-clause-goes : goal.returns-in-Stop-clause-goes
+returns-in-Stop-clause-goes c = λ last more.
+    let is = sym c.in_ok-transition_from.ensures.value ∙ ap show_transition c.in-Stop.is in
+    c.transitions.invariant.same last more
+    ∙ items_stopped c.args.limits c.transitions.at c.args.bytes.now c.transitions.place is c.transitions.invariant.in_range c.waiting-state.result c.waiting-state.ensures last more
+
+pub returns-in-Stop-clause-ends : goal.returns-in-Stop-clause-ends
+returns-in-Stop-clause-ends c = λ _ last.
+    let is = sym c.in_ok-transition_from.ensures.value ∙ ap show_transition c.in-Stop.is in
+    none_stopped c.args.limits c.transitions.at c.args.bytes.now c.transitions.place is c.transitions.invariant.in_range c.waiting-state.result c.waiting-state.ensures last
+
+pub returns-in-Stop-clause-waits : goal.returns-in-Stop-clause-waits
+returns-in-Stop-clause-waits c = λ _.
+    let is = sym c.in_ok-transition_from.ensures.value ∙ ap show_transition c.in-Stop.is in
+    waits_stopped c.args.limits c.transitions.at c.args.bytes.now c.transitions.place is c.transitions.invariant.in_range c.waiting-state.result c.waiting-state.ensures
+
+pub returns-in-Stop-clause-clear : goal.returns-in-Stop-clause-clear
+returns-in-Stop-clause-clear c =
+    subst (IsLooked (drop (c.transitions.place + c.waiting-state.result.1) c.args.bytes.now)) (sym c.saturating_sub.ensures)
+    (looked_further c.args.bytes.now c.transitions.place c.waiting-state.result.1 c.transition_from.new.looked c.in_ok-transition_from.ensures.looked)
+
+pub returns-in-Unfinished-clause-ends : goal.returns-in-Unfinished-clause-ends
+returns-in-Unfinished-clause-ends c = λ _ last.
+    last_at_unfinished c.args.limits last c.transitions.at (drop c.transitions.place c.args.bytes.now) (sym c.in_ok-transition_from.ensures.value ∙ ap show_transition c.in-Unfinished.is)
+
+pub returns-in-Unfinished-clause-waits : goal.returns-in-Unfinished-clause-waits
+returns-in-Unfinished-clause-waits c = λ _.
+    waits_unfinished c.args.limits c.transitions.at (drop c.transitions.place c.args.bytes.now) (sym c.in_ok-transition_from.ensures.value ∙ ap show_transition c.in-Unfinished.is)
+
+pub returns-in-Some-clause-goes : goal.returns-in-Some-clause-goes
+returns-in-Some-clause-goes c = λ last more.
+    let is = sym c.in_ok-transition_from.ensures.value ∙ ap show_transition c.in-Go.is in
+    c.transitions.invariant.same last more
+    ∙ (rw c.in-Some.is at (after_go c.args.limits c.transitions.at c.in-Go.to c.args.bytes.now c.transitions.place c.in-Go.n (option_map show_found c.in-Go.item) is last more))
+
+pub returns-in-Some-clause-allowed : goal.returns-in-Some-clause-allowed
+returns-in-Some-clause-allowed c =
+    goes_to_allowed c.args.limits c.transitions.at (drop c.transitions.place c.args.bytes.now) (option_map show_found c.in-Go.item) c.in-Go.to c.in-Go.n
+    (sym c.in_ok-transition_from.ensures.value ∙ ap show_transition c.in-Go.is)
+
+pub returns-in-Some-clause-clear : goal.returns-in-Some-clause-clear
+returns-in-Some-clause-clear c =
+    subst (IsLooked (drop (c.transitions.place + c.in-Go.n) c.args.bytes.now)) (sym c.saturating_sub-reached.ensures)
+    (looked_further c.args.bytes.now c.transitions.place c.in-Go.n c.transition_from.new.looked c.in_ok-transition_from.ensures.looked)
+
+pub transitions-smaller : goal.transitions-smaller
+transitions-smaller c =
+    let is = sym c.in_ok-transition_from.ensures.value ∙ ap show_transition c.in-Go.is in
+    after_smaller c.args.limits c.transitions.at c.in-Go.to c.args.bytes.now c.transitions.place c.in-Go.n (option_map show_found c.in-Go.item) is
+
+pub transitions-preserved : goal.transitions-preserved
+transitions-preserved c =
+    let is = sym c.in_ok-transition_from.ensures.value ∙ ap show_transition c.in-Go.is in
+    record {
+      in_range = fits (length c.args.bytes.now) c.transitions.place c.in-Go.n c.transitions.invariant.in_range
+          (subst (IsWithinBytes (length c.args.bytes.now - c.transitions.place)) c.in-Go.is c.in_ok-transition_from.ensures.within);
+      same = λ last more.
+          c.transitions.invariant.same last more
+          ∙ (rw c.in_default.is at (after_go c.args.limits c.transitions.at c.in-Go.to c.args.bytes.now c.transitions.place c.in-Go.n (option_map show_found c.in-Go.item) is last more));
+      clear = subst (IsLooked (drop (c.transitions.place + c.in-Go.n) c.args.bytes.now)) (sym c.saturating_sub-reached.ensures)
+          (looked_further c.args.bytes.now c.transitions.place c.in-Go.n c.transition_from.new.looked c.in_ok-transition_from.ensures.looked);
+      allowed = goes_to_allowed c.args.limits c.transitions.at (drop c.transitions.place c.args.bytes.now) (option_map show_found c.in-Go.item) c.in-Go.to c.in-Go.n is;
+    }

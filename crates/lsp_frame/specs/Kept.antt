@@ -1,0 +1,40 @@
+-- What a codec keeps from one call to the next: how far it has looked, and what it may need.
+use Rattle.std.specs.Prelude.{◌≡◌, ◌≢◌, ℕ, zero, suc, ◌-◌, ◌<◌, ◌≤◌, ◌==◌, List, length, get_or, Bool, false, ⊤}
+use Rattle.lsp_frame.specs.declared.limits.Limits.{Limits}
+use Rattle.lsp_frame.specs.declared.state.DecodeState.{DecodeState}
+use Rattle.lsp_frame.specs.declared.state.DecodeState.TheVariants.{Frame, Search, Body, Skip}
+
+-- whether an LF stands right before this place
+abbrev pub is_after_lf : List ℕ → ℕ → Bool
+is_after_lf bs zero = false
+is_after_lf bs (suc i) = get_or bs i 0 == 10
+
+-- no empty line stands right after an LF before place k
+abbrev pub IsClear : List ℕ → ℕ → Type 0
+IsClear bs k = (i : ℕ) → suc i < k → get_or bs i 0 ≡ 10
+    → (get_or bs (suc i) 0 ≢ 10) × (get_or bs (suc i) 0 ≡ 13 → get_or bs (suc (suc i)) 0 ≢ 10)
+
+-- nor does one, whatever bytes follow
+abbrev pub IsLooked : List ℕ → ℕ → Type 0
+IsLooked bs k = (k ≤ length bs - 1) × IsClear bs k
+
+-- a body that is waited for is within the limit
+abbrev pub IsAllowed : Limits → DecodeState → Type 0
+IsAllowed limits Frame = ⊤
+IsAllowed limits Search = ⊤
+IsAllowed limits (Body n) = n ≤ limits.body
+IsAllowed limits (Skip n) = ⊤
+
+-- how many bytes aren't needed any more where a state stops at so many: all but those with which a search's text may begin, and all that are skipped
+abbrev pub unneeded : DecodeState → ℕ → ℕ
+unneeded Frame len = 0
+unneeded Search len = len - 13
+unneeded (Body n) len = 0
+unneeded (Skip n) len = len
+
+-- the state without them
+abbrev pub waiting : DecodeState → ℕ → DecodeState
+waiting Frame len = Frame
+waiting Search len = Search
+waiting (Body n) len = Body n
+waiting (Skip n) len = Skip (n - len)

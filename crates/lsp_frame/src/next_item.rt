@@ -1,0 +1,124 @@
+// The transitions up to the next item.
+ghost use Rattle.std.specs.Prelude.{◌≡◌, ◌≤◌, ◌+◌, ◌++◌, ◌-◌, ◌⊎◌, [], ℕ, List, length, drop, option_map, IfOk, None, if◌then◌else◌};
+ghost use Rattle.lsp_frame.specs.Transitions.{Item, transition as transition_of};
+ghost use Rattle.lsp_frame.specs.Items.{all_from, with_item, Stands, IsTrimmed};
+ghost use Rattle.lsp_frame.specs.Kept.{IsLooked, IsAllowed, unneeded, waiting as waiting_state};
+ghost use Rattle.lsp_frame.specs.Shown.{show_found, show_transition, IsWithinBytes, IsItemFloatFree, IsFoundFloatFree};
+
+use crate::limits::Limits;
+use crate::parse_error::ParseError;
+use crate::state::DecodeState;
+use crate::transition::{Transition, transition_at};
+use lsp_rpc::Message;
+use no_memory::NoMemory;
+use std::alloc::Global;
+
+// The next item, if there is one, and where decoding stands after it.
+#[derive(Drop)]
+pub(crate) struct Next {
+    pub item: Option<Result<Message, ParseError>>,
+    // Whether the input, if it ends here, ends inside a frame.
+    pub unfinished: bool,
+    pub state: DecodeState,
+    // How many bytes are needed no more.
+    pub consumed: usize,
+    // How far the bytes after those were looked through for an empty line.
+    pub looked: usize,
+}
+
+// The transition at a place of the bytes.
+fn transition_from(
+    alloc: Global,
+    limits: Limits,
+    state: DecodeState,
+    bytes: &[u8],
+    place: usize,
+    looked: &mut usize,
+) -> Result<Transition, NoMemory>
+    requires place { place ≤ length bytes.now }
+    requires clear { IsLooked (drop place bytes.now) looked.old }
+    ensures value { IfOk result (λ t. show_transition t ≡ transition_of limits state (drop place bytes.now)) }
+    ensures within { IfOk result (λ t. IsWithinBytes (length bytes.now - place) t) }
+    ensures floats { IfOk result (λ t. IsItemFloatFree t) }
+    ensures looked { IsLooked (drop place bytes.now) looked.new }
+{
+    transition_at(alloc, limits, state, &bytes[place..], looked)
+}
+
+// With so many bytes at the end a `Content-Length` may begin that goes on after them.
+const KEPT: usize = 13;
+
+// Where decoding waits that stops at so many bytes, and how many of them it needs no more.
+fn waiting(state: DecodeState, len: usize) -> (DecodeState, usize)
+    ensures { result ≡ (waiting_state state len, unneeded state len) }
+{
+    match state {
+        DecodeState::Search => (state, len.saturating_sub(KEPT)),
+        DecodeState::Skip(left) => (DecodeState::Skip(left.saturating_sub(len as u64)), len),
+        DecodeState::Frame | DecodeState::Body(_) => (state, 0),
+    }
+}
+
+// Makes the transitions from the front of the bytes up to the first that gives an item, or that
+// gives none and goes on nowhere.
+pub(crate) fn find_next(
+    alloc: Global,
+    limits: Limits,
+    state: DecodeState,
+    bytes: &[u8],
+    looked: usize,
+) -> Result<Next, NoMemory>
+    requires clear { IsLooked bytes.now looked }
+    requires allowed { IsAllowed limits state }
+    ensures within { IfOk result (λ r. r.consumed ≤ length bytes.now) }
+    ensures goes { IfOk result (λ r. (last : List Item) (c : List ℕ) → all_from limits last state (bytes.now ++ c)
+        ≡ with_item (option_map show_found r.item) (all_from limits last r.state (drop r.consumed bytes.now ++ c))) }
+    ensures ends { IfOk result (λ r. r.item ≡ None → (last : List Item)
+        → all_from limits last r.state (drop r.consumed bytes.now) ≡ (if r.unfinished then last else [])) }
+    ensures waits { IfOk result (λ r. r.item ≡ None → Stands (transition_of limits r.state (drop r.consumed bytes.now))
+        × IsTrimmed r.state (drop r.consumed bytes.now)) }
+    ensures allowed { IfOk result (λ r. IsAllowed limits r.state) }
+    ensures clear { IfOk result (λ r. IsLooked (drop r.consumed bytes.now) r.looked) }
+    ensures floats { IfOk result (λ r. IsFoundFloatFree r.item) }
+{
+    let mut at = state;
+    let mut place = 0;
+    let mut reached = looked;
+    'transitions: loop {
+        match transition_from(alloc, limits, at, bytes, place, &mut reached)? {
+            Transition::Stop => {
+                let (state, n) = waiting(at, bytes.len() - place);
+                return Ok(Next {
+                    item: None,
+                    unfinished: false,
+                    state,
+                    consumed: place + n,
+                    looked: reached.saturating_sub(n),
+                });
+            }
+            Transition::Unfinished => {
+                return Ok(Next {
+                    item: None,
+                    unfinished: true,
+                    state: at,
+                    consumed: place,
+                    looked: reached,
+                });
+            }
+            Transition::Go(item, to, n) => {
+                at = to;
+                place += n;
+                reached = reached.saturating_sub(n);
+                if let Some(found) = item {
+                    return Ok(Next {
+                        item: Some(found),
+                        unfinished: false,
+                        state: at,
+                        consumed: place,
+                        looked: reached,
+                    });
+                }
+            }
+        }
+    }
+}

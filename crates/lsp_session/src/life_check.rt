@@ -1,0 +1,60 @@
+//! What a life lets a layer do, and how a life changes.
+ghost use Rattle.std.specs.Prelude.{◌≡◌};
+ghost use Rattle.lsp_session.specs.Admission.{check_life as check_lem};
+ghost use Rattle.lsp_session.specs.Polled.{shown_change};
+
+use crate::{Layer, Life, Progress};
+
+/// What happens to a life.
+#[derive(Clone, Copy, Debug, PartialEq, Eq)]
+pub enum LifeChange {
+    /// It stays.
+    Stays,
+    /// It rises to this one.
+    Rises(Life),
+    /// An `initialize` ended without a result.
+    Falls,
+}
+
+/// What a life lets a layer do.
+#[derive(Clone, Copy, Debug, PartialEq, Eq)]
+pub enum LifeCheck {
+    /// Admission goes on, and this happens to the life.
+    Passes(LifeChange),
+    /// The server isn't initialized.
+    NotInitialized,
+    /// The request has no place in this life.
+    Invalid,
+}
+
+/// What the life lets the layer do. A `shutdown` that passes raises the life.
+pub(crate) fn check_life(life: Life, layer: Layer) -> LifeCheck
+    ensures { result ≡ check_lem life layer }
+{
+    match (life, layer) {
+        (_, Layer::Exit | Layer::Cancel) => LifeCheck::Passes(LifeChange::Stays),
+        (Life::Uninitialized, Layer::Initialize) => LifeCheck::Passes(LifeChange::Stays),
+        (Life::Uninitialized | Life::Initializing, Layer::Shutdown | Layer::Normal) => {
+            LifeCheck::NotInitialized
+        }
+        (Life::Initialized, Layer::Shutdown) => {
+            LifeCheck::Passes(LifeChange::Rises(Life::ShutDown))
+        }
+        (Life::Initialized, Layer::Normal) => LifeCheck::Passes(LifeChange::Stays),
+        _ => LifeCheck::Invalid,
+    }
+}
+
+/// What a poll makes of the life: an `initialize` that ends with a result raises it, and one that
+/// ends without makes it fall.
+pub(crate) fn poll_change<T>(life: Life, layer: Layer, progress: &Progress<T>) -> LifeChange
+    ensures { result ≡ shown_change life layer progress.now }
+{
+    match (life, layer, progress) {
+        (Life::Initializing, Layer::Initialize, Progress::Done(Ok(_))) => {
+            LifeChange::Rises(Life::Initialized)
+        }
+        (Life::Initializing, Layer::Initialize, Progress::Done(Err(_))) => LifeChange::Falls,
+        _ => LifeChange::Stays,
+    }
+}
