@@ -1,6 +1,11 @@
 pub mod MemoryLemmas
 pub mod KnownLemmas
 pub mod FramesLemmas
+pub mod ItemsLemmas
+pub mod CodecLemmas
+pub mod PointLemmas
 pub mod RanLemmas
 pub mod GoingLemmas
 pub mod ServingLemmas
+pub mod ErrorLemmas
+pub mod HandedLemmas

@@ -4,101 +4,42 @@ use Rattle.std.specs.Prelude.{Option, None, is_some}
 use Rattle.std.specs.Io.KnownBytes.{Appends, Keeps}
 use Rattle.std.proofs.lemmas.List.{append-nil}
 use Rattle.lsp_rpc.specs.Message.{MessageData}
+use Rattle.lsp_desk.specs.declared.life.Life.TheVariants.{Exited}
+use Rattle.lsp_desk.specs.Meaning.{Meaning, Grown}
+use Rattle.lsp_desk.proofs.TraceLemmas.{grows_none, grows_on}
 use Rattle.lsp_frame.specs.Codec.{frames}
-use Rattle.lsp_session.specs.declared.state.Life.TheVariants.{Exited}
 use Rattle.lsp_session.specs.Item.{ItemData}
-use Rattle.lsp_session.specs.Rules.{Rules}
-use Rattle.lsp_session.specs.Run.{State, nothing, both, Step, is_exit}
-use Rattle.lsp_session.specs.Session.{SessionView, Steps}
-use Rattle.lsp_session.proofs.RunLemmas.{both-nothing, run_on, Notes, step_notes, step_lives, not_exited, alive}
-use Rattle.lsp_server.specs.Written.{IsPrefixOf, Ran, RanPart}
+use Rattle.lsp_session.specs.Semantics.{Semantics, IsLawful}
+use Rattle.lsp_session.specs.State.{State, Effect, nothing, both}
+use Rattle.lsp_session.specs.Run.{Order, Picked, Step, is_exit}
+use Rattle.lsp_session.specs.Session.{SessionView, Advances}
+use Rattle.lsp_session.proofs.RoundLemmas.{both-nothing}
+use Rattle.lsp_session.proofs.StepLemmas.{run_on, grown_on}
+use Rattle.lsp_session.proofs.LifeLemmas.{Notes, step_notes, step_lives}
+use Rattle.lsp_server.specs.Course.{picked}
+use Rattle.lsp_server.specs.Written.{IsPrefixOf, Place, place, Ran, RanPart}
 use Rattle.lsp_server.proofs.KnownLemmas.{appends_none, appends_more, appends_kept, prefix_all}
 use Rattle.lsp_server.proofs.FramesLemmas.{frames-append}
+use Rattle.lsp_server.proofs.PointLemmas.{Point}
+use Rattle.lsp_server.proofs.ItemsLemmas.{not_exited, alive}
 
-module _ {H C : Type 0} (rules : Rules H C) where
-  -- one step, all of it written
-  pub ran_one : (taken0 taken1 : Option (List ℕ)) (old mid : SessionView H) (item : ItemData) (out : List MessageData)
-      → Steps rules old item mid → old.out ≡ [] → out ≡ mid.out → Appends taken0 taken1 (frames out)
-      → Ran rules taken0 old.state (item ∷ []) taken1 (record { state = mid.state; out = []; stopped = mid.stopped })
-  ran_one taken0 taken1 old mid item out steps empty is writes =
-      let e = steps.effect in
-      let same : out ≡ e.out = is ∙ steps.goes_on.out ∙ ap (λ l. l ++ e.out) empty in
-      record {
-        effect = e;
-        run = (mid.state, e, nothing, steps.does, (refl, refl), sym (both-nothing e));
-        writes = subst (λ (o : List MessageData). Appends taken0 taken1 (frames o)) same writes;
-        taken = refl;
-        running = steps.goes_on.running;
-      }
+pub grown_none : {D : Type 0} (m : Meaning D) (d : D) → Grown m d d
+grown_none m d = record { trace = []; grows = grows_none m d }
 
-  -- one step, some of it written
-  pub part_one : (taken0 taken1 : Option (List ℕ)) (old mid : SessionView H) (item : ItemData) (out : List MessageData) (written : List ℕ)
-      → Steps rules old item mid → old.out ≡ [] → out ≡ mid.out → IsPrefixOf written (frames out) → Appends taken0 taken1 written
-      → RanPart rules taken0 old.state (item ∷ []) taken1
-  part_one taken0 taken1 old mid item out written steps empty is part writes =
-      let e = steps.effect in
-      let same : out ≡ e.out = is ∙ steps.goes_on.out ∙ ap (λ l. l ++ e.out) empty in
-      record {
-        written = written;
-        part = record {
-          given = item ∷ [];
-          rest = [];
-          split = refl;
-          effect = e;
-          last = mid.state;
-          run = (mid.state, e, nothing, steps.does, (refl, refl), sym (both-nothing e));
-          part = subst (λ (o : List MessageData). IsPrefixOf written (frames o)) same part;
-        };
-        writes = writes;
-      }
+-- ---- runs of any step
 
+module _ {S : Type 0} {step : S → ItemData → Effect → S → Type 0} where
   -- nothing was run
-  pub part_none : (taken : Option (List ℕ)) (old : State H) (served : List ItemData) → RanPart rules taken old served taken
-  part_none taken old served = record {
+  pub part_none : (old : S) (taken : Option (List ℕ)) (items : List ItemData) → RanPart step old taken items taken
+  part_none old taken items = record {
     written = [];
-    part = record { given = []; rest = served; split = refl; effect = nothing; last = old; run = (refl, refl); part = ([], refl) };
+    part = record { given = []; rest = items; split = refl; effect = nothing; last = old; run = (refl, refl); part = ([], refl) };
     writes = appends_none taken;
   }
 
-  -- what was run goes on
-  pub ran_more : (taken0 taken1 taken2 : Option (List ℕ)) (old : State H) (mid new : SessionView H) (xs ys : List ItemData)
-      → Ran rules taken0 old xs taken1 mid → Ran rules taken1 mid.state ys taken2 new → Ran rules taken0 old (xs ++ ys) taken2 new
-  ran_more taken0 taken1 taken2 old mid new xs ys p q = record {
-    effect = both p.effect q.effect;
-    run = run_on (Step rules) old mid.state new.state xs ys p.effect q.effect p.run q.run;
-    writes = subst (λ b. Appends taken0 taken2 b) (sym (frames-append p.effect.out q.effect.out)) (appends_more taken0 taken1 taken2 (frames p.effect.out) (frames q.effect.out) p.writes q.writes);
-    taken = q.taken;
-    running = q.running;
-  }
-
-  -- a part behind what was run
-  pub part_after : (taken0 taken1 taken2 : Option (List ℕ)) (old : State H) (mid : SessionView H) (xs ys : List ItemData)
-      → Ran rules taken0 old xs taken1 mid → RanPart rules taken1 mid.state ys taken2 → RanPart rules taken0 old (xs ++ ys) taken2
-  part_after taken0 taken1 taken2 old mid xs ys p q = record {
-    written = frames p.effect.out ++ q.written;
-    part = record {
-      given = xs ++ q.part.given;
-      rest = q.part.rest;
-      split = append_assoc xs q.part.given q.part.rest ∙ ap (λ l. xs ++ l) q.part.split;
-      effect = both p.effect q.part.effect;
-      last = q.part.last;
-      run = run_on (Step rules) old mid.state q.part.last xs q.part.given p.effect q.part.effect p.run q.part.run;
-      part = (q.part.part.0, append_assoc (frames p.effect.out) q.written q.part.part.0 ∙ ap (λ l. frames p.effect.out ++ l) q.part.part.1 ∙ sym (frames-append p.effect.out q.part.effect.out));
-    };
-    writes = appends_more taken0 taken1 taken2 (frames p.effect.out) q.written p.writes q.writes;
-  }
-
-  -- what was run is a part of more
-  pub part_all : (taken0 taken1 : Option (List ℕ)) (old : State H) (new : SessionView H) (xs ys : List ItemData) → Ran rules taken0 old xs taken1 new → RanPart rules taken0 old (xs ++ ys) taken1
-  part_all taken0 taken1 old new xs ys p = record {
-    written = frames p.effect.out;
-    part = record { given = xs; rest = ys; split = refl; effect = p.effect; last = new.state; run = p.run; part = prefix_all (frames p.effect.out) };
-    writes = p.writes;
-  }
-
   -- a part of fewer items is a part of more
-  pub part_more : (taken0 taken1 : Option (List ℕ)) (old : State H) (xs ys : List ItemData) → RanPart rules taken0 old xs taken1 → RanPart rules taken0 old (xs ++ ys) taken1
-  part_more taken0 taken1 old xs ys p = record {
+  pub part_more : {old : S} {taken0 taken1 : Option (List ℕ)} (xs ys : List ItemData) → RanPart step old taken0 xs taken1 → RanPart step old taken0 (xs ++ ys) taken1
+  part_more xs ys p = record {
     written = p.written;
     part = record {
       given = p.part.given;
@@ -112,45 +53,125 @@ module _ {H C : Type 0} (rules : Rules H C) where
     writes = p.writes;
   }
 
-  -- all that was run, as a part
-  pub part_whole : (taken0 taken1 : Option (List ℕ)) (old : State H) (new : SessionView H) (xs : List ItemData) → Ran rules taken0 old xs taken1 new → RanPart rules taken0 old xs taken1
-  part_whole taken0 taken1 old new xs p = record {
-    written = frames p.effect.out;
-    part = record { given = xs; rest = []; split = append-nil xs; effect = p.effect; last = new.state; run = p.run; part = prefix_all (frames p.effect.out) };
-    writes = p.writes;
+  -- what was taken is kept
+  pub part_kept : {old : S} {taken0 taken1 taken2 : Option (List ℕ)} {items : List ItemData} → RanPart step old taken0 items taken1 → Keeps taken1 taken2 → RanPart step old taken0 items taken2
+  part_kept {taken0 = taken0} {taken1 = taken1} {taken2 = taken2} p kept = record { written = p.written; part = p.part; writes = appends_kept taken0 taken1 taken2 p.written p.writes kept }
+
+module _ {S D : Type 0} {step : S → ItemData → Effect → S → Type 0} {m : Meaning D} where
+  pub ran_none : (a : Place S D) → Ran step m a [] a
+  ran_none a = record { effect = nothing; run = (refl, refl); grows = grows_none m a.desk; writes = appends_none a.taken }
+
+  -- what was run goes on
+  pub ran_more : (a b c : Place S D) (xs ys : List ItemData) → Ran step m a xs b → Ran step m b ys c → Ran step m a (xs ++ ys) c
+  ran_more a b c xs ys p q = record {
+    effect = both p.effect q.effect;
+    run = run_on step a.state b.state c.state xs ys p.effect q.effect p.run q.run;
+    grows = grows_on m a.desk b.desk c.desk p.effect.trace q.effect.trace p.grows q.grows;
+    writes = subst (λ l. Appends a.taken c.taken l) (sym (frames-append p.effect.out q.effect.out)) (appends_more a.taken b.taken c.taken (frames p.effect.out) (frames q.effect.out) p.writes q.writes);
   }
 
   -- what was taken is kept
-  pub ran_kept : (taken0 taken1 taken2 : Option (List ℕ)) (old : State H) (new : SessionView H) (xs : List ItemData) → Keeps taken1 taken2 → Ran rules taken0 old xs taken1 new → Ran rules taken0 old xs taken2 new
-  ran_kept taken0 taken1 taken2 old new xs kept p = record {
-    effect = p.effect;
-    run = p.run;
-    writes = appends_kept taken0 taken1 taken2 (frames p.effect.out) p.writes kept;
-    taken = p.taken;
-    running = p.running;
+  pub ran_kept : (a b : Place S D) (taken : Option (List ℕ)) (xs : List ItemData) → Ran step m a xs b → Keeps b.taken taken → Ran step m a xs (record { state = b.state; desk = b.desk; taken = taken })
+  ran_kept a b taken xs p kept = record { effect = p.effect; run = p.run; grows = p.grows; writes = appends_kept a.taken b.taken taken (frames p.effect.out) p.writes kept }
+
+  -- the desk has grown by what was run
+  pub ran_grown : (a b : Place S D) (xs : List ItemData) → Ran step m a xs b → Grown m a.desk b.desk
+  ran_grown a b xs p = record { trace = p.effect.trace; grows = p.grows }
+
+  pub grown_after : (a b : Place S D) (desk : D) (xs : List ItemData) → Ran step m a xs b → Grown m b.desk desk → Grown m a.desk desk
+  grown_after a b desk xs p q = grown_on m a.desk b.desk desk p.effect.trace p.grows q
+
+  -- a part after what was run
+  pub part_after : (a b : Place S D) (taken : Option (List ℕ)) (xs ys : List ItemData) → Ran step m a xs b → RanPart step b.state b.taken ys taken → RanPart step a.state a.taken (xs ++ ys) taken
+  part_after a b taken xs ys p q = record {
+    written = frames p.effect.out ++ q.written;
+    part = record {
+      given = xs ++ q.part.given;
+      rest = q.part.rest;
+      split = append_assoc xs q.part.given q.part.rest ∙ ap (λ l. xs ++ l) q.part.split;
+      effect = both p.effect q.part.effect;
+      last = q.part.last;
+      run = run_on step a.state b.state q.part.last xs q.part.given p.effect q.part.effect p.run q.part.run;
+      part = (q.part.part.0, append_assoc (frames p.effect.out) q.written q.part.part.0 ∙ ap (λ l. frames p.effect.out ++ l) q.part.part.1 ∙ sym (frames-append p.effect.out q.part.effect.out));
+    };
+    writes = appends_more a.taken b.taken taken (frames p.effect.out) q.written p.writes q.writes;
   }
 
-  pub part_kept : (taken0 taken1 taken2 : Option (List ℕ)) (old : State H) (xs : List ItemData) → Keeps taken1 taken2 → RanPart rules taken0 old xs taken1 → RanPart rules taken0 old xs taken2
-  part_kept taken0 taken1 taken2 old xs kept p = record { written = p.written; part = p.part; writes = appends_kept taken0 taken1 taken2 p.written p.writes kept }
+  -- what was run is a part of more
+  pub part_all : (a b : Place S D) (xs ys : List ItemData) → Ran step m a xs b → RanPart step a.state a.taken (xs ++ ys) b.taken
+  part_all a b xs ys p = part_after a b b.taken xs ys p (part_none b.state b.taken ys)
+
+  pub part_whole : (a b : Place S D) (xs : List ItemData) → Ran step m a xs b → RanPart step a.state a.taken xs b.taken
+  part_whole a b xs p = subst (λ l. RanPart step a.state a.taken l b.taken) (append-nil xs) (part_all a b xs [] p)
+
+-- ---- one step of a session
+
+module _ {H D C T P : Type 0} (semantics : Semantics H C T) (m : Meaning D) (order : Order P) (rounds : ℕ) where
+  abbrev pub View : Type 0
+  View = SessionView H D semantics.Call semantics.Task
+
+  abbrev pub Stepped : View → P → ItemData → View → P → Type 0
+  Stepped old p item mid p2 = Advances m old (λ s e s2. Step semantics order rounds (record { session = s; pick = p }) item e (record { session = s2; pick = p2 })) mid
+
+  -- one step, all of it written
+  pub ran_one : (taken0 taken1 : Option (List ℕ)) (old mid : View) (p p2 : P) (item : ItemData) (out : List MessageData)
+      → Stepped old p item mid p2 → old.out ≡ [] → out ≡ mid.out → Appends taken0 taken1 (frames out)
+      → Ran (Step semantics order rounds) m (place old p taken0) (item ∷ []) (place (record mid { out = [] }) p2 taken1)
+  ran_one taken0 taken1 old mid p p2 item out steps empty is writes =
+      let e = steps.effect in
+      let same : out ≡ e.out = is ∙ steps.out ∙ ap (λ l. l ++ e.out) empty in
+      record {
+        effect = e;
+        run = (picked mid p2, e, nothing, steps.does, (refl, refl), sym (both-nothing e));
+        grows = steps.grows;
+        writes = subst (λ (o : List MessageData). Appends taken0 taken1 (frames o)) same writes;
+      }
+
+  -- one step, some of it written
+  pub part_one : (taken0 taken1 : Option (List ℕ)) (old mid : View) (p p2 : P) (item : ItemData) (out : List MessageData) (written : List ℕ)
+      → Stepped old p item mid p2 → old.out ≡ [] → out ≡ mid.out → IsPrefixOf written (frames out) → Appends taken0 taken1 written
+      → RanPart (Step semantics order rounds) (picked old p) taken0 (item ∷ []) taken1
+  part_one taken0 taken1 old mid p p2 item out written steps empty is part writes =
+      let e = steps.effect in
+      let same : out ≡ e.out = is ∙ steps.out ∙ ap (λ l. l ++ e.out) empty in
+      record {
+        written = written;
+        part = record {
+          given = item ∷ [];
+          rest = [];
+          split = refl;
+          effect = e;
+          last = picked mid p2;
+          run = (picked mid p2, e, nothing, steps.does, (refl, refl), sym (both-nothing e));
+          part = subst (λ (o : List MessageData). IsPrefixOf written (frames o)) same part;
+        };
+        writes = writes;
+      }
+
+  -- what is no exit leaves the session alive
+  pub stepped_lives : IsLawful semantics → (old mid : View) (p p2 : P) (item : ItemData) → Stepped old p item mid p2 → (old.state.desk.life ≡ Exited → ⊥)
+      → is_exit (semantics.find old.state.service) item ≡ false → mid.state.desk.life ≡ Exited → ⊥
+  stepped_lives laws old mid p p2 item steps lives stays =
+      alive mid.state.desk.life (step_lives semantics laws order rounds (picked old p) (picked mid p2) item steps.effect stays steps.does ∙ not_exited old.state.desk.life lives)
 
   -- ---- one step and the exit
 
   -- the one step of what was run
-  pub only_step : (taken0 taken1 : Option (List ℕ)) (old : State H) (new : SessionView H) (item : ItemData) → (ran : Ran rules taken0 old (item ∷ []) taken1 new) → Step rules old item ran.run.1 new.state
-  only_step taken0 taken1 old new item ran = subst (λ s. Step rules old item ran.run.1 s) (sym ran.run.4.1) ran.run.3
+  only_step : (a b : Point semantics D P) (item : ItemData) → (ran : Ran (Step semantics order rounds) m a (item ∷ []) b) → Step semantics order rounds a.state item ran.run.1 b.state
+  only_step a b item ran = subst (λ s. Step semantics order rounds a.state item ran.run.1 s) (sym ran.run.4.1) ran.run.3
 
-  noted : (b : Bool) (s s2 : State H) → s.exited ≡ None → Notes b s s2 → is_some s2.exited ≡ b
-  noted true s s2 none p = ap is_some p
-  noted false s s2 none p = ap is_some (p ∙ none)
+  noted : (laws : IsLawful semantics) (b : Bool) (s s2 : State H semantics.Call semantics.Task) → s.exited ≡ None → Notes semantics laws b s s2 → is_some s2.exited ≡ b
+  noted laws true s s2 none p = ap is_some p
+  noted laws false s s2 none p = ap is_some (p ∙ none)
 
   -- an exit is noted, and nothing else is
-  pub ran_notes : (taken0 taken1 : Option (List ℕ)) (old : State H) (new : SessionView H) (item : ItemData) → Ran rules taken0 old (item ∷ []) taken1 new → old.exited ≡ None
-      → is_some new.state.exited ≡ is_exit (rules.find old.service) item
-  ran_notes taken0 taken1 old new item ran none =
-      noted (is_exit (rules.find old.service) item) old new.state none (step_notes rules old new.state item ran.run.1 (only_step taken0 taken1 old new item ran))
+  pub ran_notes : IsLawful semantics → (a b : Point semantics D P) (item : ItemData) → Ran (Step semantics order rounds) m a (item ∷ []) b → a.state.session.exited ≡ None
+      → is_some b.state.session.exited ≡ is_exit (semantics.find a.state.session.service) item
+  ran_notes laws a b item ran none =
+      noted laws (is_exit (semantics.find a.state.session.service) item) a.state.session b.state.session none (step_notes semantics laws order rounds a.state b.state item ran.run.1 (only_step a b item ran))
 
   -- what is no exit leaves the session alive
-  pub ran_lives : (taken0 taken1 : Option (List ℕ)) (old : State H) (new : SessionView H) (item : ItemData) → Ran rules taken0 old (item ∷ []) taken1 new
-      → is_exit (rules.find old.service) item ≡ false → (old.life ≡ Exited → ⊥) → new.state.life ≡ Exited → ⊥
-  ran_lives taken0 taken1 old new item ran stays lives =
-      alive new.state.life (step_lives rules old new.state item ran.run.1 stays (only_step taken0 taken1 old new item ran) ∙ not_exited old.life lives)
+  pub ran_lives : IsLawful semantics → (a b : Point semantics D P) (item : ItemData) → Ran (Step semantics order rounds) m a (item ∷ []) b
+      → is_exit (semantics.find a.state.session.service) item ≡ false → (a.state.session.desk.life ≡ Exited → ⊥) → b.state.session.desk.life ≡ Exited → ⊥
+  ran_lives laws a b item ran stays lives =
+      alive b.state.session.desk.life (step_lives semantics laws order rounds a.state b.state item ran.run.1 stays (only_step a b item ran) ∙ not_exited a.state.session.desk.life lives)

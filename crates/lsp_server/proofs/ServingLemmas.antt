@@ -1,246 +1,236 @@
 -- How serving goes on over the reads, and what it comes to.
-use Rattle.std.proofs.Common.{◌≡◌, inl, inr, ℕ, ◌+◌, ◌≤◌, List, [], ◌∷◌, ◌++◌, length, refl, sym, ◌∙◌, ap, subst, append_assoc, length-append, arith, Bool, true, false}
+use Rattle.std.proofs.Common.{◌≡◌, inl, inr, ℕ, ◌+◌, ◌*◌, ◌≤◌, List, [], ◌∷◌, ◌++◌, length, refl, sym, ◌∙◌, ap, subst, append_assoc, length-append, arith, Bool, true, false}
 use Rattle.std.specs.Prelude.{Option, Some, None, ◌||◌}
 use Rattle.std.specs.Io.KnownBytes.{Consumes, Keeps}
 use Rattle.std.proofs.lemmas.List.{append-nil, map-append}
+use Rattle.lsp_desk.specs.Meaning.{Meaning, Grown}
 use Rattle.lsp_frame.specs.Codec.{Item, At, start, more, items_at, told_at, frames}
-use Rattle.lsp_session.specs.declared.state.Life.TheVariants.{Exited}
+use Rattle.lsp_frame.specs.declared.limits.Limits.{Limits}
 use Rattle.lsp_session.specs.declared.table.Entry.{Entry}
 use Rattle.lsp_session.specs.Item.{ItemData}
-use Rattle.lsp_session.specs.Rules.{Rules, IsLawful}
-use Rattle.lsp_session.specs.Run.{Step, Run, opening, is_exit, has_exit, served}
-use Rattle.lsp_session.specs.Session.{SessionView, opening_view}
-use Rattle.lsp_session.proofs.RunLemmas.{run_keeps, same_exit, served_same, has_exit_same, has_exit-append, served-closed}
-use Rattle.lsp_session.proofs.CountLemmas.{run_counts}
+use Rattle.lsp_session.specs.Semantics.{Semantics, IsLawful}
+use Rattle.lsp_session.specs.State.{State}
+use Rattle.lsp_session.specs.Run.{Order, Picked, Step, Run, is_exit, has_exit, served}
+use Rattle.lsp_session.specs.Session.{SessionView}
 use Rattle.lsp_server.specs.Items.{admitted, all_admitted, stream_items, stream_told, Decodes}
-use Rattle.lsp_server.specs.Written.{Ran, RanPart}
-use Rattle.lsp_server.specs.Served.{ServedTold, IsServed, ReadEnough, WroteTold, WrotePart}
+use Rattle.lsp_server.specs.Course.{Course, course_from}
+use Rattle.lsp_server.specs.Written.{place, Ran, RanPart}
+use Rattle.lsp_server.specs.Served.{ServedTold, CallBytes, call_bytes, RanFrom, ReadEnough, WroteTold, WrotePart}
 use Rattle.lsp_server.proofs.KnownLemmas.{appends_more, consumes_none, consumes_more, consumes_kept, what_is_left, all_read}
+use Rattle.lsp_server.proofs.PointLemmas.{Point, find_at, GoesOn}
+use Rattle.lsp_server.proofs.ItemsLemmas.{same_exit, served_same, has_exit_same, has_exit-append, served-closed, run_table}
+use Rattle.lsp_server.proofs.CodecLemmas.{decodes_more, decodes_fed, told_now, more_nothing, more_more}
 use Rattle.lsp_server.proofs.RanLemmas.{ran_more, part_none}
-use Rattle.lsp_server.proofs.GoingLemmas.{Going, going_start, going_served, decodes_more, decodes_fed, told_now, more_nothing, more_more}
+use Rattle.lsp_server.proofs.GoingLemmas.{Going, going_start, going_served}
 
-module _ {H C : Type 0} (rules : Rules H C) (service : H) (taken0 : Option (List ℕ)) where
+module _ {H D C T P : Type 0} (semantics : Semantics H C T) (m : Meaning D) (order : Order P) (rounds : ℕ) (limits : Limits) where
   -- the loop over the reads has come this far
-  pub record Serving (left0 left1 taken1 : Option (List ℕ)) (session : SessionView H) (codec : At) (count : ℕ) : Type 0 where
+  pub record Serving (a : Point semantics D P) (left0 : Option (List ℕ)) (b : Point semantics D P) (left1 : Option (List ℕ)) (codec : At) (count : ℕ) : Type 0 where
     pub fed : List ℕ
-    -- each read gave a byte at least
+    -- each read gave a byte at least, and 4,096 at most
     pub each : count ≤ length fed
+    pub most : length fed ≤ count * 4096
     pub gives : Consumes left0 left1 fed
-    pub going : Going rules taken0 (opening service) (more start fed) taken1 session codec
+    pub going : Going semantics m order rounds a (more (start limits) fed) b codec
     pub told : told_at codec ≡ []
 
-  pub serving_start : (left0 : Option (List ℕ)) (session : SessionView H) (codec : At) → session ≡ opening_view service → codec ≡ start → Serving left0 left0 taken0 session codec 0
-  serving_start left0 session codec new fresh =
-      let going : Going rules taken0 (opening service) (more start []) taken0 session start =
-      going_start rules taken0 (opening service) start session (ap (λ (s : SessionView H). s.state) new) (ap (λ (s : SessionView H). s.out) new) (ap (λ (s : SessionView H). s.stopped) new) refl (λ e. cc) in
-      record {
-        fed = [];
-        each = omega arith;
-        gives = consumes_none left0;
-        going = subst (λ a. Going rules taken0 (opening service) (more start []) taken0 session a) (sym fresh) going;
-        told = ap told_at fresh;
-      }
-
-  -- the same where a read failed
-  pub serving_kept : (left0 left1 left2 taken1 : Option (List ℕ)) (session : SessionView H) (codec : At) (count : ℕ) → Serving left0 left1 taken1 session codec count → Keeps left1 left2 → Serving left0 left2 taken1 session codec count
-  serving_kept left0 left1 left2 taken1 session codec count serving keeps = record {
-    fed = serving.fed;
-    each = serving.each;
-    gives = consumes_kept left0 left1 left2 serving.fed serving.gives keeps;
-    going = serving.going;
-    told = serving.told;
+module _ {H D C T P : Type 0} {semantics : Semantics H C T} {m : Meaning D} {order : Order P} {rounds : ℕ} {limits : Limits} where
+  pub serving_start : (a : Point semantics D P) (left0 : Option (List ℕ)) (codec : At) → GoesOn semantics a → codec ≡ start limits → Serving semantics m order rounds limits a left0 a left0 codec 0
+  serving_start a left0 codec goes_on fresh = record {
+    fed = [];
+    each = omega arith;
+    most = omega arith;
+    gives = consumes_none left0;
+    going = subst (λ c. Going semantics m order rounds a (more (start limits) []) a c) (sym fresh) (going_start a (start limits) goes_on);
+    told = ap told_at fresh;
   }
 
-  -- the same where the bytes are told
-  pub serving_of : (left0 left1 taken1 : Option (List ℕ)) (bytes : List ℕ) (session : SessionView H) (codec : At) (count : ℕ) → Serving left0 left1 taken1 session codec count → left0 ≡ Some bytes → Serving (Some bytes) left1 taken1 session codec count
-  serving_of left0 left1 taken1 bytes session codec count serving is = subst (λ l. Serving l left1 taken1 session codec count) is serving
+  module _ (a : Point semantics D P) (left0 : Option (List ℕ)) (b : Point semantics D P) (left1 : Option (List ℕ)) (codec1 : At) (count : ℕ) (serving : Serving semantics m order rounds limits a left0 b left1 codec1 count) where
+    -- the same where a read failed
+    pub serving_kept : (left2 : Option (List ℕ)) → Keeps left1 left2 → Serving semantics m order rounds limits a left0 b left2 codec1 count
+    serving_kept left2 keeps = record {
+      fed = serving.fed;
+      each = serving.each;
+      most = serving.most;
+      gives = consumes_kept left0 left1 left2 serving.fed serving.gives keeps;
+      going = serving.going;
+      told = serving.told;
+    }
 
-module _ {H C : Type 0} (rules : Rules H C) (laws : IsLawful rules) (service : H) (taken0 taken1 taken2 : Option (List ℕ)) (left0 left1 left2 : Option (List ℕ)) (piece : List ℕ) (mid : SessionView H) (codec1 : At) (count : ℕ)
-    (serving : Serving rules service taken0 left0 left1 taken1 mid codec1 count) where
+    -- the same where the bytes are told
+    pub serving_of : (bytes : List ℕ) → left0 ≡ Some bytes → Serving semantics m order rounds limits a (Some bytes) b left1 codec1 count
+    serving_of bytes is = subst (λ l. Serving semantics m order rounds limits a l b left1 codec1 count) is serving
+
+    module _ (laws : IsLawful semantics) where
+      abbrev so_far : List ItemData
+      so_far = all_admitted serving.going.given
+
+      same_table : (name : List ℕ) → find_at semantics b name ≡ find_at semantics a name
+      same_table name = run_table semantics laws order rounds a.state b.state so_far serving.going.ran.effect serving.going.ran.run name
+
+      -- the items given so far are those that the bytes read tell
+      told_is : stream_told limits serving.fed ≡ so_far
+      told_is = ap all_admitted (told_now (more (start limits) serving.fed) codec1 serving.going.given serving.going.decodes ∙ ap (λ l. serving.going.given ++ l) serving.told ∙ append-nil serving.going.given)
+
+      -- ---- one piece more
+
+      module _ (left2 : Option (List ℕ)) (piece : List ℕ) (gives : Consumes left1 left2 piece) (d : Point semantics D P) (codec2 : At) (exits : Bool)
+          (told : ServedTold (Step semantics order rounds) m (find_at semantics b) b (more codec1 piece) exits d codec2) where
+        abbrev all : List Item
+        all = serving.going.given ++ told.given
+
+        all_gives : Consumes left0 left2 (serving.fed ++ piece)
+        all_gives = consumes_more left0 left1 left2 serving.fed piece serving.gives gives
+
+        decoded : Decodes (more (start limits) (serving.fed ++ piece)) all codec2
+        decoded = decodes_more (more (start limits) (serving.fed ++ piece)) (more codec1 piece) codec2 serving.going.given told.given
+            (decodes_fed (more (start limits) serving.fed) codec1 serving.going.given piece serving.going.decodes) told.decodes
+
+        ran_all : Ran (Step semantics order rounds) m a (all_admitted all) d
+        ran_all = subst (λ l. Ran (Step semantics order rounds) m a l d) (sym (map-append admitted serving.going.given told.given))
+            (ran_more a b d so_far (all_admitted told.given) serving.going.ran told.ran)
+
+        -- the same table finds the same exits
+        none_of_all : has_exit (find_at semantics b) (all_admitted told.given) ≡ false → has_exit (find_at semantics a) (all_admitted all) ≡ false
+        none_of_all none =
+            ap (has_exit (find_at semantics a)) (map-append admitted serving.going.given told.given) ∙ has_exit-append (find_at semantics a) so_far (all_admitted told.given)
+            ∙ ap (λ x. x || has_exit (find_at semantics a) (all_admitted told.given)) serving.going.none ∙ sym (has_exit_same (find_at semantics b) (find_at semantics a) (all_admitted told.given) same_table) ∙ none
+
+      pub serving_more : (left2 : Option (List ℕ)) (piece : List ℕ) → Consumes left1 left2 piece → (d : Point semantics D P) (codec2 : At) (next : ℕ)
+          → ServedTold (Step semantics order rounds) m (find_at semantics b) b (more codec1 piece) false d codec2 → GoesOn semantics d → next ≤ count + length piece → length serving.fed + length piece ≤ next * 4096 → Serving semantics m order rounds limits a left0 d left2 codec2 next
+      serving_more left2 piece gives d codec2 next told goes_on enough few = record {
+        fed = serving.fed ++ piece;
+        each = omega (arith, length-append serving.fed piece, serving.each);
+        most = omega (arith, length-append serving.fed piece, few);
+        gives = all_gives left2 piece gives d codec2 false told;
+        going = record {
+          given = all left2 piece gives d codec2 false told;
+          decodes = decoded left2 piece gives d codec2 false told;
+          ran = ran_all left2 piece gives d codec2 false told;
+          none = none_of_all left2 piece gives d codec2 false told told.ends.0;
+          goes_on = goes_on;
+        };
+        told = told.ends.1;
+      }
+
+-- ---- what it comes to, where the bytes are told
+
+module _ {H D C T P : Type 0} {semantics : Semantics H C T} (laws : IsLawful semantics) {m : Meaning D} {order : Order P} {rounds : ℕ} {limits : Limits}
+    (old : SessionView H D semantics.Call semantics.Task) (p : P) (taken0 : Option (List ℕ)) (bytes : List ℕ) (b : Point semantics D P) (left1 : Option (List ℕ)) (codec1 : At) (count : ℕ)
+    (serving : Serving semantics m order rounds limits (place old p taken0) (Some bytes) b left1 codec1 count) where
+  abbrev a : Point semantics D P
+  a = place old p taken0
+
   abbrev find : List ℕ → Option Entry
-  find = rules.find service
+  find = semantics.find old.state.service
 
-  abbrev find_mid : List ℕ → Option Entry
-  find_mid = rules.find mid.state.service
+  abbrev find_b : List ℕ → Option Entry
+  find_b = semantics.find b.state.session.service
+
+  abbrev way : Course (Picked (State H semantics.Call semantics.Task) P) D
+  way = course_from semantics m order rounds limits old p
 
   abbrev before : List ItemData
   before = all_admitted serving.going.given
 
-  same_table : (name : List ℕ) → find_mid name ≡ find name
-  same_table name = run_keeps rules laws (opening service) mid.state before serving.going.ran.effect serving.going.ran.run name
+  tables_agree : (name : List ℕ) → find_b name ≡ find name
+  tables_agree = same_table a (Some bytes) b left1 codec1 count serving laws
 
-  -- the items given so far are those that the bytes read tell
-  told_so_far : stream_told serving.fed ≡ before
-  told_so_far = ap all_admitted (told_now (more start serving.fed) codec1 serving.going.given serving.going.decodes ∙ ap (λ l. serving.going.given ++ l) serving.told ∙ append-nil serving.going.given)
-
-  -- ---- one piece more
-
-  module _ (new : SessionView H) (codec2 : At) (exits : Bool) (told : ServedTold rules taken1 mid.state (more codec1 piece) exits taken2 new codec2) where
-    abbrev all : List Item
-    all = serving.going.given ++ told.given
-
-    decoded : Decodes (more start (serving.fed ++ piece)) all codec2
-    decoded = decodes_more (more start (serving.fed ++ piece)) (more codec1 piece) codec2 serving.going.given told.given
-        (decodes_fed (more start serving.fed) codec1 serving.going.given piece serving.going.decodes) told.decodes
-
-    ran_all : Ran rules taken0 (opening service) (all_admitted all) taken2 new
-    ran_all = subst (λ l. Ran rules taken0 (opening service) l taken2 new) (sym (map-append admitted serving.going.given told.given))
-        (ran_more rules taken0 taken1 taken2 (opening service) mid new before (all_admitted told.given) serving.going.ran told.ran)
-
-  pub serving_more : (new : SessionView H) (codec2 : At) (next : ℕ) → Consumes left1 left2 piece → ServedTold rules taken1 mid.state (more codec1 piece) false taken2 new codec2
-      → new.state.exited ≡ None → (new.state.life ≡ Exited → ⊥) → next ≤ count + length piece → Serving rules service taken0 left0 left2 taken2 new codec2 next
-  serving_more new codec2 next gives told unexited lives enough = record {
-    fed = serving.fed ++ piece;
-    each = omega (arith, length-append serving.fed piece, serving.each);
-    gives = consumes_more left0 left1 left2 serving.fed piece serving.gives gives;
-    going = record {
-      given = all new codec2 false told;
-      decodes = decoded new codec2 false told;
-      ran = ran_all new codec2 false told;
-      none = ap (has_exit find) (map-append admitted serving.going.given told.given) ∙ has_exit-append find before (all_admitted told.given)
-          ∙ ap (λ b. b || has_exit find (all_admitted told.given)) serving.going.none ∙ sym (has_exit_same find_mid find (all_admitted told.given) same_table) ∙ told.ends.0;
-      exited = unexited;
-      lives = lives;
-    };
-    told = told.ends.1;
-  }
-
-module _ {H C : Type 0} (rules : Rules H C) (laws : IsLawful rules) (service : H) (taken0 taken1 taken2 : Option (List ℕ)) (bytes : List ℕ) (left1 left2 : Option (List ℕ)) (piece : List ℕ) (mid : SessionView H) (codec1 : At) (count : ℕ)
-    (serving : Serving rules service taken0 (Some bytes) left1 taken1 mid codec1 count) where
-  abbrev table : List ℕ → Option Entry
-  table = rules.find service
-
-  abbrev table_mid : List ℕ → Option Entry
-  table_mid = rules.find mid.state.service
-
-  abbrev so_far : List ItemData
-  so_far = all_admitted serving.going.given
-
-  tables_agree : (name : List ℕ) → table_mid name ≡ table name
-  tables_agree name = run_keeps rules laws (opening service) mid.state so_far serving.going.ran.effect serving.going.ran.run name
-
-  told_is : stream_told serving.fed ≡ so_far
-  told_is = ap all_admitted (told_now (more start serving.fed) codec1 serving.going.given serving.going.decodes ∙ ap (λ l. serving.going.given ++ l) serving.told ∙ append-nil serving.going.given)
+  told_before : stream_told limits serving.fed ≡ before
+  told_before = told_is a (Some bytes) b left1 codec1 count serving laws
 
   -- ---- between two reads what was written is exact
 
-  pub exact : WroteTold rules service bytes left1 taken0 taken1
+  pub exact : WroteTold way (call_bytes bytes left1 taken0 b.taken) b.desk
   exact = record {
     read = serving.fed;
     gives = serving.gives;
-    none = ap (has_exit table) told_is ∙ serving.going.none;
-    effect = serving.going.ran.effect;
-    last = mid.state;
-    run = subst (λ l. Run (Step rules) (opening service) l serving.going.ran.effect mid.state) (sym told_is) serving.going.ran.run;
-    writes = serving.going.ran.writes;
+    none = ap (has_exit find) told_before ∙ serving.going.none;
+    last = b.state;
+    ran = subst (λ l. RanFrom way (call_bytes bytes left1 taken0 b.taken) l b.state b.desk) (sym told_before) serving.going.ran;
   }
 
   -- ---- an exit ends it
 
-  module _ (new : SessionView H) (codec2 : At) (gives : Consumes left1 left2 piece) (told : ServedTold rules taken1 mid.state (more codec1 piece) true taken2 new codec2) where
+  module _ (left2 : Option (List ℕ)) (piece : List ℕ) (gives : Consumes left1 left2 piece) (d : Point semantics D P) (codec2 : At)
+      (told : ServedTold (Step semantics order rounds) m find_b b (more codec1 piece) true d codec2) where
     abbrev given : List Item
-    given = serving.going.given ++ told.given
+    given = all a (Some bytes) b left1 codec1 count serving laws left2 piece gives d codec2 true told
 
-    all_gives : Consumes (Some bytes) left2 (serving.fed ++ piece)
-    all_gives = consumes_more (Some bytes) left1 left2 serving.fed piece serving.gives gives
+    read_all : Consumes (Some bytes) left2 (serving.fed ++ piece)
+    read_all = all_gives a (Some bytes) b left1 codec1 count serving laws left2 piece gives d codec2 true told
 
-    all_decoded : Decodes (more start (serving.fed ++ piece)) given codec2
-    all_decoded = decodes_more (more start (serving.fed ++ piece)) (more codec1 piece) codec2 serving.going.given told.given
-        (decodes_fed (more start serving.fed) codec1 serving.going.given piece serving.going.decodes) told.decodes
+    all_decoded : Decodes (more (start limits) (serving.fed ++ piece)) given codec2
+    all_decoded = decoded a (Some bytes) b left1 codec1 count serving laws left2 piece gives d codec2 true told
 
     -- the items given end with the exit
     abbrev front : List ItemData
-    front = so_far ++ told.ends.front
+    front = before ++ told.ends.front
 
     given_is : all_admitted given ≡ front ++ told.ends.exit ∷ []
-    given_is = map-append admitted serving.going.given told.given ∙ ap (λ l. so_far ++ l) told.ends.split ∙ sym (append_assoc so_far told.ends.front (told.ends.exit ∷ []))
+    given_is = map-append admitted serving.going.given told.given ∙ ap (λ l. before ++ l) told.ends.split ∙ sym (append_assoc before told.ends.front (told.ends.exit ∷ []))
 
-    front_open : has_exit table front ≡ false
-    front_open = has_exit-append table so_far told.ends.front ∙ ap (λ b. b || has_exit table told.ends.front) serving.going.none
-        ∙ sym (has_exit_same table_mid table told.ends.front tables_agree) ∙ told.ends.none
+    front_open : has_exit find front ≡ false
+    front_open = has_exit-append find before told.ends.front ∙ ap (λ x. x || has_exit find told.ends.front) serving.going.none
+        ∙ sym (has_exit_same find_b find told.ends.front tables_agree) ∙ told.ends.none
 
-    exit_is : is_exit table told.ends.exit ≡ true
-    exit_is = sym (same_exit table_mid table told.ends.exit tables_agree) ∙ told.ends.is
+    exit_is : is_exit find told.ends.exit ≡ true
+    exit_is = sym (same_exit find_b find told.ends.exit tables_agree) ∙ told.ends.is
 
-    served_is : served table (stream_items bytes) ≡ all_admitted given
+    served_is : served find (stream_items limits bytes) ≡ all_admitted given
     served_is =
-        let left = what_is_left bytes left2 (serving.fed ++ piece) all_gives in
+        let left = what_is_left bytes left2 (serving.fed ++ piece) read_all in
         let rest = all_admitted (items_at (more codec2 left.0)) in
-        ap (λ b. served table (stream_items b)) left.2
-        ∙ ap (λ l. served table (all_admitted l)) (all_decoded.items left.0)
-        ∙ ap (served table) (map-append admitted given (items_at (more codec2 left.0)) ∙ ap (λ l. l ++ rest) given_is)
-        ∙ served-closed table front told.ends.exit rest front_open exit_is ∙ sym given_is
+        ap (λ l. served find (stream_items limits l)) left.2
+        ∙ ap (λ l. served find (all_admitted l)) (all_decoded.items left.0)
+        ∙ ap (served find) (map-append admitted given (items_at (more codec2 left.0)) ∙ ap (λ l. l ++ rest) given_is)
+        ∙ served-closed find front told.ends.exit rest front_open exit_is ∙ sym given_is
 
-    pub at_exit : IsServed rules service bytes taken0 taken2 new.state.service new.state.exited []
-    at_exit =
-        let ran : Ran rules taken0 (opening service) (all_admitted given) taken2 new =
-        subst (λ l. Ran rules taken0 (opening service) l taken2 new) (sym (map-append admitted serving.going.given told.given))
-        (ran_more rules taken0 taken1 taken2 (opening service) mid new so_far (all_admitted told.given) serving.going.ran told.ran) in
-        let run = subst (λ l. Run (Step rules) (opening service) l ran.effect new.state) (sym served_is) ran.run in
-        record {
-          effect = ran.effect;
-          last = new.state;
-          run = run;
-          writes = ran.writes;
-          service_is = refl;
-          exited_is = refl;
-          unanswered_is = refl;
-          counts = run_counts rules laws (opening service) new.state (served table (stream_items bytes)) ran.effect run;
-        }
+    pub at_exit : RanFrom way (call_bytes bytes left2 taken0 d.taken) (served find (stream_items limits bytes)) d.state d.desk
+    at_exit = subst (λ l. Ran (Step semantics order rounds) m a l d) (sym served_is) (ran_all a (Some bytes) b left1 codec1 count serving laws left2 piece gives d codec2 true told)
 
-    pub enough_at_exit : (size : ℕ) → length piece ≤ size → ReadEnough table bytes left2 size
+    pub enough_at_exit : (size : ℕ) → length piece ≤ size → ReadEnough way (call_bytes bytes left2 taken0 d.taken) size
     enough_at_exit size short = record {
       early = serving.fed;
       piece = piece;
-      gives = all_gives;
+      gives = read_all;
       short = short;
-      none = ap (has_exit table) told_is ∙ serving.going.none;
-      enough = inr (ap (λ l. has_exit table (all_admitted l)) (told_now (more start (serving.fed ++ piece)) codec2 given all_decoded)
-          ∙ ap (has_exit table) (map-append admitted given (told_at codec2)) ∙ has_exit-append table (all_admitted given) (all_admitted (told_at codec2))
-          ∙ ap (λ b. b || has_exit table (all_admitted (told_at codec2)))
-          (ap (has_exit table) given_is ∙ has_exit-append table front (told.ends.exit ∷ []) ∙ ap (λ b. b || (is_exit table told.ends.exit || false)) front_open ∙ ap (λ b. b || false) exit_is));
+      none = ap (has_exit find) told_before ∙ serving.going.none;
+      enough = inr (ap (λ l. has_exit find (all_admitted l)) (told_now (more (start limits) (serving.fed ++ piece)) codec2 given all_decoded)
+          ∙ ap (has_exit find) (map-append admitted given (told_at codec2)) ∙ has_exit-append find (all_admitted given) (all_admitted (told_at codec2))
+          ∙ ap (λ x. x || has_exit find (all_admitted (told_at codec2)))
+          (ap (has_exit find) given_is ∙ has_exit-append find front (told.ends.exit ∷ []) ∙ ap (λ x. x || (is_exit find told.ends.exit || false)) front_open ∙ ap (λ x. x || false) exit_is));
     }
 
   -- ---- the end of input ends it
 
-  pub at_end : (new : SessionView H) → left1 ≡ Some [] → Ran rules taken1 mid.state (served table_mid (all_admitted (items_at codec1))) taken2 new
-      → IsServed rules service bytes taken0 taken2 new.state.service new.state.exited []
-  at_end new empty last =
+  pub at_end : (left2 : Option (List ℕ)) (d : Point semantics D P) → left1 ≡ Some [] → Ran (Step semantics order rounds) m b (served find_b (all_admitted (items_at codec1))) d
+      → RanFrom way (call_bytes bytes left2 taken0 d.taken) (served find (stream_items limits bytes)) d.state d.desk
+  at_end left2 d empty last =
       let read : bytes ≡ serving.fed = all_read bytes serving.fed left1 serving.gives empty in
-      let whole : so_far ++ served table_mid (all_admitted (items_at codec1)) ≡ served table (stream_items bytes) =
-      ap (λ l. so_far ++ l) (served_same table_mid table (all_admitted (items_at codec1)) tables_agree)
-      ∙ ap (λ a. so_far ++ served table (all_admitted (items_at a))) (sym (more_nothing codec1))
-      ∙ going_served rules taken0 (opening service) (more start serving.fed) taken1 mid codec1 serving.going []
-      ∙ ap (λ l. served table (all_admitted (items_at (record { kind = start.kind; held = l })))) (append-nil serving.fed ∙ sym read) in
-      let ran = ran_more rules taken0 taken1 taken2 (opening service) mid new so_far (served table_mid (all_admitted (items_at codec1))) serving.going.ran last in
-      let run = subst (λ l. Run (Step rules) (opening service) l ran.effect new.state) whole ran.run in
-      record {
-        effect = ran.effect;
-        last = new.state;
-        run = run;
-        writes = ran.writes;
-        service_is = refl;
-        exited_is = refl;
-        unanswered_is = refl;
-        counts = run_counts rules laws (opening service) new.state (served table (stream_items bytes)) ran.effect run;
-      }
+      let whole : before ++ served find_b (all_admitted (items_at codec1)) ≡ served find (stream_items limits bytes) =
+      ap (λ l. before ++ l) (served_same find_b find (all_admitted (items_at codec1)) tables_agree)
+      ∙ ap (λ c. before ++ served find (all_admitted (items_at c))) (sym (more_nothing codec1))
+      ∙ going_served a (more (start limits) serving.fed) b codec1 serving.going []
+      ∙ ap (λ l. served find (stream_items limits l)) (append-nil serving.fed ∙ sym read) in
+      subst (λ l. Ran (Step semantics order rounds) m a l d) whole (ran_more a b d before (served find_b (all_admitted (items_at codec1))) serving.going.ran last)
 
-  pub enough_at_end : (size : ℕ) → left1 ≡ Some [] → left2 ≡ Some [] → ReadEnough table bytes left2 size
-  enough_at_end size empty after = record {
+  pub enough_at_end : (left2 taken : Option (List ℕ)) (size : ℕ) → left1 ≡ Some [] → left2 ≡ Some [] → ReadEnough way (call_bytes bytes left2 taken0 taken) size
+  enough_at_end left2 taken size empty after = record {
     early = serving.fed;
     piece = [];
     gives = subst (λ l. Consumes (Some bytes) l (serving.fed ++ [])) (empty ∙ sym after) (subst (λ l. Consumes (Some bytes) left1 l) (sym (append-nil serving.fed)) serving.gives);
     short = omega arith;
-    none = ap (has_exit table) told_is ∙ serving.going.none;
+    none = ap (has_exit find) told_before ∙ serving.going.none;
     enough = inl after;
   }
 
   -- ---- an error
 
-  pub wrote : (size : ℕ) → Consumes left1 left2 piece → length piece ≤ size
-      → ((rest : List ℕ) → left2 ≡ Some rest → RanPart rules taken1 mid.state (served table_mid (all_admitted (items_at (more codec1 (piece ++ rest))))) taken2)
-      → WrotePart rules service bytes left2 size taken0 taken2
-  wrote size gives short part =
+  wrote : (left2 taken2 : Option (List ℕ)) (piece : List ℕ) (size : ℕ) → Consumes left1 left2 piece → length piece ≤ size
+      → ((rest : List ℕ) → left2 ≡ Some rest → RanPart (Step semantics order rounds) b.state b.taken (served find_b (all_admitted (items_at (more codec1 (piece ++ rest))))) taken2)
+      → WrotePart way (call_bytes bytes left2 taken0 taken2) size
+  wrote left2 taken2 piece size gives short part =
       let read = consumes_more (Some bytes) left1 left2 serving.fed piece serving.gives gives in
       let left = what_is_left bytes left2 (serving.fed ++ piece) read in
       let coming = all_admitted (items_at (more codec1 (piece ++ left.0))) in
@@ -251,38 +241,34 @@ module _ {H C : Type 0} (rules : Rules H C) (laws : IsLawful rules) (service : H
         gives = read;
         short = short;
         first = serving.going.ran.effect;
-        mid = mid.state;
-        run = subst (λ l. Run (Step rules) (opening service) l serving.going.ran.effect mid.state) (sym told_is) serving.going.ran.run;
-        later = served table_mid coming;
-        split = ap (λ l. l ++ served table_mid coming) told_is ∙ ap (λ l. so_far ++ l) (served_same table_mid table coming tables_agree)
-            ∙ going_served rules taken0 (opening service) (more start serving.fed) taken1 mid codec1 serving.going (piece ++ left.0)
-            ∙ ap (λ b. served table (stream_items b)) (sym (append_assoc serving.fed piece left.0) ∙ sym left.2);
+        mid = b.state;
+        run = subst (λ l. Run (Step semantics order rounds) a.state l serving.going.ran.effect b.state) (sym told_before) serving.going.ran.run;
+        later = served find_b coming;
+        split = ap (λ l. l ++ served find_b coming) told_before ∙ ap (λ l. before ++ l) (served_same find_b find coming tables_agree)
+            ∙ going_served a (more (start limits) serving.fed) b codec1 serving.going (piece ++ left.0)
+            ∙ ap (λ l. served find (stream_items limits l)) (sym (append_assoc serving.fed piece left.0) ∙ sym left.2);
         written = now.written;
         part = now.part;
-        writes = appends_more taken0 taken1 taken2 (frames serving.going.ran.effect.out) now.written serving.going.ran.writes now.writes;
+        writes = appends_more taken0 b.taken taken2 (frames serving.going.ran.effect.out) now.written serving.going.ran.writes now.writes;
       }
 
--- ---- each error of the loop
-
-module _ {H C : Type 0} (rules : Rules H C) (laws : IsLawful rules) (service : H) (taken0 taken1 taken2 : Option (List ℕ)) (bytes : List ℕ) (left1 left2 : Option (List ℕ)) (piece : List ℕ) (mid : SessionView H) (codec1 : At) (count size : ℕ)
-    (serving : Serving rules service taken0 (Some bytes) left1 taken1 mid codec1 count) where
   -- nothing of the piece was served
-  pub wrote_before : Consumes left1 left2 piece → length piece ≤ size → WrotePart rules service bytes left2 size taken0 taken1
-  wrote_before gives short =
-      wrote rules laws service taken0 taken1 taken1 bytes left1 left2 piece mid codec1 count serving size gives short (λ rest is. part_none rules taken1 mid.state _)
+  pub wrote_before : (left2 : Option (List ℕ)) (piece : List ℕ) (size : ℕ) → Consumes left1 left2 piece → length piece ≤ size → WrotePart way (call_bytes bytes left2 taken0 b.taken) size
+  wrote_before left2 piece size gives short = wrote left2 b.taken piece size gives short (λ rest is. part_none b.state b.taken _)
 
   -- some of the piece was served
-  pub wrote_within : Consumes left1 left2 piece → length piece ≤ size
-      → ((c : List ℕ) → RanPart rules taken1 mid.state (served (rules.find mid.state.service) (all_admitted (items_at (more (more codec1 piece) c)))) taken2)
-      → WrotePart rules service bytes left2 size taken0 taken2
-  wrote_within gives short part =
-      wrote rules laws service taken0 taken1 taken2 bytes left1 left2 piece mid codec1 count serving size gives short
-      (λ rest is. subst (λ a. RanPart rules taken1 mid.state (served (rules.find mid.state.service) (all_admitted (items_at a))) taken2) (more_more codec1 piece rest) (part rest))
+  pub wrote_within : (left2 taken2 : Option (List ℕ)) (piece : List ℕ) (size : ℕ) → Consumes left1 left2 piece → length piece ≤ size
+      → ((c : List ℕ) → RanPart (Step semantics order rounds) b.state b.taken (served find_b (all_admitted (items_at (more (more codec1 piece) c)))) taken2)
+      → WrotePart way (call_bytes bytes left2 taken0 taken2) size
+  wrote_within left2 taken2 piece size gives short part =
+      wrote left2 taken2 piece size gives short
+      (λ rest is. subst (λ c. RanPart (Step semantics order rounds) b.state b.taken (served find_b (all_admitted (items_at c))) taken2) (more_more codec1 piece rest) (part rest))
 
   -- some of the end was served
-  pub wrote_at_end : left1 ≡ Some [] → left2 ≡ Some [] → RanPart rules taken1 mid.state (served (rules.find mid.state.service) (all_admitted (items_at codec1))) taken2 → WrotePart rules service bytes left2 size taken0 taken2
-  wrote_at_end empty after part =
-      wrote rules laws service taken0 taken1 taken2 bytes left1 left2 [] mid codec1 count serving size (subst (λ l. Consumes l left2 []) (sym empty) (subst (λ l. Consumes (Some []) l []) (sym after) refl)) (omega arith)
+  pub wrote_at_end : (left2 taken2 : Option (List ℕ)) (size : ℕ) → left1 ≡ Some [] → left2 ≡ Some [] → RanPart (Step semantics order rounds) b.state b.taken (served find_b (all_admitted (items_at codec1))) taken2
+      → WrotePart way (call_bytes bytes left2 taken0 taken2) size
+  wrote_at_end left2 taken2 size empty after part =
+      wrote left2 taken2 [] size (subst (λ l. Consumes l left2 []) (sym empty) (subst (λ l. Consumes (Some []) l []) (sym after) refl)) (omega arith)
       (λ rest is. let none : rest ≡ [] = cc in
-      subst (λ (l : List ℕ). RanPart rules taken1 mid.state (served (rules.find mid.state.service) (all_admitted (items_at (more codec1 l)))) taken2) (sym none)
-      (subst (λ a. RanPart rules taken1 mid.state (served (rules.find mid.state.service) (all_admitted (items_at a))) taken2) (sym (more_nothing codec1)) part))
+      subst (λ (l : List ℕ). RanPart (Step semantics order rounds) b.state b.taken (served find_b (all_admitted (items_at (more codec1 l)))) taken2) (sym none)
+      (subst (λ c. RanPart (Step semantics order rounds) b.state b.taken (served find_b (all_admitted (items_at c))) taken2) (sym (more_nothing codec1)) part))

@@ -4,6 +4,9 @@ pub mod MemorySource
 pub mod MemorySink
 pub mod ReadWrite
 pub mod Items
+pub mod Course
 pub mod Written
 pub mod Served
-pub mod Answers
+pub mod Errors
+pub mod ServerView
+pub mod ServedView

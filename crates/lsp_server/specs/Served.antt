@@ -2,16 +2,18 @@
 use Rattle.std.specs.Prelude.{◌≡◌, ◌≤◌, ◌⊎◌, ◌++◌, Bool, true, false, ℕ, List, [], ◌∷◌, length, Option, Some}
 use Rattle.std.specs.Io.KnownBytes.{Consumes, Appends}
 use Rattle.lsp_rpc.specs.Message.{IdData}
+use Rattle.lsp_desk.specs.declared.life.Life.{Life}
+use Rattle.lsp_desk.specs.Meaning.{Meaning}
 use Rattle.lsp_frame.specs.Codec.{Item, At, frames, told_at}
 use Rattle.lsp_session.specs.declared.table.Entry.{Entry}
-use Rattle.lsp_session.specs.declared.state.Life.{Life}
 use Rattle.lsp_session.specs.Item.{ItemData}
-use Rattle.lsp_session.specs.Rules.{Rules}
-use Rattle.lsp_session.specs.Run.{State, Effect, Step, Run, live, opening, served, has_exit, is_exit}
+use Rattle.lsp_session.specs.State.{State, Effect, live}
+use Rattle.lsp_session.specs.Run.{Picked, Run, served, has_exit, is_exit}
 use Rattle.lsp_session.specs.Count.{Counts}
 use Rattle.lsp_session.specs.Session.{SessionView}
 use Rattle.lsp_server.specs.Items.{all_admitted, stream_items, stream_told, Decodes}
-use Rattle.lsp_server.specs.Written.{Ran, IsPartOf}
+use Rattle.lsp_server.specs.Course.{Course}
+use Rattle.lsp_server.specs.Written.{Place, Ran, IsPartOf}
 
 -- ---- what a codec tells
 
@@ -29,58 +31,86 @@ Ends true find given codec = Closes find given
 Ends false find given codec = (has_exit find given ≡ false) × (told_at codec ≡ [])
 
 -- the items that a codec tells were served, through the first exit
-pub record ServedTold {H C : Type 0} (rules : Rules H C) (old_taken : Option (List ℕ)) (old : State H) (old_codec : At) (exits : Bool) (new_taken : Option (List ℕ)) (new : SessionView H) (new_codec : At) : Type 0 where
+pub record ServedTold {S D : Type 0} (step : S → ItemData → Effect → S → Type 0) (m : Meaning D) (find : List ℕ → Option Entry) (old : Place S D) (old_codec : At) (exits : Bool) (new : Place S D) (new_codec : At) : Type 0 where
   pub given : List Item
   pub decodes : Decodes old_codec given new_codec
-  pub ran : Ran rules old_taken old (all_admitted given) new_taken new
-  pub ends : Ends exits (rules.find old.service) (all_admitted given) new_codec
+  pub ran : Ran step m old (all_admitted given) new
+  pub ends : Ends exits find (all_admitted given) new_codec
 
--- ---- what a server writes
+-- ---- the bytes of a call
 
--- what is written, and the service, life and ids that are handed back, are those of a run over all these bytes
-pub record IsServed {H C : Type 0} (rules : Rules H C) (service : H) (bytes : List ℕ) (old_taken new_taken : Option (List ℕ)) (last_service : H) (exited : Option Life) (unanswered : List IdData) : Type 0 where
-  pub effect : Effect
-  pub last : State H
-  pub run : Run (Step rules) (opening service) (served (rules.find service) (stream_items bytes)) effect last
-  pub writes : Appends old_taken new_taken (frames effect.out)
-  pub service_is : last_service ≡ last.service
-  pub exited_is : exited ≡ last.exited
-  pub unanswered_is : unanswered ≡ live last
+pub record CallBytes : Type 0 where
+  -- all bytes of the source, and those of them that the call left
+  pub bytes : List ℕ
+  pub left : Option (List ℕ)
+  -- what the sink had taken before the call, and after it
+  pub taken : Option (List ℕ)
+  pub taken_after : Option (List ℕ)
+
+abbrev pub call_bytes : List ℕ → Option (List ℕ) → Option (List ℕ) → Option (List ℕ) → CallBytes
+call_bytes bytes left taken taken_after = record { bytes = bytes; left = left; taken = taken; taken_after = taken_after }
+
+-- the steps of these items were made from the start on, and their frames are what the sink took in the call
+abbrev pub RanFrom : {S D : Type 0} → Course S D → CallBytes → List ItemData → S → D → Type 0
+RanFrom course call items last desk =
+    Ran course.step course.meaning (record { state = course.start; desk = course.desk; taken = call.taken }) items (record { state = last; desk = desk; taken = call.taken_after })
+
+-- ---- what a server answers
+
+-- what `serve` hands back at the end of a session
+pub record ServedView (H D : Type 0) : Type 0 where
+  pub service : H
+  pub desk : D
+  pub exited : Option Life
+  pub unanswered : List IdData
+
+-- what is handed back of a session
+abbrev pub handed_back : {H D C T : Type 0} → SessionView H D C T → ServedView H D
+handed_back view = record { service = view.state.service; desk = view.desk; exited = view.state.exited; unanswered = live view.state }
+
+-- what is written, and what is handed back, are those of a run over all these bytes
+pub record IsServed {H D C T P : Type 0} (course : Course (Picked (State H C T) P) D) (call : CallBytes) (served_view : ServedView H D) (pick : P) : Type 0 where
+  pub last : Picked (State H C T) P
+  pub ran : RanFrom course call (served course.find (stream_items course.limits call.bytes)) last served_view.desk
+  pub service_is : served_view.service ≡ last.session.service
+  pub desk_is : course.meaning.now served_view.desk ≡ last.session.desk
+  pub exited_is : served_view.exited ≡ last.session.exited
+  pub unanswered_is : served_view.unanswered ≡ live last.session
+  pub pick_is : pick ≡ last.pick
   -- each owed request and each fault is answered once, but for what is listed
-  pub counts : Counts (rules.find service) (served (rules.find service) (stream_items bytes)) effect.out unanswered
+  pub counts : Counts course.find (served course.find (stream_items course.limits call.bytes)) ran.effect.out served_view.unanswered
 
 -- the bytes were read to their end, or an exit is told in those that were read, and it is the last piece, of at
--- most so many bytes, that tells it: nothing was read behind that piece
-pub record ReadEnough (find : List ℕ → Option Entry) (bytes : List ℕ) (left : Option (List ℕ)) (size : ℕ) : Type 0 where
+-- most so many bytes, that tells it: nothing was read after that piece
+pub record ReadEnough {S D : Type 0} (course : Course S D) (call : CallBytes) (size : ℕ) : Type 0 where
   pub early : List ℕ
   pub piece : List ℕ
-  pub gives : Consumes (Some bytes) left (early ++ piece)
+  pub gives : Consumes (Some call.bytes) call.left (early ++ piece)
   pub short : length piece ≤ size
-  pub none : has_exit find (stream_told early) ≡ false
-  pub enough : (left ≡ Some []) ⊎ (has_exit find (stream_told (early ++ piece)) ≡ true)
+  pub none : has_exit course.find (stream_told course.limits early) ≡ false
+  pub enough : (call.left ≡ Some []) ⊎ (has_exit course.find (stream_told course.limits (early ++ piece)) ≡ true)
 
--- what is written is the frames of a run over the items told by the bytes read, and no exit is among them
-pub record WroteTold {H C : Type 0} (rules : Rules H C) (service : H) (bytes : List ℕ) (left old_taken new_taken : Option (List ℕ)) : Type 0 where
+-- what is written is the frames of a run over the items told by the bytes read, and no exit is among them; the
+-- desk grew by that run's trace
+pub record WroteTold {S D : Type 0} (course : Course S D) (call : CallBytes) (desk : D) : Type 0 where
   pub read : List ℕ
-  pub gives : Consumes (Some bytes) left read
-  pub none : has_exit (rules.find service) (stream_told read) ≡ false
-  pub effect : Effect
-  pub last : State H
-  pub run : Run (Step rules) (opening service) (stream_told read) effect last
-  pub writes : Appends old_taken new_taken (frames effect.out)
+  pub gives : Consumes (Some call.bytes) call.left read
+  pub none : has_exit course.find (stream_told course.limits read) ≡ false
+  pub last : S
+  pub ran : RanFrom course call (stream_told course.limits read) last desk
 
 -- what is written begins the frames of a run over all these bytes, and holds them whole for all items
 -- that are told by the bytes read but for a last piece of at most so many bytes
-pub record WrotePart {H C : Type 0} (rules : Rules H C) (service : H) (bytes : List ℕ) (left : Option (List ℕ)) (size : ℕ) (old_taken new_taken : Option (List ℕ)) : Type 0 where
+pub record WrotePart {S D : Type 0} (course : Course S D) (call : CallBytes) (size : ℕ) : Type 0 where
   pub early : List ℕ
   pub piece : List ℕ
-  pub gives : Consumes (Some bytes) left (early ++ piece)
+  pub gives : Consumes (Some call.bytes) call.left (early ++ piece)
   pub short : length piece ≤ size
   pub first : Effect
-  pub mid : State H
-  pub run : Run (Step rules) (opening service) (stream_told early) first mid
+  pub mid : S
+  pub run : Run course.step course.start (stream_told course.limits early) first mid
   pub later : List ItemData
-  pub split : stream_told early ++ later ≡ served (rules.find service) (stream_items bytes)
+  pub split : stream_told course.limits early ++ later ≡ served course.find (stream_items course.limits call.bytes)
   pub written : List ℕ
-  pub part : IsPartOf rules mid later written
-  pub writes : Appends old_taken new_taken (frames first.out ++ written)
+  pub part : IsPartOf course.step mid later written
+  pub writes : Appends call.taken call.taken_after (frames first.out ++ written)

@@ -1,35 +1,45 @@
 -- What is written of a run.
-use Rattle.std.specs.Prelude.{◌≡◌, ◌++◌, ℕ, List, [], Option, false}
+use Rattle.std.specs.Prelude.{◌≡◌, ◌++◌, ℕ, List, Option}
 use Rattle.std.specs.Io.KnownBytes.{Appends}
+use Rattle.lsp_desk.specs.Meaning.{Meaning, Grows}
 use Rattle.lsp_frame.specs.Codec.{frames}
 use Rattle.lsp_session.specs.Item.{ItemData}
-use Rattle.lsp_session.specs.Rules.{Rules}
-use Rattle.lsp_session.specs.Run.{State, Effect, Step, Run}
+use Rattle.lsp_session.specs.State.{State, Effect}
+use Rattle.lsp_session.specs.Run.{Picked, Run}
 use Rattle.lsp_session.specs.Session.{SessionView}
+use Rattle.lsp_server.specs.Course.{picked}
 
 abbrev pub IsPrefixOf : List ℕ → List ℕ → Type 0
 IsPrefixOf part whole = (rest : List ℕ) × (part ++ rest ≡ whole)
 
--- the session made the steps of these items, and the frames of what they put out were written
-pub record Ran {H C : Type 0} (rules : Rules H C) (old_taken : Option (List ℕ)) (old : State H) (served : List ItemData) (new_taken : Option (List ℕ)) (new : SessionView H) : Type 0 where
+-- where serving stands: the session's state, its desk, and the bytes that the sink took, where they are told
+pub record Place (S D : Type 0) : Type 0 where
+  pub state : S
+  pub desk : D
+  pub taken : Option (List ℕ)
+
+abbrev pub place : {H D C T P : Type 0} → SessionView H D C T → P → Option (List ℕ) → Place (Picked (State H C T) P) D
+place view p taken = record { state = picked view p; desk = view.desk; taken = taken }
+
+-- the steps of these items were made, the desk grew by their trace, and the frames of what they put out were written
+pub record Ran {S D : Type 0} (step : S → ItemData → Effect → S → Type 0) (m : Meaning D) (old : Place S D) (items : List ItemData) (new : Place S D) : Type 0 where
   pub effect : Effect
-  pub run : Run (Step rules) old served effect new.state
-  pub writes : Appends old_taken new_taken (frames effect.out)
-  pub taken : new.out ≡ []
-  pub running : new.stopped ≡ false
+  pub run : Run step old.state items effect new.state
+  pub grows : Grows m old.desk effect.trace new.desk
+  pub writes : Appends old.taken new.taken (frames effect.out)
 
 -- these bytes begin the frames of a run over some first ones of these items
-pub record IsPartOf {H C : Type 0} (rules : Rules H C) (old : State H) (served : List ItemData) (bytes : List ℕ) : Type 0 where
+pub record IsPartOf {S : Type 0} (step : S → ItemData → Effect → S → Type 0) (old : S) (items : List ItemData) (bytes : List ℕ) : Type 0 where
   pub given : List ItemData
   pub rest : List ItemData
-  pub split : given ++ rest ≡ served
+  pub split : given ++ rest ≡ items
   pub effect : Effect
-  pub last : State H
-  pub run : Run (Step rules) old given effect last
+  pub last : S
+  pub run : Run step old given effect last
   pub part : IsPrefixOf bytes (frames effect.out)
 
 -- bytes that begin the frames of a run over some first ones of these items were written
-pub record RanPart {H C : Type 0} (rules : Rules H C) (old_taken : Option (List ℕ)) (old : State H) (served : List ItemData) (new_taken : Option (List ℕ)) : Type 0 where
+pub record RanPart {S : Type 0} (step : S → ItemData → Effect → S → Type 0) (old : S) (old_taken : Option (List ℕ)) (items : List ItemData) (new_taken : Option (List ℕ)) : Type 0 where
   pub written : List ℕ
-  pub part : IsPartOf rules old served written
+  pub part : IsPartOf step old items written
   pub writes : Appends old_taken new_taken written

@@ -3,7 +3,8 @@
 
 mod memory;
 mod read_write;
-mod serve;
+mod server;
+mod serving;
 mod sink;
 mod source;
 mod step;
@@ -11,7 +12,7 @@ mod write;
 
 pub use memory::{MemorySink, MemorySource, NeverSink, NeverSource};
 pub use read_write::{ReadSource, WriteSink};
-pub use serve::{Served, Server};
+pub use server::{Served, Server, Stopped};
 pub use sink::{Refused, Sink};
 pub use source::{Failed, Source};
 pub use step::ServeError;

@@ -3,7 +3,7 @@ ghost use Rattle.std.specs.Prelude.{◌≡◌, ◌≤◌, ◌++◌, false, ℕ, 
 ghost use Rattle.std.specs.Io.KnownBytes.{Appends};
 ghost use Rattle.lsp_rpc.specs.Shown.{show_message};
 ghost use Rattle.lsp_frame.specs.Codec.{frames};
-ghost use Rattle.lsp_session.specs.Session.{have_float};
+ghost use Rattle.lsp_session.specs.Float.{have_float};
 ghost use Rattle.lsp_server.specs.SourceSink.{CountRose};
 ghost use Rattle.lsp_server.specs.Written.{IsPrefixOf};
 

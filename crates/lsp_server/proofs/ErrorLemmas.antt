@@ -1,0 +1,35 @@
+-- Which errors a server may stop with.
+use Rattle.std.proofs.Common.{◌≡◌, ℕ, ◌+◌, ◌<◌, ◌≤◌, List, length, refl, sym, ◌∙◌, ap, arith, Bool, true, false, true≢false}
+use Rattle.std.specs.Prelude.{Option, Some, None, IfSome, Result, Ok, Err, OnOk, OnErr, IfErr, IsErrAnd, IsErrOf}
+use Rattle.std.specs.Io.KnownBytes.{Consumes}
+use Rattle.lsp_desk.specs.Meaning.{Meaning, IsLawful, Grown}
+use Rattle.lsp_server.specs.declared.step.ServeError.{ServeError}
+use Rattle.lsp_server.specs.declared.step.ServeError.TheVariants.{ReadFault, WriteFault, ReadsSpent, DeskSpent, NoMemory}
+use Rattle.lsp_server.specs.SourceSink.{CountRose}
+use Rattle.lsp_server.specs.Errors.{SaysSpent, ComesUnfailed}
+
+-- a desk that others don't use is never spent
+pub unspent_alone : {D : Type 0} (m : Meaning D) → IsLawful m → (old new : D) → Grown m old new → m.alone old ≡ true → m.spent new ≡ false
+unspent_alone m laws old new grown alone = laws.alone_unspent new (grown.grows.alone ∙ alone)
+
+pub never_alone : {D : Type 0} (m : Meaning D) → IsLawful m → (old new : D) → Grown m old new → (error : ServeError) → SaysSpent m new error
+    → m.alone old ≡ true → (n : ℕ) → error ≡ DeskSpent n → ⊥
+never_alone m laws old new grown (DeskSpent k) says alone n e = true≢false (sym says ∙ unspent_alone m laws old new grown alone)
+never_alone m laws old new grown error says alone n e = cc
+
+shared_where_spent : {D : Type 0} (m : Meaning D) → IsLawful m → (old new : D) → Grown m old new → m.spent new ≡ true → (b : Bool) → m.alone old ≡ b → b ≡ false
+shared_where_spent m laws old new grown spent true is = absurd (true≢false (sym spent ∙ unspent_alone m laws old new grown is))
+shared_where_spent m laws old new grown spent false is = refl
+
+-- what may come without a failure, and with reads left
+pub unfailed : {D : Type 0} (m : Meaning D) → IsLawful m → (old new : D) → Grown m old new → (error : ServeError) → SaysSpent m new error
+    → (read wrote : Type 0) (reads : ℕ) (bytes : List ℕ) (left : Option (List ℕ)) (told : (left ≡ None → ⊥))
+    → (error ≡ ReadFault → read) → (error ≡ WriteFault → wrote) → (error ≡ ReadsSpent → IfSome left (λ rest. reads + length rest ≤ length bytes))
+    → length bytes < reads → (read → ⊥) → (wrote → ⊥) → ComesUnfailed (m.alone old) error
+unfailed m laws old new grown ReadFault says read wrote reads bytes left told r w s enough no_read no_write = no_read (r refl)
+unfailed m laws old new grown WriteFault says read wrote reads bytes left told r w s enough no_read no_write = no_write (w refl)
+unfailed m laws old new grown ReadsSpent says read wrote reads bytes None told r w s enough no_read no_write = told refl
+unfailed m laws old new grown ReadsSpent says read wrote reads bytes (Some rest) told r w s enough no_read no_write =
+    let few : reads + length rest ≤ length bytes = s refl in absurd (omega (arith, few, enough))
+unfailed m laws old new grown (DeskSpent n) says read wrote reads bytes left told r w s enough no_read no_write = shared_where_spent m laws old new grown says (m.alone old) refl
+unfailed m laws old new grown NoMemory says read wrote reads bytes left told r w s enough no_read no_write = tt

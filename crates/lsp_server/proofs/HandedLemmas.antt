@@ -1,0 +1,31 @@
+-- What a run over all of a source's bytes hands back.
+use Rattle.std.proofs.Common.{◌≡◌, ℕ, List, [], ◌<◌, ◌≤◌, refl, sym, ◌∙◌, ap, subst, arith}
+use Rattle.std.specs.Prelude.{Option}
+use Rattle.lsp_desk.specs.Meaning.{Meaning}
+use Rattle.lsp_session.specs.Item.{ItemData}
+use Rattle.lsp_session.specs.Semantics.{Semantics, IsLawful}
+use Rattle.lsp_session.specs.State.{State, IsSettled, opening, live}
+use Rattle.lsp_session.specs.Run.{Order, Picked, Step, served}
+use Rattle.lsp_session.specs.Session.{SessionView}
+use Rattle.lsp_session.proofs.CountLemmas.{run_counts}
+use Rattle.lsp_server.specs.Items.{stream_items}
+use Rattle.lsp_server.specs.Course.{Course, Setting, opening_view, picked, course}
+use Rattle.lsp_server.specs.Served.{CallBytes, RanFrom, ServedView, handed_back, IsServed}
+
+opening_settled : {H C T : Type 0} (service : H) (max wait : ℕ) → IsSettled (opening {H = H} {C = C} {T = T} service max wait)
+opening_settled service max wait = record { ids_differ = tt; slots_few = omega arith; slots_full = λ h. absurd (omega (arith, h)) }
+
+module _ {H D C T P : Type 0} {semantics : Semantics H C T} (laws : IsLawful semantics) (m : Meaning D) (order : Order P) (setting : Setting H D P) (call : CallBytes) where
+  pub is_served : (view : SessionView H D semantics.Call semantics.Task) (p : P) → RanFrom (course semantics m order setting) call (served (semantics.find setting.service) (stream_items setting.limits call.bytes)) (picked view p) view.desk
+      → m.now view.desk ≡ view.state.desk → IsServed (course semantics m order setting) call (handed_back view) p
+  is_served view p ran desk = record {
+    last = picked view p;
+    ran = ran;
+    service_is = refl;
+    desk_is = desk;
+    exited_is = refl;
+    unanswered_is = refl;
+    pick_is = refl;
+    counts = run_counts semantics order setting.rounds laws (course semantics m order setting).start (picked view p) (served (semantics.find setting.service) (stream_items setting.limits call.bytes)) ran.effect
+        (opening_settled setting.service setting.max setting.wait) refl ran.run;
+  }

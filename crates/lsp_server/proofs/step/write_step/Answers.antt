@@ -1,0 +1,57 @@
+-- One step, with what was written of it.
+use Rattle.std.proofs.Common.{◌≡◌, map, ◌∷◌, [], sym, subst, false}
+use Rattle.lsp_rpc.specs.Shown.{show_message}
+use Rattle.lsp_desk.specs.declared.life.Life.TheVariants.{Exited}
+use Rattle.lsp_session.specs.Item.{show_item}
+use Rattle.lsp_session.specs.Run.{Order, Step, is_exit}
+use Rattle.lsp_session.specs.Session.{SessionView}
+use Rattle.lsp_session.specs.SessionView.{session_view}
+use Rattle.lsp_server.specs.Course.{picked}
+use Rattle.lsp_server.specs.Written.{place, Ran}
+use Rattle.lsp_server.proofs.RanLemmas.{ran_one, part_one, part_none, stepped_lives}
+use Rattle.lsp_server.proofs.step.write_step.Goals as goal
+
+pub returns-in-Err-DeskSpent-clause-part : goal.returns-in-Err-DeskSpent-clause-part
+returns-in-Err-DeskSpent-clause-part g c =
+    part_none (picked (session_view g.H.Handlers.semantics g.D.Caller.meaning c.args.session.now) (g.P.Pick.state c.args.pick.now)) (g.O.Sink.taken c.args.sink.now) (show_item c.args.item ∷ [])
+
+pub returns-in-Err-NoMemory-clause-part : goal.returns-in-Err-NoMemory-clause-part
+returns-in-Err-NoMemory-clause-part g c =
+    part_none (picked (session_view g.H.Handlers.semantics g.D.Caller.meaning c.args.session.now) (g.P.Pick.state c.args.pick.now)) (g.O.Sink.taken c.args.sink.now) (show_item c.args.item ∷ [])
+
+pub returns-in-Ok-put-clause-ok : goal.returns-in-Ok-put-clause-ok
+returns-in-Ok-put-clause-ok g c =
+    let sem = g.H.Handlers.semantics in
+    let m = g.D.Caller.meaning in
+    let order : Order g.P.Pick.State = record { gives = g.P.Pick.gives; later = g.P.Pick.later } in
+    subst (λ (v : SessionView _ _ sem.Call sem.Task). Ran (Step sem order c.args.rounds) m (place (session_view sem m c.args.session.now) (g.P.Pick.state c.args.pick.now) (g.O.Sink.taken c.args.sink.now)) (show_item c.args.item ∷ [])
+    (place v (g.P.Pick.state c.step.new.pick) (g.O.Sink.taken c.put.new.sink))) (sym c.take_out-out.ensures.rest)
+    (ran_one sem m order c.args.rounds (g.O.Sink.taken c.args.sink.now) (g.O.Sink.taken c.put.new.sink) (session_view sem m c.args.session.now) (session_view sem m c.step.new.session)
+    (g.P.Pick.state c.args.pick.now) (g.P.Pick.state c.step.new.pick) (show_item c.args.item) (map show_message c.take_out-out.result.items) c.in-Ok.ensures.ok c.requires.ready.taken c.take_out-out.ensures.taken c.in-Ok-put.ensures.ok)
+
+pub returns-in-Ok-put-clause-lives : goal.returns-in-Ok-put-clause-lives
+returns-in-Ok-put-clause-lives g c =
+    let sem = g.H.Handlers.semantics in
+    let m = g.D.Caller.meaning in
+    let order : Order g.P.Pick.State = record { gives = g.P.Pick.gives; later = g.P.Pick.later } in
+    subst (λ (v : SessionView _ _ sem.Call sem.Task). is_exit (sem.find (session_view sem m c.args.session.now).state.service) (show_item c.args.item) ≡ false → v.state.desk.life ≡ Exited → ⊥) (sym c.take_out-out.ensures.rest)
+    (stepped_lives sem m order c.args.rounds g.met.H.Handlers.laws (session_view sem m c.args.session.now) (session_view sem m c.step.new.session)
+    (g.P.Pick.state c.args.pick.now) (g.P.Pick.state c.step.new.pick) (show_item c.args.item) c.in-Ok.ensures.ok c.requires.alive)
+
+pub returns-in-Err-Failed-clause-part : goal.returns-in-Err-Failed-clause-part
+returns-in-Err-Failed-clause-part g c =
+    let sem = g.H.Handlers.semantics in
+    let m = g.D.Caller.meaning in
+    let order : Order g.P.Pick.State = record { gives = g.P.Pick.gives; later = g.P.Pick.later } in
+    let p = c.in-Err-Failed.ensures.part in
+    part_one sem m order c.args.rounds (g.O.Sink.taken c.args.sink.now) (g.O.Sink.taken c.put.new.sink) (session_view sem m c.args.session.now) (session_view sem m c.step.new.session)
+    (g.P.Pick.state c.args.pick.now) (g.P.Pick.state c.step.new.pick) (show_item c.args.item) (map show_message c.take_out-out.result.items) p.0 c.in-Ok.ensures.ok c.requires.ready.taken c.take_out-out.ensures.taken p.1 p.2
+
+pub returns-clause-part : goal.returns-clause-part
+returns-clause-part g c =
+    let sem = g.H.Handlers.semantics in
+    let m = g.D.Caller.meaning in
+    let order : Order g.P.Pick.State = record { gives = g.P.Pick.gives; later = g.P.Pick.later } in
+    let p = c.in-Err-NoMemory-put.ensures.part in
+    part_one sem m order c.args.rounds (g.O.Sink.taken c.args.sink.now) (g.O.Sink.taken c.put.new.sink) (session_view sem m c.args.session.now) (session_view sem m c.step.new.session)
+    (g.P.Pick.state c.args.pick.now) (g.P.Pick.state c.step.new.pick) (show_item c.args.item) (map show_message c.take_out-out.result.items) p.0 c.in-Ok.ensures.ok c.requires.ready.taken c.take_out-out.ensures.taken p.1 p.2

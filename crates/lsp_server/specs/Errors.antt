@@ -1,0 +1,53 @@
+-- Which errors of a server come when.
+use Rattle.std.specs.Prelude.{◌≡◌, ⊤, Bool, true, false}
+use Rattle.lsp_desk.specs.Meaning.{Meaning}
+use Rattle.lsp_server.specs.declared.step.ServeError.{ServeError}
+use Rattle.lsp_server.specs.declared.step.ServeError.TheVariants.{ReadFault, WriteFault, ReadsSpent, DeskSpent, NoMemory}
+
+-- these errors come between the steps of one piece and the next read
+abbrev pub IsBetweenReads : ServeError → Type 0
+IsBetweenReads ReadFault = ⊤
+IsBetweenReads WriteFault = ⊥
+IsBetweenReads ReadsSpent = ⊤
+IsBetweenReads (DeskSpent n) = ⊥
+IsBetweenReads NoMemory = ⊥
+
+-- these errors come in a step
+abbrev pub IsInStep : ServeError → Type 0
+IsInStep ReadFault = ⊥
+IsInStep WriteFault = ⊤
+IsInStep ReadsSpent = ⊥
+IsInStep (DeskSpent n) = ⊤
+IsInStep NoMemory = ⊤
+
+-- these errors come without a fault of the sink
+abbrev pub LeavesSink : ServeError → Type 0
+LeavesSink ReadFault = ⊤
+LeavesSink WriteFault = ⊥
+LeavesSink ReadsSpent = ⊤
+LeavesSink (DeskSpent n) = ⊤
+LeavesSink NoMemory = ⊤
+
+-- an error says that the desk is spent only where it is
+abbrev pub SaysSpent : {D : Type 0} → Meaning D → D → ServeError → Type 0
+SaysSpent m desk ReadFault = ⊤
+SaysSpent m desk WriteFault = ⊤
+SaysSpent m desk ReadsSpent = ⊤
+SaysSpent m desk (DeskSpent n) = m.spent desk ≡ true
+SaysSpent m desk NoMemory = ⊤
+
+-- without a failure, and with reads left, only memory may be wanting, or turns of a desk that others use
+abbrev pub ComesUnfailed : Bool → ServeError → Type 0
+ComesUnfailed alone ReadFault = ⊥
+ComesUnfailed alone WriteFault = ⊥
+ComesUnfailed alone ReadsSpent = ⊥
+ComesUnfailed alone (DeskSpent n) = alone ≡ false
+ComesUnfailed alone NoMemory = ⊤
+
+-- these errors come of a sink
+abbrev pub ComesOfSink : ServeError → Type 0
+ComesOfSink ReadFault = ⊥
+ComesOfSink WriteFault = ⊤
+ComesOfSink ReadsSpent = ⊥
+ComesOfSink (DeskSpent n) = ⊥
+ComesOfSink NoMemory = ⊤

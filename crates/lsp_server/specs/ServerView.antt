@@ -1,0 +1,46 @@
+-- What contracts see of the code's server and of the session that it runs.
+use Rattle.std.specs.Prelude.{◌≡◌, ℕ, List, [], Option, false}
+use Rattle.lsp_desk.specs.declared.desk.Caller.{Ghosts as CallerGhosts}
+use Rattle.lsp_desk.specs.Meaning.{Meaning}
+use Rattle.lsp_frame.specs.declared.limits.Limits.{Limits}
+use Rattle.lsp_session.specs.declared.handlers.Handlers.{Ghosts as HandlersGhosts}
+use Rattle.lsp_session.specs.declared.session.Session.{Session}
+use Rattle.lsp_session.specs.Semantics.{Semantics}
+use Rattle.lsp_session.specs.State.{State}
+use Rattle.lsp_session.specs.Run.{Picked}
+use Rattle.lsp_session.specs.SessionView.{session_view, has_stopped}
+use Rattle.lsp_server.specs.declared.server.Server.{Server}
+use Rattle.lsp_server.specs.Course.{Setting}
+use Rattle.lsp_server.specs.Written.{Place, place}
+
+-- ---- the server
+
+abbrev pub server_desk : {D : Type 0} {d : CallerGhosts D} → Server D d → D
+server_desk s = s.socket.desk
+
+-- how many calls are polled in a round at most
+abbrev pub concurrency : {D : Type 0} {d : CallerGhosts D} → Server D d → ℕ
+concurrency s = s.max
+
+-- how many calls that wait let no further request wait
+abbrev pub waiting : {D : Type 0} {d : CallerGhosts D} → Server D d → ℕ
+waiting s = s.wait
+
+abbrev pub server_limits : {D : Type 0} {d : CallerGhosts D} → Server D d → Limits
+server_limits s = s.limits
+
+-- what the server runs a session with
+abbrev pub setting : {H D P : Type 0} {d : CallerGhosts D} → Server D d → H → P → ℕ → Setting H D P
+setting server service pick rounds = record { service = service; desk = server_desk server; max = concurrency server; wait = waiting server; rounds = rounds; limits = server_limits server; pick = pick }
+
+-- ---- the session
+
+-- where serving stands with the code's session
+abbrev pub standing : {H D C T P : Type 0} {h : HandlersGhosts H D C T} {d : CallerGhosts D} → (semantics : Semantics H C T) → Meaning D → Session H D C T h d → P → Option (List ℕ)
+    → Place (Picked (State H semantics.Call semantics.Task) P) D
+standing semantics m session p taken = place (session_view semantics m session) p taken
+
+-- a session between two steps: it goes on, and what it put out was taken
+pub record IsReady {H D C T : Type 0} {h : HandlersGhosts H D C T} {d : CallerGhosts D} (semantics : Semantics H C T) (m : Meaning D) (session : Session H D C T h d) : Type 0 where
+  pub running : has_stopped session ≡ false
+  pub taken : (session_view semantics m session).out ≡ []

@@ -1,0 +1,296 @@
+// The server.
+ghost use Rattle.std.specs.Prelude.{◌≡◌, ◌≢◌, ◌≤◌, ◌<◌, ◌+◌, ◌*◌, [], ◌∷◌, ℕ, true, false, length, OnOk, OnErr, IfOk, IfErr, IfSome, IsErrAnd, IsErrOf};
+ghost use Rattle.lsp_desk.specs.Meaning.{IsOpening, Grown};
+ghost use Rattle.lsp_frame.specs.Codec.{AreLimits, default_limits};
+ghost use Rattle.lsp_session.specs.Item.{show_item, item_has_float, tick};
+ghost use Rattle.lsp_session.specs.Run.{Step, order_by};
+ghost use Rattle.lsp_session.specs.SessionView.{session_view, has_stopped, desk_of, life_of};
+ghost use Rattle.lsp_server.specs.SourceSink.{CountRose, IsFlushed};
+ghost use Rattle.lsp_server.specs.Course.{course, picked};
+ghost use Rattle.lsp_server.specs.Written.{Ran, RanPart};
+ghost use Rattle.lsp_server.specs.Served.{call_bytes, handed_back, IsServed, ReadEnough, WroteTold, WrotePart};
+ghost use Rattle.lsp_server.specs.ServedView.{show_served};
+ghost use Rattle.lsp_server.specs.Errors.{IsBetweenReads, IsInStep, ComesUnfailed, SaysSpent};
+
+use crate::serving::serve_reads;
+use crate::step::{ServeError, flush, write_step};
+use crate::{Sink, Source};
+use lsp_desk::{ClientSocket, Desk, Loopback};
+use lsp_frame::Limits;
+use lsp_rpc::{Id, NoMemory};
+use lsp_session::{Handlers, Item, Life, Pick, Session};
+use std::alloc::Global;
+
+/// What a server hands back at the end of its session.
+#[derive(Drop)]
+pub struct Served<H, D> {
+    /// The handlers, as the session left them.
+    pub service: H,
+    /// The desk, as the session left it.
+    pub desk: D,
+    /// The life that stood when `exit` was admitted; none where input ended before.
+    pub exited: Option<Life>,
+    /// The ids of requests without a reply, in order of admission.
+    pub unanswered: Vec<Id>,
+}
+
+/// What a server hands back where it stopped before the end of its session.
+#[derive(Drop)]
+pub struct Stopped<D> {
+    /// Why it stopped.
+    pub error: ServeError,
+    /// The desk, as the session left it.
+    pub desk: D,
+}
+
+/// Serves a session over a source and a sink of bytes.
+#[derive(Drop)]
+pub struct Server<D: Desk + Drop> {
+    socket: ClientSocket<D>,
+    max: usize,
+    wait: usize,
+    limits: Limits,
+    ghost some: { 1 ≤ max },
+    ghost limited: { AreLimits limits },
+}
+
+impl<D: Desk + Drop> Server<D> {
+    ghost use Rattle.lsp_server.specs.ServerView.{server_desk, concurrency, waiting, server_limits, setting, standing, IsReady};
+
+    /// A server over the desk of a socket. At most 4 calls are polled in a round, at most 1,024
+    /// more let a further request wait, and the limits of head and body are the default ones.
+    pub fn new(socket: ClientSocket<D>) -> Server<D>
+        ensures desk { server_desk result ≡ socket.desk }
+        ensures concurrency { concurrency result ≡ 4 }
+        ensures waiting { waiting result ≡ 1024 }
+        ensures limits { server_limits result ≡ default_limits }
+    {
+        Server {
+            socket,
+            max: 4,
+            wait: 1024,
+            limits: Limits::default(),
+        }
+    }
+
+    /// The same server, in which at most `max` calls are polled in a round.
+    pub fn concurrency_level(self, max: usize) -> Server<D>
+        requires { 1 ≤ max }
+        ensures desk { server_desk result ≡ server_desk self }
+        ensures concurrency { concurrency result ≡ max }
+        ensures waiting { waiting result ≡ waiting self }
+        ensures limits { server_limits result ≡ server_limits self }
+    {
+        Server {
+            socket: self.socket,
+            max,
+            wait: self.wait,
+            limits: self.limits,
+        }
+    }
+
+    /// The same server, in which a request of an ordinary method is refused while no more calls may
+    /// be polled and `wait` others wait.
+    pub fn waiting_limit(self, wait: usize) -> Server<D>
+        ensures desk { server_desk result ≡ server_desk self }
+        ensures concurrency { concurrency result ≡ concurrency self }
+        ensures waiting { waiting result ≡ wait }
+        ensures limits { server_limits result ≡ server_limits self }
+    {
+        Server {
+            socket: self.socket,
+            max: self.max,
+            wait,
+            limits: self.limits,
+        }
+    }
+
+    /// The same server, in which heads and bodies have at most so many bytes.
+    pub fn limits(self, limits: Limits) -> Server<D>
+        requires { AreLimits limits }
+        ensures desk { server_desk result ≡ server_desk self }
+        ensures concurrency { concurrency result ≡ concurrency self }
+        ensures waiting { waiting result ≡ waiting self }
+        ensures limits { server_limits result ≡ limits }
+    {
+        Server {
+            socket: self.socket,
+            max: self.max,
+            wait: self.wait,
+            limits,
+        }
+    }
+
+    /// Makes the step of one item: it is admitted, so many rounds are made, and the frames of all
+    /// that was put out are written and flushed.
+    pub fn step<O: Sink, H: Handlers<D>, P: Pick>(
+        alloc: Global,
+        sink: &mut O,
+        session: &mut Session<H, D>,
+        item: Item,
+        pick: &mut P,
+        rounds: u64,
+    ) -> Result<(), ServeError>
+        requires rounds { 1 ≤ rounds }
+        requires ready { IsReady H.semantics D.meaning session.old }
+        requires alive { life_of D.meaning session.old ≢ Life.Exited }
+        requires float_free { item_has_float (show_item item) ≡ false }
+
+        // The step was made, and exactly the frames of what it put out were written and flushed.
+        ensures ok { OnOk result (Ran (Step H.semantics (order_by P.gives P.later) rounds) D.meaning
+            (standing H.semantics D.meaning session.old (P.state pick.old) (O.taken sink.old)) (show_item item ∷ [])
+            (standing H.semantics D.meaning session.new (P.state pick.new) (O.taken sink.new))) }
+        ensures ready { OnOk result (IsReady H.semantics D.meaning session.new) }
+        ensures flushed { OnOk result (IsFlushed (O.taken sink.old) (O.flushed sink.old) → IsFlushed (O.taken sink.new) (O.flushed sink.new)) }
+
+        // At an error nothing was written, or what begins the frames of the whole step.
+        ensures part { OnErr result (RanPart (Step H.semantics (order_by P.gives P.later) rounds)
+            (picked (session_view H.semantics D.meaning session.old) (P.state pick.old)) (O.taken sink.old) (show_item item ∷ []) (O.taken sink.new)) }
+        ensures grown { OnErr result (Grown D.meaning (desk_of session.old) (desk_of session.new)) }
+
+        // Each error has its cause, and a failure is told.
+        ensures count { O.faults sink.old ≤ O.faults sink.new }
+        ensures write { IsErrOf result ServeError.WriteFault → CountRose (O.faults sink.old) (O.faults sink.new) }
+        ensures write_told { O.faults sink.old < O.faults sink.new → IsErrOf result ServeError.WriteFault }
+        ensures spent { IfErr result (λ e. SaysSpent D.meaning (desk_of session.new) e) }
+        ensures others { IfErr result IsInStep }
+    {
+        write_step(alloc, sink, session, item, pick, rounds)?;
+        flush(sink)
+    }
+
+    /// Makes the step of a tick: nothing is admitted, and so many rounds are made.
+    pub fn idle<O: Sink, H: Handlers<D>, P: Pick>(
+        alloc: Global,
+        sink: &mut O,
+        session: &mut Session<H, D>,
+        pick: &mut P,
+        rounds: u64,
+    ) -> Result<(), ServeError>
+        requires rounds { 1 ≤ rounds }
+        requires ready { IsReady H.semantics D.meaning session.old }
+        requires alive { life_of D.meaning session.old ≢ Life.Exited }
+        ensures ok { OnOk result (Ran (Step H.semantics (order_by P.gives P.later) rounds) D.meaning
+            (standing H.semantics D.meaning session.old (P.state pick.old) (O.taken sink.old)) (tick ∷ [])
+            (standing H.semantics D.meaning session.new (P.state pick.new) (O.taken sink.new))) }
+        ensures ready { OnOk result (IsReady H.semantics D.meaning session.new) }
+        ensures flushed { OnOk result (IsFlushed (O.taken sink.old) (O.flushed sink.old) → IsFlushed (O.taken sink.new) (O.flushed sink.new)) }
+        ensures part { OnErr result (RanPart (Step H.semantics (order_by P.gives P.later) rounds)
+            (picked (session_view H.semantics D.meaning session.old) (P.state pick.old)) (O.taken sink.old) (tick ∷ []) (O.taken sink.new)) }
+        ensures grown { OnErr result (Grown D.meaning (desk_of session.old) (desk_of session.new)) }
+        ensures count { O.faults sink.old ≤ O.faults sink.new }
+        ensures write { IsErrOf result ServeError.WriteFault → CountRose (O.faults sink.old) (O.faults sink.new) }
+        ensures write_told { O.faults sink.old < O.faults sink.new → IsErrOf result ServeError.WriteFault }
+        ensures spent { IfErr result (λ e. SaysSpent D.meaning (desk_of session.new) e) }
+        ensures others { IfErr result IsInStep }
+    {
+        Server::<D>::step(alloc, sink, session, Item::Tick, pick, rounds)
+    }
+
+    /// Serves the messages of the source to the sink, to the end of input or the first `exit`.
+    ///
+    /// It reads pieces of at most 4,096 bytes, at most `reads` of them. Before it reads again it
+    /// makes the step of each item that is told, with `rounds` rounds, and writes and flushes all
+    /// that they put out.
+    pub fn serve<I: Source, O: Sink, H: Handlers<D>, P: Pick>(
+        self,
+        alloc: Global,
+        source: &mut I,
+        sink: &mut O,
+        service: H,
+        pick: &mut P,
+        reads: u64,
+        rounds: u64,
+    ) -> Result<Served<H, D>, Stopped<D>>
+        requires rounds { 1 ≤ rounds }
+        requires opening { IsOpening D.meaning (server_desk self) }
+
+        // The bytes written, and the service and desk handed back, are those of a session run over
+        // the items that the frame grammar finds in all the source's bytes; in it each owed request
+        // and each fault before any exit is answered once, but for what is listed as unanswered.
+        ensures headline { IfOk result (λ served. IfSome (I.left source.old) (λ bytes. IsServed
+            (course H.semantics D.meaning (order_by P.gives P.later) (setting self service (P.state pick.old) rounds))
+            (call_bytes bytes (I.left source.new) (O.taken sink.old) (O.taken sink.new))
+            (show_served served) (P.state pick.new))) }
+
+        // Ok comes only at the end of input or at an exit, and nothing is read after the piece that
+        // tells the exit.
+        ensures enough { OnOk result (IfSome (I.left source.old) (λ bytes. ReadEnough
+            (course H.semantics D.meaning (order_by P.gives P.later) (setting self service (P.state pick.old) rounds))
+            (call_bytes bytes (I.left source.new) (O.taken sink.old) (O.taken sink.new)) 4096)) }
+
+        // The bytes taken are flushed, if they were at the start.
+        ensures flushed { OnOk result (IsFlushed (O.taken sink.old) (O.flushed sink.old) → IsFlushed (O.taken sink.new) (O.flushed sink.new)) }
+        ensures flushed_between { IfErr result (λ stopped. IsBetweenReads stopped.error
+            → IsFlushed (O.taken sink.old) (O.flushed sink.old) → IsFlushed (O.taken sink.new) (O.flushed sink.new)) }
+
+        // Each error has its cause.
+        ensures read { IfErr result (λ stopped. stopped.error ≡ ServeError.ReadFault → CountRose (I.faults source.old) (I.faults source.new)) }
+        ensures write { IfErr result (λ stopped. stopped.error ≡ ServeError.WriteFault → CountRose (O.faults sink.old) (O.faults sink.new)) }
+        ensures reads_spent { IfErr result (λ stopped. stopped.error ≡ ServeError.ReadsSpent → IfSome (I.left source.old) (λ bytes.
+            IfSome (I.left source.new) (λ rest. reads + length rest ≤ length bytes))) }
+        ensures desk_spent { IfErr result (λ stopped. SaysSpent D.meaning stopped.desk stopped.error) }
+        ensures never_alone { IfErr result (λ stopped. D.meaning.alone (server_desk self) ≡ true → (n : ℕ) → stopped.error ≢ ServeError.DeskSpent n) }
+
+        // A failure is told: where a count rose, the answer is that error.
+        ensures counts { (I.faults source.old ≤ I.faults source.new) × (O.faults sink.old ≤ O.faults sink.new) }
+        ensures read_told { I.faults source.old < I.faults source.new → IsErrAnd result (λ stopped. stopped.error ≡ ServeError.ReadFault) }
+        ensures write_told { O.faults sink.old < O.faults sink.new → IsErrAnd result (λ stopped. stopped.error ≡ ServeError.WriteFault) }
+
+        // Each of at most `reads` reads takes at most 4,096 bytes.
+            ensures few { IfSome (I.left source.old) (λ bytes. IfSome (I.left source.new) (λ rest. length bytes ≤ length rest + reads * 4096)) }
+
+        // So with no failure, and with more reads than bytes, only memory may be wanting, or turns
+        // of a desk that others use.
+        ensures complete { IfErr result (λ stopped. IfSome (I.left source.old) (λ bytes. length bytes < reads
+            → ¬ CountRose (I.faults source.old) (I.faults source.new) → ¬ CountRose (O.faults sink.old) (O.faults sink.new) → ComesUnfailed (D.meaning.alone (server_desk self)) stopped.error)) }
+
+        // What was written by then.
+        ensures exact { IfErr result (λ stopped. IsBetweenReads stopped.error → IfSome (I.left source.old) (λ bytes. WroteTold
+            (course H.semantics D.meaning (order_by P.gives P.later) (setting self service (P.state pick.old) rounds))
+            (call_bytes bytes (I.left source.new) (O.taken sink.old) (O.taken sink.new)) stopped.desk)) }
+        ensures part { OnErr result (IfSome (I.left source.old) (λ bytes. WrotePart
+            (course H.semantics D.meaning (order_by P.gives P.later) (setting self service (P.state pick.old) rounds))
+            (call_bytes bytes (I.left source.new) (O.taken sink.old) (O.taken sink.new)) 4096)) }
+
+        // At each answer the desk that is handed back has grown from the one that was handed in.
+        ensures grown { IfOk result (λ served. Grown D.meaning (server_desk self) served.desk) }
+        ensures grown_stopped { IfErr result (λ stopped. Grown D.meaning (server_desk self) stopped.desk) }
+    {
+        let desk = self.socket.into_desk();
+        let mut session = Session::new(alloc, service, desk, self.max).waiting_limit(self.wait);
+        match serve_reads(alloc, source, sink, &mut session, pick, reads, rounds, self.limits) {
+            Ok(()) => hand_back(session),
+            Err(error) => Err(Stopped {
+                error,
+                desk: session.into_parts().1,
+            }),
+        }
+    }
+}
+
+// What is handed back at the end of a session.
+fn hand_back<D: Desk + Drop, H: Handlers<D>>(
+    session: Session<H, D>,
+) -> Result<Served<H, D>, Stopped<D>>
+    requires running { has_stopped session ≡ false }
+    ensures handed { IfOk result (λ served. show_served served ≡ handed_back (session_view H.semantics D.meaning session)) }
+    ensures stopped { IfErr result (λ stopped. (stopped.error ≡ ServeError.NoMemory) × (stopped.desk ≡ (session_view H.semantics D.meaning session).desk)) }
+{
+    let exited = session.exited();
+    match session.unanswered() {
+        Ok(unanswered) => {
+            let (service, desk) = session.into_parts();
+            Ok(Served {
+                service,
+                desk,
+                exited,
+                unanswered,
+            })
+        }
+        Err(NoMemory) => Err(Stopped {
+            error: ServeError::NoMemory,
+            desk: session.into_parts().1,
+        }),
+    }
+}
