@@ -1,29 +1,18 @@
 // What is watched of a file.
-ghost use Rattle.std.specs.Prelude.{◌≡◌, ◌≤◌, ⊤, [], ◌∷◌, codes, Some, None, if◌then◌else◌, ◌<=◌};
+ghost use Rattle.std.specs.Prelude.{◌≡◌, ⊤, [], ◌∷◌, codes, Some, None, option_map, if◌then◌else◌, ◌<=◌};
 ghost use Rattle.std.specs.Int.RustNames.{bit_or};
-ghost use Rattle.lsp_offer_work.specs.WatchKind.{watch_kind_row};
+ghost use Rattle.lsp_offer_work.specs.WatchKind.{bits_of, watch_kind_row};
 
 use bitflags::{Flag, Flags};
 use lsp_shape::{Misfit, NoMemory, Wire};
 use serde_json::Value;
 use std::alloc::Global;
 use std::fmt;
-use std::marker::Model;
 use std::ops::BitOr;
 
 /// Which changes of a file are watched, as a set: section "DidChangeWatchedFiles Notification" of LSP 3.17.
 #[derive(Clone, Copy, PartialEq, Eq, PartialOrd, Ord, Hash)]
 pub struct WatchKind(u8);
-
-impl Model for WatchKind {
-    ghost use Rattle.std.specs.Prelude.{ℕ};
-
-    ghost Value = { ℕ };
-
-    ghost view = { λ k. k.0 };
-
-    ghost inverse = { λ n. record { 0 = n } };
-}
 
 impl WatchKind {
     /// The file is created.
@@ -51,14 +40,14 @@ impl WatchKind {
 
     /// The number of the set: the sum of 1, 2 and 4 for what it holds.
     pub fn bits(&self) -> u8
-        ensures { result ≡ self.now }
+        ensures { result ≡ bits_of self.now }
     {
         self.0
     }
 
     /// The set of that number. None comes exactly for a number above 7, which has a bit that means nothing.
     pub fn from_bits(bits: u8) -> Option<WatchKind>
-        ensures { result ≡ (if bits <= 7 then Some bits else None) }
+        ensures { option_map bits_of result ≡ (if bits <= 7 then Some bits else None) }
     {
         if bits <= 7 {
             Some(WatchKind(bits))
@@ -75,7 +64,7 @@ impl Flags for WatchKind {
 
     ghost table = { (codes "Create", 1) ∷ (codes "Change", 2) ∷ (codes "Delete", 4) ∷ [] };
 
-    ghost set_of = { λ k. k };
+    ghost set_of = { bits_of };
 
     fn flags<'a>() -> &'a [Flag<WatchKind>] {
         WatchKind::FLAGS
@@ -94,7 +83,7 @@ impl Flags for WatchKind {
 impl BitOr for WatchKind {
     type Output = WatchKind;
 
-    ghost bitor_gives = { λ a b r. r ≡ bit_or a b };
+    ghost bitor_gives = { λ a b r. bits_of r ≡ bit_or (bits_of a) (bits_of b) };
 
     fn bitor(self, other: WatchKind) -> WatchKind {
         WatchKind(self.0 | other.0)

@@ -735,19 +735,20 @@ fn edit_of_one_document(rt: HostRuntime) -> Result<(), Fail> {
     Ok(())
 }
 
+fn folder(alloc: Global, uri: &str, name: &str) -> Result<WorkspaceFolder, Fail> {
+    Ok(WorkspaceFolder {
+        uri: Uri::parse(alloc, uri)?,
+        name: String::from_str(alloc, name)?,
+    })
+}
+
 // Workspace folders are ordered by their fields: the URI first.
 #[test]
 fn order_of_workspace_folders(rt: HostRuntime) -> Result<(), Fail> {
     let alloc = rt.alloc();
-    let folder = |uri: &str, name: &str| -> Result<WorkspaceFolder, Fail> {
-        Ok(WorkspaceFolder {
-            uri: Uri::parse(alloc, uri)?,
-            name: String::from_str(alloc, name)?,
-        })
-    };
-    let first = folder("file:///a", "b")?;
-    assert!(rt; first < folder("file:///b", "a")?);
-    assert!(rt; first < folder("file:///a", "c")?);
-    assert!(rt; first == folder("file:///a", "b")?);
+    let first = folder(alloc, "file:///a", "b")?;
+    assert!(rt; first < folder(alloc, "file:///b", "a")?);
+    assert!(rt; first < folder(alloc, "file:///a", "c")?);
+    assert!(rt; first == folder(alloc, "file:///a", "b")?);
     Ok(())
 }

@@ -5,7 +5,7 @@
 //     TEXT :: SHOWN   the text is read and written, and Debug shows this of what it is read as
 //     ! TEXT          the text does not fit
 //     # SOURCE        who sent the text of the next line
-use lsp_shape::{Misfit, NoMemory, Wire};
+use lsp_shape::{Misfit, Wire};
 use serde_json::Value;
 use std::alloc::Global;
 use std::fmt;
