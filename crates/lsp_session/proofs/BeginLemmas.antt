@@ -1,10 +1,9 @@
 -- A call begins only where admission started it, once for each start, and with what its own request's params are read as.
-use Rattle.std.proofs.Common.{◌≡◌, ℕ, zero, suc, ◌+◌, ◌-◌, ◌≤◌, List, [], ◌∷◌, ◌++◌, length, take, drop, map, refl, sym, ◌∙◌, ap, subst, arith, take-append-drop, Bool, true, false, cond, not}
+use Rattle.std.proofs.Common.{◌≡◌, ℕ, zero, suc, ◌+◌, ◌-◌, ◌≤◌, List, [], ◌∷◌, ◌++◌, length, take, drop, map, refl, ◌∙◌, ap, subst, arith, take-append-drop, Bool, true, false, cond, not}
 use Rattle.std.specs.Prelude.{if◌then◌else◌, filter, Option, Some, None, ◌&&◌}
 use Rattle.serde_json.specs.Data.{Data}
 use Rattle.lsp_rpc.specs.declared.code.ErrorCode.TheVariants.{InvalidRequest}
 use Rattle.lsp_rpc.specs.Message.{IdData, ErrorData, RequestData, request, response, error_with_code}
-use Rattle.lsp_desk.specs.Desk.{DeskState}
 use Rattle.lsp_session.specs.declared.table.Entry.{Entry}
 use Rattle.lsp_session.specs.declared.table.Kind.{Kind}
 use Rattle.lsp_session.specs.declared.table.Kind.TheVariants.{Request, Notification}
@@ -13,12 +12,10 @@ use Rattle.lsp_session.specs.declared.table.Layer.TheVariants.{Initialize, Shutd
 use Rattle.lsp_session.specs.declared.life_check.LifeCheck.{LifeCheck}
 use Rattle.lsp_session.specs.declared.life_check.LifeCheck.TheVariants.{Passes, NotInitialized, Invalid}
 use Rattle.lsp_session.specs.Item.{ItemData, message, fault, tick}
-use Rattle.lsp_session.specs.Semantics.{Semantics, Reading, call, missing, unexpected, unfit, Phase, Fresh, Held, Progress, Pending, Done}
-use Rattle.lsp_session.specs.Admission.{Verdict, Silence, Refuses, Answers, Cancels, Exits, Starts, Occasion, is_live, admission, refuse, cancel, cancel_live, cancels, cancelled_id, started as started_verdict, unless_crowded, is_limited, if_of_kind, check_life, passed, quiet, called, by_layer, by_entry}
-use Rattle.lsp_session.specs.State.{Work, State, Effect, marked, dues, moved_up, moved_slots, moved_queue, entered, has_room, is_of, is_notification, without, notifications, opening}
+use Rattle.lsp_session.specs.Semantics.{Semantics, Reading, call, missing, unexpected, unfit, Fresh, Held, Progress, Pending, Done}
+use Rattle.lsp_session.specs.Admission.{Verdict, Silence, Refuses, Answers, Cancels, Exits, Starts, Occasion, is_live, refuse, cancel, cancel_live, cancels, cancelled_id, started as started_verdict, unless_crowded, is_limited, if_of_kind, check_life, passed, quiet, called, by_layer, by_entry}
+use Rattle.lsp_session.specs.State.{Work, State, Effect, marked, dues, moved_up, moved_slots, moved_queue, entered, has_room, is_of, is_notification, without, notifications}
 use Rattle.lsp_session.specs.Run.{Applies, admission_of, occasion, after_poll, Order, Poll, PollsAt, Rounds, Picked, Step, Run}
-use Rattle.lsp_session.specs.Count.{one_if}
-use Rattle.lsp_session.specs.Laws.{Serves}
 use Rattle.lsp_session.specs.Begins.{Begin, passing, begins, begun_by_polls, begun_by_rounds, begun, starts, started, IsRequested, BeginsWhereStarted}
 
 -- ---- a verdict starts no call but that of its own request
@@ -226,7 +223,12 @@ module _ {H C T : Type 0} (semantics : Semantics H C T) (f : Begin semantics.Cal
         let drained : waiting h.0.session ≡ waiting h.3.polled = ap waiting h.3.drains.leaves in
         let rest = run_waiting rounds h.0 items h.2 s2 h.4 in
         omega (
-          arith, mid, applied, polled, drained, rest,
+          arith,
+          mid,
+          applied,
+          polled,
+          drained,
+          rest,
           passing-append f (begun_by_rounds semantics order rounds h.3.admitted s.pick h.3.second h.3.polled h.0.pick h.3.polls) (begun semantics order rounds h.0 items h.2 s2 h.4),
           passing-append f (starts v) (started semantics order rounds h.0 items h.2 s2 h.4),
         )

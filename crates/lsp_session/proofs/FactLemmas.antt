@@ -1,23 +1,21 @@
 -- The works of a session fit its life in each state between two of its calls.
 use Rattle.std.proofs.Common.{◌≡◌, ◌≤◌, ℕ, zero, suc, List, [], ◌∷◌, ◌++◌, length, map, refl, sym, ◌∙◌, ap, subst, Bool, true, false}
-use Rattle.std.specs.Prelude.{Option, Some, None, Result, if◌then◌else◌, ◌&&◌}
-use Rattle.serde_json.specs.Data.{Data}
-use Rattle.lsp_rpc.specs.Message.{IdData, ErrorData}
+use Rattle.std.specs.Prelude.{Option, Some, if◌then◌else◌, ◌&&◌}
+use Rattle.lsp_rpc.specs.Message.{IdData}
 use Rattle.lsp_desk.specs.declared.life.Life.{Life}
-use Rattle.lsp_desk.specs.declared.life.Life.TheVariants.{Uninitialized, Initializing, Initialized, ShutDown, Exited}
-use Rattle.lsp_desk.specs.Call as calls
+use Rattle.lsp_desk.specs.declared.life.Life.TheVariants.{Uninitialized, Initializing, Initialized, ShutDown}
 use Rattle.lsp_desk.specs.Desk.{DeskState}
 use Rattle.lsp_desk.proofs.TraceLemmas.{makes_life, life_along}
 use Rattle.lsp_session.specs.declared.table.Entry.{Entry}
 use Rattle.lsp_session.specs.declared.table.Layer.{Layer}
-use Rattle.lsp_session.specs.declared.table.Layer.TheVariants.{Initialize, Shutdown, Exit, Cancel, Normal}
+use Rattle.lsp_session.specs.declared.table.Layer.TheVariants.{Shutdown, Normal}
 use Rattle.lsp_session.specs.declared.life_check.LifeChange.{LifeChange}
-use Rattle.lsp_session.specs.declared.life_check.LifeChange.TheVariants.{Stays, Rises, Falls}
+use Rattle.lsp_session.specs.declared.life_check.LifeChange.TheVariants.{Stays, Rises}
 use Rattle.lsp_session.specs.Item.{ItemData}
 use Rattle.lsp_session.specs.Semantics.{Semantics, IsLawful, Fresh, Held, Progress, Pending, Done}
-use Rattle.lsp_session.specs.Admission.{Verdict, Silence, Refuses, Answers, Cancels, Exits, Starts, Admission, is_live, cancel_change}
-use Rattle.lsp_session.specs.State.{Work, State, Effect, ids_of, live, initializing, initializes, is_initialize, marked, moved_up, entered, WorksFit, FitsLife, opening}
-use Rattle.lsp_session.specs.Run.{Applies, Changes, Admits, admission_of, occasion, after_poll, Order, Poll, PollsAt, Round, Rounds, Drains, Picked, Step, Run, replied, took, closed, changing, poll_change, end_change, is_initializing}
+use Rattle.lsp_session.specs.Admission.{Verdict, Silence, Refuses, Answers, Cancels, Exits, Starts, Admission, cancel_change}
+use Rattle.lsp_session.specs.State.{Work, State, Effect, initializing, initializes, is_initialize, marked, moved_up, entered, WorksFit, FitsLife, opening}
+use Rattle.lsp_session.specs.Run.{Applies, Admits, admission_of, occasion, after_poll, Order, Poll, PollsAt, Round, Rounds, Drains, Picked, Step, took, closed, changing, poll_change, end_change, is_initializing}
 use Rattle.lsp_session.proofs.PollLemmas.{client_along}
 use Rattle.lsp_session.proofs.WorkLemmas.{cancelled_state, quit_state, quit_live}
 use Rattle.lsp_session.proofs.SortLemmas.{Sorted, leaves, takes, ends, opens, begins, shuts, closes, changes_none, admission_sorted}

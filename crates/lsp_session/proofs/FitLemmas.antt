@@ -1,8 +1,8 @@
 -- The works fit the life, whatever is done.
-use Rattle.std.proofs.Common.{◌≡◌, ℕ, zero, suc, ◌+◌, ◌-◌, ◌<◌, ◌≤◌, List, [], ◌∷◌, ◌++◌, length, take, drop, map, refl, sym, ◌∙◌, ap, subst, arith, append_assoc, take-append-drop, length-append, Bool, true, false, cond, not, true≢false}
-use Rattle.std.specs.Prelude.{filter, Option, Some, None, Result, Ok, Err, if◌then◌else◌, nat_lt, ◌||◌, ◌&&◌}
+use Rattle.std.proofs.Common.{◌≡◌, ℕ, ◌-◌, ◌≤◌, List, [], ◌∷◌, ◌++◌, length, take, drop, map, refl, sym, ◌∙◌, ap, subst, arith, append_assoc, take-append-drop, length-append, Bool, true, false, cond, not, true≢false}
+use Rattle.std.specs.Prelude.{filter, Option, Some, None, Result, Ok, Err, if◌then◌else◌, nat_lt, ◌||◌}
 use Rattle.std.specs.List.{list_any}
-use Rattle.std.proofs.lemmas.List.{append-nil, map-append, length-map}
+use Rattle.std.proofs.lemmas.List.{length-map}
 use Rattle.std.proofs.lemmas.List.Elements.{filter-append}
 use Rattle.std.proofs.lemmas.List.Folds.{list_any-append}
 use Rattle.std.proofs.lemmas.Grind.{common_steps}
@@ -12,17 +12,13 @@ use Rattle.lsp_rpc.specs.Message.{IdData, ErrorData}
 use Rattle.lsp_rpc.specs.Ids.{same_id}
 use Rattle.lsp_desk.specs.declared.life.Life.{Life}
 use Rattle.lsp_desk.specs.declared.life.Life.TheVariants.{Uninitialized, Initializing, Initialized, ShutDown, Exited}
-use Rattle.lsp_desk.specs.Desk.{DeskState}
 use Rattle.lsp_desk.proofs.TraceLemmas.{life_along}
-use Rattle.lsp_session.specs.declared.table.Layer.{Layer}
-use Rattle.lsp_session.specs.declared.table.Layer.TheVariants.{Initialize, Shutdown, Exit, Cancel, Normal}
-use Rattle.lsp_session.specs.declared.life_check.LifeChange.{LifeChange}
-use Rattle.lsp_session.specs.declared.life_check.LifeChange.TheVariants.{Stays, Rises, Falls}
-use Rattle.lsp_session.specs.Semantics.{Progress, Pending, Done}
+use Rattle.lsp_session.specs.declared.life_check.LifeChange.TheVariants.{Stays, Falls}
+use Rattle.lsp_session.specs.Semantics.{Done}
 use Rattle.lsp_session.specs.Admission.{is_live, cancel_change}
-use Rattle.lsp_session.specs.State.{Work, State, with_id, ids_of, is_of, without, is_initialize, initializes, marked, moved_slots, moved_queue, WorksFit}
+use Rattle.lsp_session.specs.State.{Work, with_id, ids_of, is_of, without, initializes, marked, moved_slots, moved_queue, WorksFit}
 use Rattle.lsp_session.specs.Run.{changing, poll_change, end_change}
-use Rattle.lsp_session.proofs.WorkLemmas.{ids_of-append, ids_mid, ids_out, ids_moved, slots_if, queue_if}
+use Rattle.lsp_session.proofs.WorkLemmas.{ids_mid, ids_out, ids_moved, slots_if, queue_if}
 
 -- ---- lists
 

@@ -1,30 +1,29 @@
 -- What every session keeps, by the cases of admission.
-use Rattle.std.proofs.Common.{◌≡◌, ◌≢◌, ◌⊎◌, inl, inr, ℕ, zero, suc, ◌+◌, ◌<◌, ◌≤◌, List, [], ◌∷◌, ◌++◌, length, map, refl, sym, ◌∙◌, ap, subst, arith, Bool, true, false, true≢false, cond, not}
-use Rattle.std.specs.Prelude.{Option, Some, None, Result, Ok, Err, if◌then◌else◌, ltb, ◌||◌, ◌&&◌}
+use Rattle.std.proofs.Common.{◌≡◌, ◌≢◌, ◌⊎◌, inl, inr, ℕ, ◌<◌, ◌≤◌, [], ◌∷◌, ◌++◌, refl, sym, ◌∙◌, ap, subst, arith, Bool, true, false, true≢false}
+use Rattle.std.specs.Prelude.{Option, Some, Err, if◌then◌else◌, ltb}
 use Rattle.std.proofs.lemmas.Bool.{ltb-true}
-use Rattle.serde_json.specs.Data.{Data}
 use Rattle.lsp_rpc.specs.declared.code.ErrorCode.TheVariants.{InvalidRequest}
-use Rattle.lsp_rpc.specs.Message.{IdData, ErrorData, RequestData, MessageData, request, error_with_code, not_initialized_error}
+use Rattle.lsp_rpc.specs.Message.{IdData, ErrorData, RequestData, request, error_with_code, not_initialized_error}
 use Rattle.lsp_desk.specs.declared.life.Life.{Life}
 use Rattle.lsp_desk.specs.declared.life.Life.TheVariants.{Uninitialized, Initializing, Initialized, ShutDown, Exited}
 use Rattle.lsp_desk.specs.Desk.{DeskState}
-use Rattle.lsp_desk.specs.Lives.{rank, later, fallen, is_exited}
+use Rattle.lsp_desk.specs.Lives.{rank, later, fallen}
 use Rattle.lsp_desk.proofs.TraceLemmas.{makes_life, life_along}
 use Rattle.lsp_session.specs.declared.table.Entry.{Entry}
 use Rattle.lsp_session.specs.declared.table.Layer.{Layer}
-use Rattle.lsp_session.specs.declared.table.Layer.TheVariants.{Initialize, Shutdown, Exit, Cancel, Normal}
+use Rattle.lsp_session.specs.declared.table.Layer.TheVariants.{Initialize, Normal}
 use Rattle.lsp_session.specs.declared.life_check.LifeCheck.{LifeCheck}
 use Rattle.lsp_session.specs.declared.life_check.LifeCheck.TheVariants.{NotInitialized}
 use Rattle.lsp_session.specs.declared.life_check.LifeChange.{LifeChange}
 use Rattle.lsp_session.specs.declared.life_check.LifeChange.TheVariants.{Stays, Rises, Falls}
 use Rattle.lsp_session.specs.Item.{ItemData, message}
 use Rattle.lsp_session.specs.Semantics.{Semantics, IsLawful, Progress, Pending, Done}
-use Rattle.lsp_session.specs.Admission.{Verdict, Silence, Refuses, Answers, Cancels, Exits, Starts, Admission, Occasion, admission, check_life, quiet, refuse, passed, initialized, if_of_kind, started, by_layer, by_entry}
-use Rattle.lsp_session.specs.State.{Work, State, Effect, nothing, both, puts, live, initializing, is_crowded}
-use Rattle.lsp_session.specs.Run.{answer, Applies, Admits, admission_of, occasion, after_poll, Poll, Drains, took, closed, changing, poll_change, end_change, is_initializing, is_exit}
-use Rattle.lsp_session.specs.Laws.{IsUntouched, IsAnswered, Requests, InitializeComesFirst, InitializeComesOnce, NothingBeginsAfterShutdown, HasEnded, ExitEnds, FallsInTime, LivesGoOn}
+use Rattle.lsp_session.specs.Admission.{Verdict, Silence, Refuses, Answers, Cancels, Exits, Starts, Admission, Occasion, check_life, quiet, refuse, passed, initialized, if_of_kind, started, by_layer, by_entry}
+use Rattle.lsp_session.specs.State.{State, Effect, live, is_crowded}
+use Rattle.lsp_session.specs.Run.{answer, Applies, Admits, admission_of, occasion, after_poll, Poll, took, closed, changing, poll_change}
+use Rattle.lsp_session.specs.Laws.{IsAnswered, Requests, InitializeComesFirst, InitializeComesOnce, NothingBeginsAfterShutdown, ExitEnds, FallsInTime, LivesGoOn}
 use Rattle.lsp_session.proofs.SortLemmas.{Sorted, leaves, takes, ends, opens, begins, shuts, closes, changes_none, admission_sorted}
-use Rattle.lsp_session.proofs.LifeLemmas.{quits, admission_quits, quits_quietly}
+use Rattle.lsp_session.proofs.LifeLemmas.{admission_quits, quits_quietly}
 use Rattle.lsp_session.proofs.WorkLemmas.{quit_live}
 use Rattle.lsp_session.proofs.CountLemmas.{quits_is}
 use Rattle.lsp_session.proofs.FactLemmas.{poll_life}

@@ -1,13 +1,12 @@
 -- What the code sees of an occasion is what there is.
-use Rattle.std.proofs.Common.{◌≡◌, ℕ, List, [], ◌∷◌, ◌++◌, length, refl, sym, ◌∙◌, ap, subst, arith, Bool, true, false, cond}
+use Rattle.std.proofs.Common.{◌≡◌, List, [], ◌∷◌, ◌++◌, length, refl, sym, ◌∙◌, ap, arith, Bool, true, false, cond}
 use Rattle.std.specs.Prelude.{filter, Option, Some, None, if◌then◌else◌, ◌||◌}
 use Rattle.std.specs.List.{list_any}
 use Rattle.lsp_rpc.specs.Message.{IdData}
 use Rattle.lsp_desk.specs.declared.life.Life.{Life}
 use Rattle.lsp_desk.specs.declared.life.Life.TheVariants.{Uninitialized, Initializing, Initialized, ShutDown, Exited}
-use Rattle.lsp_session.specs.Admission.{Occasion}
 use Rattle.lsp_session.specs.Verdict.{occasion_of}
-use Rattle.lsp_session.specs.State.{Work, State, with_id, ids_of, live, initializing, initializes, is_crowded, WorksFit, FitsLife}
+use Rattle.lsp_session.specs.State.{Work, State, with_id, ids_of, live, initializes, is_crowded, WorksFit, FitsLife}
 use Rattle.lsp_session.specs.Run.{occasion, is_initializing}
 use Rattle.lsp_session.proofs.FitLemmas.{filter_none, no_length}
 

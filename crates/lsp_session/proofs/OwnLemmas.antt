@@ -1,10 +1,9 @@
 -- What calls put in the desk comes out once and in order.
 use Rattle.std.proofs.Common.{◌≡◌, ℕ, zero, suc, List, [], ◌∷◌, ◌++◌, map, refl, sym, ◌∙◌, ap, subst, append_assoc, Bool, true, false, true≢false}
 use Rattle.std.proofs.lemmas.List.{append-nil, map-append}
-use Rattle.std.specs.Prelude.{Option, Some, None, Result, if◌then◌else◌, pos, ◌&&◌}
+use Rattle.std.specs.Prelude.{Option, Some, None, if◌then◌else◌, pos, ◌&&◌}
 use Rattle.std.specs.List.{find, list_any}
-use Rattle.serde_json.specs.Data.{Data}
-use Rattle.lsp_rpc.specs.Message.{IdData, ErrorData, RequestData, ResponseData, MessageData, number_id, request, response}
+use Rattle.lsp_rpc.specs.Message.{IdData, RequestData, ResponseData, MessageData, number_id, request, response}
 use Rattle.lsp_desk.specs.declared.life.Life.{Life}
 use Rattle.lsp_desk.specs.declared.life.Life.TheVariants.{Exited}
 use Rattle.lsp_desk.specs.Lives.{is_exited, holds_back}
@@ -15,7 +14,7 @@ use Rattle.lsp_desk.specs.Reply as replies
 use Rattle.lsp_desk.specs.Desk.{DeskState, AwaitedData, KeptData, desk_step, asked, told, sent_with, polled, answered, awaiting, first_of, is_kept_for, is_awaited_by}
 use Rattle.lsp_desk.specs.Desk as desk
 use Rattle.lsp_desk.specs.Flow.{message_of, put_by, put_in, taken_by, taken_out, is_sent, all_put, all_taken}
-use Rattle.lsp_desk.specs.Trace.{DeskEntry, TraceEntry, Fits, IsReply, Replays, Makes, after, after_reply, entries_of, owns, OthersAsk, AllOwn}
+use Rattle.lsp_desk.specs.Trace.{DeskEntry, TraceEntry, IsReply, Replays, Makes, after, after_reply, entries_of, owns, OthersAsk, AllOwn}
 use Rattle.lsp_desk.proofs.FlowLaws.{messages_pass_lem}
 use Rattle.lsp_desk.proofs.LifeLaws.{ends_stay_lem}
 use Rattle.lsp_desk.proofs.TraceLemmas.{replays_on, own_fits, all_owns}
@@ -24,10 +23,9 @@ use Rattle.lsp_session.specs.declared.life_check.LifeChange.TheVariants.{Stays, 
 use Rattle.lsp_session.specs.Item.{ItemData}
 use Rattle.lsp_session.specs.Semantics.{Semantics, IsLawful, AreClient, Progress, Pending, Done}
 use Rattle.lsp_session.specs.Admission.{Verdict, Silence, Refuses, Answers, Cancels, Exits, Starts}
-use Rattle.lsp_session.specs.State.{Work, State, Effect, nothing, both, puts, live, marked, opening}
-use Rattle.lsp_session.specs.Run.{answer, answered as answered_to, answers_for, cancelled, replied, took, closed, changing, poll_change, Applies, Changes, Admits, admission_of, after_poll, Order, Poll, PollsAt, Round, Rounds, Drains, Picked, Step, Run}
-use Rattle.lsp_session.specs.Laws.{Serves}
-use Rattle.lsp_session.specs.Own.{requests_of, is_close, closes, before_exit, OwnMessagesPass}
+use Rattle.lsp_session.specs.State.{State, Effect, both, live, marked, opening}
+use Rattle.lsp_session.specs.Run.{answers_for, cancelled, replied, took, closed, changing, poll_change, Applies, Changes, Admits, admission_of, after_poll, Order, Poll, PollsAt, Round, Rounds, Drains, Picked, Step, Run}
+use Rattle.lsp_session.specs.Own.{requests_of, closes, before_exit, OwnMessagesPass}
 
 -- ---- messages
 

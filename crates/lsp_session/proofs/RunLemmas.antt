@@ -1,26 +1,25 @@
 -- What holds over whole rounds and runs.
-use Rattle.std.proofs.Common.{◌≡◌, ℕ, zero, suc, ◌+◌, ◌-◌, ◌<◌, ◌≤◌, List, [], ◌∷◌, ◌++◌, length, take, drop, map, refl, sym, ◌∙◌, ap, subst, arith, Bool, true, false, true≢false, cond, not}
-use Rattle.std.specs.Prelude.{Option, Some, None, Result, if◌then◌else◌, filter, ◌||◌, ◌&&◌}
+use Rattle.std.proofs.Common.{◌≡◌, ℕ, ◌+◌, ◌-◌, List, [], ◌∷◌, ◌++◌, length, take, map, refl, sym, ◌∙◌, ap, subst, arith, Bool, true, false, true≢false, cond, not}
+use Rattle.std.specs.Prelude.{Option, if◌then◌else◌, filter, ◌||◌, ◌&&◌}
 use Rattle.std.specs.List.{list_any}
 use Rattle.std.proofs.lemmas.List.Folds.{list_any-append}
-use Rattle.lsp_rpc.specs.Message.{IdData, null_id, RequestData, request, response}
-use Rattle.lsp_rpc.specs.Ids.{same_id, same_id_equiv}
+use Rattle.lsp_rpc.specs.Message.{IdData, null_id, request, response}
+use Rattle.lsp_rpc.specs.Ids.{same_id}
 use Rattle.lsp_desk.specs.declared.life.Life.{Life}
 use Rattle.lsp_desk.specs.declared.life.Life.TheVariants.{Uninitialized, Initializing, Initialized, ShutDown, Exited}
-use Rattle.lsp_desk.specs.Desk.{DeskState}
 use Rattle.lsp_desk.specs.Lives.{is_exited}
 use Rattle.lsp_desk.proofs.TraceLemmas.{makes_life}
 use Rattle.lsp_session.specs.declared.table.Entry.{Entry}
 use Rattle.lsp_session.specs.Item.{ItemData, message, fault, tick}
-use Rattle.lsp_session.specs.Semantics.{Semantics, IsLawful, Fresh, Held, Progress, Pending, Done}
-use Rattle.lsp_session.specs.Admission.{Verdict, Cancels, is_live}
-use Rattle.lsp_session.specs.State.{Work, State, Effect, ids_of, live, opening, marked, dues, moved_up, moved_slots, moved_queue, IsSettled, FitsLife, WorksFit}
-use Rattle.lsp_session.specs.Run.{Applies, Admits, admission_of, after_poll, Order, Poll, PollsAt, Round, Rounds, Drains, Picked, Step, Run, took, is_exit, is_exit_entry, has_exit}
-use Rattle.lsp_session.specs.Count.{one_if, times, answers_to, owed, faults, Counts}
-use Rattle.lsp_session.specs.Laws.{Serves, FactsHold, AnsweredOnce, CancelledOnce, PollsAll, RoundsPollAll, is_fresh}
-use Rattle.lsp_session.proofs.FitLemmas.{or_none, none_both, none_out, any_mid, no_length}
+use Rattle.lsp_session.specs.Semantics.{Semantics, IsLawful, Held, Progress, Pending, Done}
+use Rattle.lsp_session.specs.Admission.{Verdict, is_live}
+use Rattle.lsp_session.specs.State.{Work, State, Effect, live, opening, marked, dues, moved_slots, IsSettled, FitsLife, WorksFit}
+use Rattle.lsp_session.specs.Run.{Applies, after_poll, Order, Poll, PollsAt, Picked, Step, Run, took, is_exit, is_exit_entry, has_exit}
+use Rattle.lsp_session.specs.Count.{one_if, times, answers_to, faults}
+use Rattle.lsp_session.specs.Laws.{FactsHold, AnsweredOnce, CancelledOnce, RoundsPollAll, is_fresh}
+use Rattle.lsp_session.proofs.FitLemmas.{or_none, none_both, none_out, no_length}
 use Rattle.lsp_session.proofs.FactLemmas.{fits_opening, step_fits}
-use Rattle.lsp_session.proofs.CountLemmas.{run_counts, run_says, told, all_due, step_settled, step_table, polls_settled}
+use Rattle.lsp_session.proofs.CountLemmas.{run_counts, run_says, step_settled, step_table, polls_settled}
 use Rattle.lsp_session.proofs.LifeLemmas.{rounds_exited, step_lives}
 use Rattle.lsp_session.proofs.LawLemmas.{exits}
 use Rattle.lsp_session.proofs.RoundLemmas.{left, poll_falls, dues-marked, dues-cons}

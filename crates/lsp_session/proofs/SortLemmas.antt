@@ -3,7 +3,7 @@ use Rattle.std.proofs.Common.{◌≡◌, refl, sym, subst, ap, ℕ, List, Bool, 
 use Rattle.std.specs.Prelude.{Option, Some, None, if◌then◌else◌, ◌&&◌}
 use Rattle.serde_json.specs.Data.{Data}
 use Rattle.lsp_rpc.specs.declared.code.ErrorCode.TheVariants.{InvalidRequest}
-use Rattle.lsp_rpc.specs.Message.{IdData, ErrorData, RequestData, request, response, error_with_code}
+use Rattle.lsp_rpc.specs.Message.{IdData, ErrorData, request, response, error_with_code}
 use Rattle.lsp_desk.specs.declared.life.Life.{Life}
 use Rattle.lsp_desk.specs.declared.life.Life.TheVariants.{Uninitialized, Initializing, Initialized, ShutDown, Exited}
 use Rattle.lsp_session.specs.declared.table.Entry.{Entry}
@@ -11,13 +11,10 @@ use Rattle.lsp_session.specs.declared.table.Kind.{Kind}
 use Rattle.lsp_session.specs.declared.table.Kind.TheVariants.{Request, Notification}
 use Rattle.lsp_session.specs.declared.table.Layer.{Layer}
 use Rattle.lsp_session.specs.declared.table.Layer.TheVariants.{Initialize, Shutdown, Exit, Cancel, Normal}
-use Rattle.lsp_session.specs.declared.life_check.LifeCheck.{LifeCheck}
-use Rattle.lsp_session.specs.declared.life_check.LifeCheck.TheVariants.{Passes, NotInitialized, Invalid}
-use Rattle.lsp_session.specs.declared.life_check.LifeChange.{LifeChange}
-use Rattle.lsp_session.specs.declared.life_check.LifeChange.TheVariants.{Stays, Rises, Falls}
+use Rattle.lsp_session.specs.declared.life_check.LifeChange.TheVariants.{Stays, Rises}
 use Rattle.lsp_session.specs.Item.{ItemData, message, fault, tick}
 use Rattle.lsp_session.specs.Semantics.{Reading, call, missing, unexpected, unfit}
-use Rattle.lsp_session.specs.Admission.{Verdict, Silence, Refuses, Answers, Cancels, Exits, Starts, Admission, Occasion, is_live, admission, refuse, cancel, cancel_live, cancels, cancel_change, cancelled_id, started, unless_crowded, is_limited, if_of_kind, check_life, passed, quiet, called, initialized, by_layer, by_entry, unknown_method}
+use Rattle.lsp_session.specs.Admission.{Verdict, Silence, Refuses, Answers, Cancels, Exits, Starts, Admission, Occasion, is_live, admission, refuse, cancel, cancel_live, cancels, cancel_change, cancelled_id, started, unless_crowded, is_limited, if_of_kind, check_life, passed, quiet, initialized, by_layer, by_entry, unknown_method}
 
 -- nothing begins and nothing ends
 abbrev pub changes_none : {C : Type 0} → Verdict C → Bool

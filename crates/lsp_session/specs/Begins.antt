@@ -1,12 +1,12 @@
 -- Which calls begin in a run, and which were started.
-use Rattle.std.specs.Prelude.{◌≡◌, ◌≤◌, ◌+◌, ◌++◌, ℕ, zero, suc, List, [], ◌∷◌, map, Bool, true, false, Option, Some, None}
+use Rattle.std.specs.Prelude.{◌≡◌, ◌≤◌, ◌+◌, ◌++◌, ℕ, zero, suc, List, [], ◌∷◌, map, Bool, Option, Some}
 use Rattle.lsp_rpc.specs.Message.{IdData, RequestData, request}
 use Rattle.lsp_session.specs.declared.table.Entry.{Entry}
 use Rattle.lsp_session.specs.Item.{ItemData, message}
 use Rattle.lsp_session.specs.Semantics.{Semantics, Phase, Fresh, Held, call}
 use Rattle.lsp_session.specs.Admission.{Verdict, Silence, Refuses, Answers, Cancels, Exits, Starts}
 use Rattle.lsp_session.specs.State.{State, Effect, dues, marked}
-use Rattle.lsp_session.specs.Run.{admission_of, Order, Poll, PollsAt, Rounds, Picked, Step, Run}
+use Rattle.lsp_session.specs.Run.{admission_of, Order, PollsAt, Rounds, Picked, Step, Run}
 use Rattle.lsp_session.specs.Count.{one_if}
 use Rattle.lsp_session.specs.Laws.{Serves}
 

@@ -1,21 +1,21 @@
 -- What every session keeps, in words.
-use Rattle.std.specs.Prelude.{◌≡◌, ◌≢◌, ◌⊎◌, ◌<◌, ◌≤◌, ◌+◌, ◌++◌, ℕ, zero, suc, List, [], ◌∷◌, Bool, true, false, length, Option, Some, None, Err}
+use Rattle.std.specs.Prelude.{◌≡◌, ◌≢◌, ◌<◌, ◌≤◌, ◌+◌, ℕ, List, [], ◌∷◌, Bool, true, false, length, Option, Some, Err}
 use Rattle.std.specs.List.{list_any}
 use Rattle.lsp_rpc.specs.declared.code.ErrorCode.TheVariants.{InvalidRequest}
-use Rattle.lsp_rpc.specs.Message.{IdData, null_id, RequestData, MessageData, request, response, error_with_code, not_initialized_error}
+use Rattle.lsp_rpc.specs.Message.{IdData, null_id, RequestData, MessageData, request, error_with_code, not_initialized_error}
 use Rattle.lsp_rpc.specs.Ids.{same_id}
 use Rattle.lsp_desk.specs.declared.life.Life.{Life}
-use Rattle.lsp_desk.specs.declared.life.Life.TheVariants.{Uninitialized, Initializing, Initialized, ShutDown, Exited}
+use Rattle.lsp_desk.specs.declared.life.Life.TheVariants.{Uninitialized, Initializing, ShutDown, Exited}
 use Rattle.lsp_desk.specs.Lives.{rank}
 use Rattle.lsp_session.specs.declared.table.Entry.{Entry}
 use Rattle.lsp_session.specs.declared.table.Layer.{Layer}
-use Rattle.lsp_session.specs.declared.table.Layer.TheVariants.{Initialize, Shutdown, Exit, Cancel, Normal}
+use Rattle.lsp_session.specs.declared.table.Layer.TheVariants.{Initialize, Normal}
 use Rattle.lsp_session.specs.Item.{ItemData, message}
 use Rattle.lsp_session.specs.Semantics.{Semantics, Phase, Fresh, Held}
-use Rattle.lsp_session.specs.Admission.{Verdict, Silence, Refuses, Answers, Cancels, Exits, Starts, is_live}
-use Rattle.lsp_session.specs.State.{Work, State, Effect, IsSettled, FitsLife, live, opening}
-use Rattle.lsp_session.specs.Run.{answer, Admits, admission_of, Order, Poll, PollsAt, Round, Rounds, Drains, Picked, Step, Run, is_exit, has_exit}
-use Rattle.lsp_session.specs.Count.{times, answers_to, owed, faults, Counts}
+use Rattle.lsp_session.specs.Admission.{Cancels, Starts, is_live}
+use Rattle.lsp_session.specs.State.{State, Effect, IsSettled, FitsLife, live, opening}
+use Rattle.lsp_session.specs.Run.{answer, Admits, admission_of, Order, Poll, Round, Drains, Picked, Step, Run, is_exit, has_exit}
+use Rattle.lsp_session.specs.Count.{times, answers_to, owed, Counts}
 
 -- ---- the life cycle of LSP 3.17
 

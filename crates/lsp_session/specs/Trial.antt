@@ -1,8 +1,10 @@
 -- A server of which nothing is told but the laws: for tests.
-use Rattle.std.specs.Prelude.{◌≡◌, refl, ⊤, true, false, ℕ, List, Option, Some, Result}
-use Rattle.serde_json.specs.Data.{Data}
-use Rattle.lsp_rpc.specs.Message.{ErrorData, may_have_float, body_has_float}
+use Rattle.std.specs.Prelude.{◌≡◌, refl, ⊤, true, false, ℕ, List, Option}
+use Rattle.lsp_rpc.specs.Message.{body_has_float}
+use Rattle.lsp_rpc.specs.Shown.{show_body}
 use Rattle.lsp_desk.specs.Trace.{DeskEntry}
+use Rattle.lsp_session.specs.declared.handlers.Progress as code
+use Rattle.lsp_session.specs.declared.handlers.Progress.TheVariants as variants
 use Rattle.lsp_session.specs.declared.table.Entry.{Entry}
 use Rattle.lsp_session.specs.Semantics.{Semantics, IsLawful, AreClient, Phase, Fresh, Held, Progress, Pending, Done, Polls, call}
 
@@ -45,3 +47,8 @@ trial_lawful {H} {C} {T} find = record {
   keeps_answers = λ s phase asked s2 outcome p. tt;
   keeps_float_free = λ s phase asked s2 outcome sound p. (behaves C T find s phase asked s2 (Done outcome) p).ends;
 }
+
+-- the same of the code's progress
+abbrev pub EndsWithout : {T : Type 0} → code.Progress T → Type 0
+EndsWithout (variants.Pending t) = ⊤
+EndsWithout (variants.Done body) = body_has_float (show_body body) ≡ false

@@ -1,5 +1,5 @@
 -- The life then is the desk's.
-use Rattle.std.proofs.Common.{sym, ◌∙◌, ap, ◌∷◌, []}
+use Rattle.std.proofs.Common.{sym, ◌∙◌, ap}
 use Rattle.lsp_desk.specs.declared.life.Life.{Life}
 use Rattle.lsp_desk.specs.Lives.{later, fallen}
 use Rattle.lsp_desk.proofs.TraceLemmas.{makes_of, makes_life}

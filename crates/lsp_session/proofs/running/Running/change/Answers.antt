@@ -1,10 +1,7 @@
 -- The life is changed on the desk.
-use Rattle.std.proofs.Common.{refl, sym, ◌∙◌, []}
+use Rattle.std.proofs.Common.{refl, sym, []}
 use Rattle.std.proofs.lemmas.List.{append-nil}
 use Rattle.lsp_desk.proofs.TraceLemmas.{makes_of}
-use Rattle.lsp_session.specs.PendingView.{live_ids}
-use Rattle.lsp_session.specs.View.{running_view}
-use Rattle.lsp_session.proofs.RunningLemmas.{facts_desk}
 use Rattle.lsp_session.proofs.running.Running.change.Goals as goal
 
 pub returns-clause-ok : goal.returns-clause-ok
