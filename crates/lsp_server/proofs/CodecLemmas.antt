@@ -50,4 +50,3 @@ next_none a b next = at next.found next.shows next.items next.told
         → ((c : List ℕ) → told_at (more a c) ≡ with_item found (told_at (more b c))) → Decodes a [] b
     at None shows items told = record { items = items; told = told }
     at (Some x) shows items told = absurd (cc)
-

@@ -1,11 +1,9 @@
 -- Which errors a server may stop with.
-use Rattle.std.proofs.Common.{◌≡◌, ℕ, ◌+◌, ◌<◌, ◌≤◌, List, length, refl, sym, ◌∙◌, ap, arith, Bool, true, false, true≢false}
-use Rattle.std.specs.Prelude.{Option, Some, None, IfSome, Result, Ok, Err, OnOk, OnErr, IfErr, IsErrAnd, IsErrOf}
-use Rattle.std.specs.Io.KnownBytes.{Consumes}
+use Rattle.std.proofs.Common.{◌≡◌, ℕ, ◌+◌, ◌<◌, ◌≤◌, List, length, refl, sym, ◌∙◌, arith, Bool, true, false, true≢false}
+use Rattle.std.specs.Prelude.{Option, Some, None, IfSome}
 use Rattle.lsp_desk.specs.Meaning.{Meaning, IsLawful, Grown}
 use Rattle.lsp_server.specs.declared.step.ServeError.{ServeError}
 use Rattle.lsp_server.specs.declared.step.ServeError.TheVariants.{ReadFault, WriteFault, ReadsSpent, DeskSpent, NoMemory}
-use Rattle.lsp_server.specs.SourceSink.{CountRose}
 use Rattle.lsp_server.specs.Errors.{SaysSpent, ComesUnfailed}
 
 -- a desk that others don't use is never spent

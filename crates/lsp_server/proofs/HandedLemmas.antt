@@ -1,16 +1,14 @@
 -- What a run over all of a source's bytes hands back.
-use Rattle.std.proofs.Common.{◌≡◌, ℕ, List, [], ◌<◌, ◌≤◌, refl, sym, ◌∙◌, ap, subst, arith}
-use Rattle.std.specs.Prelude.{Option}
+use Rattle.std.proofs.Common.{◌≡◌, ℕ, refl, arith}
 use Rattle.lsp_desk.specs.Meaning.{Meaning}
-use Rattle.lsp_session.specs.Item.{ItemData}
 use Rattle.lsp_session.specs.Semantics.{Semantics, IsLawful}
-use Rattle.lsp_session.specs.State.{State, IsSettled, opening, live}
-use Rattle.lsp_session.specs.Run.{Order, Picked, Step, served}
+use Rattle.lsp_session.specs.State.{IsSettled, opening}
+use Rattle.lsp_session.specs.Run.{Order, served}
 use Rattle.lsp_session.specs.Session.{SessionView}
 use Rattle.lsp_session.proofs.CountLemmas.{run_counts}
 use Rattle.lsp_server.specs.Items.{stream_items}
-use Rattle.lsp_server.specs.Course.{Course, Setting, opening_view, picked, course}
-use Rattle.lsp_server.specs.Served.{CallBytes, RanFrom, ServedView, handed_back, IsServed}
+use Rattle.lsp_server.specs.Course.{Setting, picked, course}
+use Rattle.lsp_server.specs.Served.{CallBytes, RanFrom, handed_back, IsServed}
 
 opening_settled : {H C T : Type 0} (service : H) (max wait : ℕ) → IsSettled (opening {H = H} {C = C} {T = T} service max wait)
 opening_settled service max wait = record { ids_differ = tt; slots_few = omega arith; slots_full = λ h. absurd (omega (arith, h)) }

@@ -11,14 +11,14 @@ use Rattle.lsp_frame.specs.Codec.{frames}
 use Rattle.lsp_session.specs.Item.{ItemData}
 use Rattle.lsp_session.specs.Semantics.{Semantics, IsLawful}
 use Rattle.lsp_session.specs.State.{State, Effect, nothing, both}
-use Rattle.lsp_session.specs.Run.{Order, Picked, Step, is_exit}
+use Rattle.lsp_session.specs.Run.{Order, Step, is_exit}
 use Rattle.lsp_session.specs.Session.{SessionView, Advances}
 use Rattle.lsp_session.proofs.RoundLemmas.{both-nothing}
 use Rattle.lsp_session.proofs.StepLemmas.{run_on, grown_on}
 use Rattle.lsp_session.proofs.LifeLemmas.{Notes, step_notes, step_lives}
 use Rattle.lsp_server.specs.Course.{picked}
 use Rattle.lsp_server.specs.Written.{IsPrefixOf, Place, place, Ran, RanPart}
-use Rattle.lsp_server.proofs.KnownLemmas.{appends_none, appends_more, appends_kept, prefix_all}
+use Rattle.lsp_server.proofs.KnownLemmas.{appends_none, appends_more, appends_kept}
 use Rattle.lsp_server.proofs.FramesLemmas.{frames-append}
 use Rattle.lsp_server.proofs.PointLemmas.{Point}
 use Rattle.lsp_server.proofs.ItemsLemmas.{not_exited, alive}

@@ -1,9 +1,9 @@
 -- How serving goes on over the reads, and what it comes to.
 use Rattle.std.proofs.Common.{◌≡◌, inl, inr, ℕ, ◌+◌, ◌*◌, ◌≤◌, List, [], ◌∷◌, ◌++◌, length, refl, sym, ◌∙◌, ap, subst, append_assoc, length-append, arith, Bool, true, false}
-use Rattle.std.specs.Prelude.{Option, Some, None, ◌||◌}
+use Rattle.std.specs.Prelude.{Option, Some, ◌||◌}
 use Rattle.std.specs.Io.KnownBytes.{Consumes, Keeps}
 use Rattle.std.proofs.lemmas.List.{append-nil, map-append}
-use Rattle.lsp_desk.specs.Meaning.{Meaning, Grown}
+use Rattle.lsp_desk.specs.Meaning.{Meaning}
 use Rattle.lsp_frame.specs.Codec.{Item, At, start, more, items_at, told_at, frames}
 use Rattle.lsp_frame.specs.declared.limits.Limits.{Limits}
 use Rattle.lsp_session.specs.declared.table.Entry.{Entry}
@@ -15,7 +15,7 @@ use Rattle.lsp_session.specs.Session.{SessionView}
 use Rattle.lsp_server.specs.Items.{admitted, all_admitted, stream_items, stream_told, Decodes}
 use Rattle.lsp_server.specs.Course.{Course, course_from}
 use Rattle.lsp_server.specs.Written.{place, Ran, RanPart}
-use Rattle.lsp_server.specs.Served.{ServedTold, CallBytes, call_bytes, RanFrom, ReadEnough, WroteTold, WrotePart}
+use Rattle.lsp_server.specs.Served.{ServedTold, call_bytes, RanFrom, ReadEnough, WroteTold, WrotePart}
 use Rattle.lsp_server.proofs.KnownLemmas.{appends_more, consumes_none, consumes_more, consumes_kept, what_is_left, all_read}
 use Rattle.lsp_server.proofs.PointLemmas.{Point, find_at, GoesOn}
 use Rattle.lsp_server.proofs.ItemsLemmas.{same_exit, served_same, has_exit_same, has_exit-append, served-closed, run_table}

@@ -8,6 +8,8 @@ mod serving;
 mod sink;
 mod source;
 mod step;
+#[cfg(test)]
+mod tests;
 mod write;
 
 pub use memory::{MemorySink, MemorySource, NeverSink, NeverSource};

@@ -238,7 +238,7 @@ impl<D: Desk + Drop> Server<D> {
         ensures write_told { O.faults sink.old < O.faults sink.new → IsErrAnd result (λ stopped. stopped.error ≡ ServeError.WriteFault) }
 
         // Each of at most `reads` reads takes at most 4,096 bytes.
-            ensures few { IfSome (I.left source.old) (λ bytes. IfSome (I.left source.new) (λ rest. length bytes ≤ length rest + reads * 4096)) }
+        ensures few { IfSome (I.left source.old) (λ bytes. IfSome (I.left source.new) (λ rest. length bytes ≤ length rest + reads * 4096)) }
 
         // So with no failure, and with more reads than bytes, only memory may be wanting, or turns
         // of a desk that others use.
@@ -259,7 +259,16 @@ impl<D: Desk + Drop> Server<D> {
     {
         let desk = self.socket.into_desk();
         let mut session = Session::new(alloc, service, desk, self.max).waiting_limit(self.wait);
-        match serve_reads(alloc, source, sink, &mut session, pick, reads, rounds, self.limits) {
+        match serve_reads(
+            alloc,
+            source,
+            sink,
+            &mut session,
+            pick,
+            reads,
+            rounds,
+            self.limits,
+        ) {
             Ok(()) => hand_back(session),
             Err(error) => Err(Stopped {
                 error,

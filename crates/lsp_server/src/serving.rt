@@ -206,7 +206,14 @@ fn write_end<O: Sink, D: Desk + Drop, H: Handlers<D>, P: Pick>(
 {
     match codec.finish()? {
         Some(fault) => {
-            write_step(alloc, sink, session, Item::Fault(fault.code()), pick, rounds)?;
+            write_step(
+                alloc,
+                sink,
+                session,
+                Item::Fault(fault.code()),
+                pick,
+                rounds,
+            )?;
             write_step(alloc, sink, session, Item::Tick, pick, rounds)
         }
         None => write_step(alloc, sink, session, Item::Tick, pick, rounds),

@@ -1,9 +1,7 @@
 -- What was taken stays taken where the flush fails.
-use Rattle.lsp_session.specs.SessionView.{session_view}
 use Rattle.lsp_server.specs.ServerView.{standing}
 use Rattle.lsp_server.proofs.KnownLemmas.{err_of}
-use Rattle.lsp_server.proofs.KnownLemmas.{on_ok}
-use Rattle.lsp_server.proofs.RanLemmas.{part_kept, part_whole, ran_kept, ran_grown}
+use Rattle.lsp_server.proofs.RanLemmas.{part_kept, part_whole, ran_grown}
 use Rattle.lsp_server.proofs.serving.serve_end.Goals as goal
 
 pub returns-clause-part : goal.returns-clause-part

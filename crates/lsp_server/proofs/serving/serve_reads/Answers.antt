@@ -1,6 +1,5 @@
 -- The loop over the reads: each piece, the end of input, an exit, and each error.
 use Rattle.std.proofs.Common.{rules, arith, ◌+◌, ◌*◌, [], take, length-take, refl}
-use Rattle.lsp_session.specs.Run.{Order}
 use Rattle.lsp_session.specs.SessionView.{session_view}
 use Rattle.lsp_server.proofs.KnownLemmas.{on_ok}
 use Rattle.lsp_server.specs.ServerView.{standing}
@@ -30,7 +29,6 @@ returns-in-Err-clause-exact g c _ =
     let serving = serving_of _ _ _ _ _ _ (serving_kept _ _ _ _ _ _ c.loop.invariant.serving (g.I.Source.left c.read.new.self) c.in-Err.ensures.kept) bytes is in
     exact g.met.H.Handlers.laws old p taken0 bytes _ _ _ _ serving)
 
-
 pub returns-in-Err-clause-part : goal.returns-in-Err-clause-part
 returns-in-Err-clause-part g c =
     let old = session_view g.H.Handlers.semantics g.D.Caller.meaning c.args.session.now in
@@ -39,7 +37,6 @@ returns-in-Err-clause-part g c =
     if_told (g.I.Source.left c.args.source.now) _ (λ bytes is.
     let serving = serving_of _ _ _ _ _ _ (serving_kept _ _ _ _ _ _ c.loop.invariant.serving (g.I.Source.left c.read.new.self) c.in-Err.ensures.kept) bytes is in
     wrote_before g.met.H.Handlers.laws old p taken0 bytes _ _ _ _ serving (g.I.Source.left c.read.new.self) [] 4096 (consumes_none (g.I.Source.left c.read.new.self)) (omega arith))
-
 
 pub returns-then-n-eq0-clause-ok : goal.returns-then-n-eq0-clause-ok
 returns-then-n-eq0-clause-ok g c =
@@ -52,7 +49,6 @@ returns-then-n-eq0-clause-ok g c =
     let ends = at_zero bytes serving.fed c.read.new.piece (g.I.Source.left c.loop.source) (g.I.Source.left c.read.new.self) c.in-Ok.n serving.gives c.in-Ok.ensures.ends c.in-Ok.ensures.gives c.if-n-eq0.true in
     at_end g.met.H.Handlers.laws old p taken0 bytes _ _ _ _ serving (g.I.Source.left c.read.new.self) d ends.0 ran)) c.serve_end.ensures.ok
 
-
 pub returns-then-n-eq0-clause-enough : goal.returns-then-n-eq0-clause-enough
 returns-then-n-eq0-clause-enough g c =
     let old = session_view g.H.Handlers.semantics g.D.Caller.meaning c.args.session.now in
@@ -62,7 +58,6 @@ returns-then-n-eq0-clause-enough g c =
     let serving = serving_of _ _ _ _ _ _ c.loop.invariant.serving bytes is in
     let ends = at_zero bytes serving.fed c.read.new.piece (g.I.Source.left c.loop.source) (g.I.Source.left c.read.new.self) c.in-Ok.n serving.gives c.in-Ok.ensures.ends c.in-Ok.ensures.gives c.if-n-eq0.true in
     enough_at_end g.met.H.Handlers.laws old p taken0 bytes _ _ _ _ serving (g.I.Source.left c.read.new.self) (g.O.Sink.taken c.serve_end.new.sink) 4096 ends.0 ends.1)) c.serve_end.ensures.ok
-
 
 pub returns-then-n-eq0-clause-part : goal.returns-then-n-eq0-clause-part
 returns-then-n-eq0-clause-part g c =
@@ -76,8 +71,6 @@ returns-then-n-eq0-clause-part g c =
     wrote_at_end g.met.H.Handlers.laws old p taken0 bytes _ _ _ _ serving (g.I.Source.left c.read.new.self) (g.O.Sink.taken c.serve_end.new.sink) 4096 ends.0 ends.1
     (either c.serve_end.result (λ ran. part_whole _ d _ ran) c.serve_end.ensures.ok c.serve_end.ensures.part))
 
-
-
 pub returns-in_err-feed-clause-part : goal.returns-in_err-feed-clause-part
 returns-in_err-feed-clause-part g c =
     let old = session_view g.H.Handlers.semantics g.D.Caller.meaning c.args.session.now in
@@ -86,7 +79,6 @@ returns-in_err-feed-clause-part g c =
     if_told (g.I.Source.left c.args.source.now) _ (λ bytes is.
     let serving = serving_of _ _ _ _ _ _ c.loop.invariant.serving bytes is in
     wrote_before g.met.H.Handlers.laws old p taken0 bytes _ _ _ _ serving (g.I.Source.left c.read.new.self) (take c.in-Ok.n c.read.new.piece) 4096 c.in-Ok.ensures.gives (omega (arith, c.in-Ok.ensures.within, length-take c.in-Ok.n c.read.new.piece)))
-
 
 pub returns-in_err-serve_told-clause-part : goal.returns-in_err-serve_told-clause-part
 returns-in_err-serve_told-clause-part g c =
@@ -98,7 +90,6 @@ returns-in_err-serve_told-clause-part g c =
     wrote_within g.met.H.Handlers.laws old p taken0 bytes _ _ _ _ serving (g.I.Source.left c.read.new.self) (g.O.Sink.taken c.serve_told.new.sink) (take c.in-Ok.n c.read.new.piece) 4096 c.in-Ok.ensures.gives (omega (arith, c.in-Ok.ensures.within, length-take c.in-Ok.n c.read.new.piece))
     (rw c.in_ok-feed.ensures.ok at c.in_err-serve_told.ensures.part))
 
-
 pub returns-then-branch-clause-ok : goal.returns-then-branch-clause-ok
 returns-then-branch-clause-ok g c =
     let old = session_view g.H.Handlers.semantics g.D.Caller.meaning c.args.session.now in
@@ -108,7 +99,6 @@ returns-then-branch-clause-ok g c =
     if_told (g.I.Source.left c.args.source.now) _ (λ bytes is.
     let serving = serving_of _ _ _ _ _ _ c.loop.invariant.serving bytes is in
     at_exit g.met.H.Handlers.laws old p taken0 bytes _ _ _ _ serving (g.I.Source.left c.read.new.self) (take c.in-Ok.n c.read.new.piece) c.in-Ok.ensures.gives d c.serve_told.new.codec (rw (c.in_ok-feed.ensures.ok, c.if-branch.true) at c.in_ok-serve_told.ensures.ok))
-
 
 pub returns-then-branch-clause-part : goal.returns-then-branch-clause-part
 returns-then-branch-clause-part g c =
@@ -131,7 +121,6 @@ returns-then-branch-clause-enough g c =
     let serving = serving_of _ _ _ _ _ _ c.loop.invariant.serving bytes is in
     enough_at_exit g.met.H.Handlers.laws old p taken0 bytes _ _ _ _ serving (g.I.Source.left c.read.new.self) (take c.in-Ok.n c.read.new.piece) c.in-Ok.ensures.gives d c.serve_told.new.codec (rw (c.in_ok-feed.ensures.ok, c.if-branch.true) at c.in_ok-serve_told.ensures.ok) 4096 (omega (arith, c.in-Ok.ensures.within, length-take c.in-Ok.n c.read.new.piece)))
 
-
 pub loop-preserved : goal.loop-preserved
 loop-preserved g c =
     let still = c.in_ok-serve_told.ensures.«open» c.if-branch.false in
@@ -153,7 +142,6 @@ returns-clause-reads_spent g c _ =
     let serving = serving_of _ _ _ _ _ _ c.loop.invariant.serving bytes is in
     read_enough bytes serving.fed (g.I.Source.left c.loop.source) c.args.reads serving.gives (omega (arith, serving.each)))
 
-
 pub returns-clause-exact : goal.returns-clause-exact
 returns-clause-exact g c _ =
     let old = session_view g.H.Handlers.semantics g.D.Caller.meaning c.args.session.now in
@@ -162,7 +150,6 @@ returns-clause-exact g c _ =
     if_told (g.I.Source.left c.args.source.now) _ (λ bytes is.
     let serving = serving_of _ _ _ _ _ _ c.loop.invariant.serving bytes is in
     exact g.met.H.Handlers.laws old p taken0 bytes _ _ _ _ serving)
-
 
 pub returns-clause-part : goal.returns-clause-part
 returns-clause-part g c =
@@ -173,38 +160,31 @@ returns-clause-part g c =
     let serving = serving_of _ _ _ _ _ _ c.loop.invariant.serving bytes is in
     wrote_before g.met.H.Handlers.laws old p taken0 bytes _ _ _ _ serving (g.I.Source.left c.loop.source) [] 4096 (consumes_none (g.I.Source.left c.loop.source)) (omega arith))
 
-
 -- ---- the desk grows
 
 pub returns-in-Err-clause-grown : goal.returns-in-Err-clause-grown
 returns-in-Err-clause-grown g c =
     ran_grown _ _ _ c.loop.invariant.serving.going.ran
 
-
 pub returns-in_err-feed-clause-grown : goal.returns-in_err-feed-clause-grown
 returns-in_err-feed-clause-grown g c =
     ran_grown _ _ _ c.loop.invariant.serving.going.ran
-
 
 pub returns-clause-grown : goal.returns-clause-grown
 returns-clause-grown g c =
     ran_grown _ _ _ c.loop.invariant.serving.going.ran
 
-
 pub returns-then-n-eq0-clause-grown : goal.returns-then-n-eq0-clause-grown
 returns-then-n-eq0-clause-grown g c =
     grown_after _ _ _ _ c.loop.invariant.serving.going.ran c.serve_end.ensures.grown
-
 
 pub returns-in_err-serve_told-clause-grown : goal.returns-in_err-serve_told-clause-grown
 returns-in_err-serve_told-clause-grown g c =
     grown_after _ _ _ _ c.loop.invariant.serving.going.ran c.serve_told.ensures.grown
 
-
 pub returns-then-branch-clause-grown : goal.returns-then-branch-clause-grown
 returns-then-branch-clause-grown g c =
     grown_after _ _ _ _ c.loop.invariant.serving.going.ran c.serve_told.ensures.grown
-
 
 -- ---- few bytes are read
 

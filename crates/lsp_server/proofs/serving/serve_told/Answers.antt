@@ -1,18 +1,17 @@
 -- One item more, an exit, and the end of what is told.
 use Rattle.std.proofs.Common.{rules, arith, refl, ◌≡◌, length, true, false, ap, [], ◌∷◌, ℕ, List}
 use Rattle.std.specs.Prelude.{is_some}
-use Rattle.lsp_desk.specs.Meaning.{Grown}
 use Rattle.lsp_frame.specs.Codec.{items_at, more}
 use Rattle.lsp_session.specs.Item.{show_item}
 use Rattle.lsp_session.specs.Run.{Order, Step, served}
 use Rattle.lsp_session.specs.SessionView.{session_view}
-use Rattle.lsp_server.specs.Items.{all_admitted, GivesNext}
+use Rattle.lsp_server.specs.Items.{all_admitted}
 use Rattle.lsp_server.specs.Written.{RanPart}
 use Rattle.lsp_server.specs.ServerView.{standing}
 use Rattle.lsp_server.proofs.KnownLemmas.{err_of}
 use Rattle.lsp_server.proofs.CodecLemmas.{next_found, told_now}
 use Rattle.lsp_server.proofs.RanLemmas.{ran_grown, grown_after, part_kept, part_whole}
-use Rattle.lsp_server.proofs.GoingLemmas.{going_start, going_step, told_exit, told_kept, told_all, part_of_none, part_of_step}
+use Rattle.lsp_server.proofs.GoingLemmas.{going_start, going_step, told_exit, told_kept, part_of_none, part_of_step}
 use Rattle.lsp_server.proofs.serving.serve_told.Goals as goal
 
 pub items-init : goal.items-init

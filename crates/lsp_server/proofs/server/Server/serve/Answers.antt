@@ -1,6 +1,6 @@
 -- What the loop over the reads comes to, and what is handed back.
-use Rattle.std.proofs.Common.{rules, ◌≡◌, ◌∙◌, ◌+◌, ◌≤◌, ℕ, List, [], ◌++◌, refl, ap, sym, subst, length}
-use Rattle.std.specs.Prelude.{Option, None, Some, IfSome, Result, Err}
+use Rattle.std.proofs.Common.{◌≡◌, ◌∙◌, ℕ, List, [], ◌++◌, refl, ap, sym, subst}
+use Rattle.std.specs.Prelude.{None, Err}
 use Rattle.lsp_desk.specs.Meaning.{Grown}
 use Rattle.lsp_session.specs.State.{opening}
 use Rattle.lsp_session.specs.Run.{Order, served}
@@ -9,7 +9,7 @@ use Rattle.lsp_session.specs.SessionView.{session_view}
 use Rattle.lsp_server.specs.SourceSink.{CountRose}
 use Rattle.lsp_server.specs.Items.{stream_items}
 use Rattle.lsp_server.specs.Course.{Setting, opening_view, course_from, course, picked}
-use Rattle.lsp_server.specs.Served.{call_bytes, RanFrom, IsServed, ReadEnough, WroteTold, WrotePart, ServedView, handed_back}
+use Rattle.lsp_server.specs.Served.{call_bytes, RanFrom, IsServed, ReadEnough, WroteTold, WrotePart, ServedView}
 use Rattle.lsp_server.specs.ServerView.{setting, server_desk}
 use Rattle.lsp_server.specs.declared.step.ServeError.TheVariants.{DeskSpent, NoMemory}
 use Rattle.lsp_server.proofs.KnownLemmas.{on_any_ok, err_of, if_ok, if_err, if_some, if_told, some_at, what_is_left}
@@ -35,7 +35,6 @@ returns-in-Ok-clause-headline g c =
     (subst (λ (v : SessionView _ _ sem.Call sem.Task). RanFrom (course_from sem m order c.args.rounds c.args.self.limits v (g.P.Pick.state c.args.pick.now)) (bytes_of bytes) (served (sem.find v.state.service) (stream_items c.args.self.limits bytes)) (picked after p2) after.desk) first ran) refl))
     c.in-Ok.ensures.ok) c.hand_back.ensures.handed
 
-
 pub returns-in-Ok-clause-enough : goal.returns-in-Ok-clause-enough
 returns-in-Ok-clause-enough g c =
     let sem = g.H.Handlers.semantics in
@@ -50,7 +49,6 @@ returns-in-Ok-clause-enough g c =
     let bytes_of = λ (bytes : List ℕ). call_bytes bytes (g.I.Source.left c.serve_reads.new.source) (g.O.Sink.taken c.args.sink.now) (g.O.Sink.taken c.serve_reads.new.sink) in
     on_any_ok c.hand_back.result (if_some (g.I.Source.left c.args.source.now) (λ bytes enough.
     subst (λ (v : SessionView _ _ sem.Call sem.Task). ReadEnough (course_from sem m order c.args.rounds c.args.self.limits v (g.P.Pick.state c.args.pick.now)) (bytes_of bytes) 4096) first enough) c.in-Ok.ensures.enough)
-
 
 pub returns-in-Ok-clause-part : goal.returns-in-Ok-clause-part
 returns-in-Ok-clause-part g c =
@@ -67,7 +65,6 @@ returns-in-Ok-clause-part g c =
     err_of c.hand_back.result (if_some (g.I.Source.left c.args.source.now) (λ bytes part.
     subst (λ (v : SessionView _ _ sem.Call sem.Task). WrotePart (course_from sem m order c.args.rounds c.args.self.limits v (g.P.Pick.state c.args.pick.now)) (bytes_of bytes) 4096) first part) c.serve_reads.ensures.part)
 
-
 pub returns-in-Err-clause-part : goal.returns-in-Err-clause-part
 returns-in-Err-clause-part g c =
     let sem = g.H.Handlers.semantics in
@@ -82,7 +79,6 @@ returns-in-Err-clause-part g c =
     let bytes_of = λ (bytes : List ℕ). call_bytes bytes (g.I.Source.left c.serve_reads.new.source) (g.O.Sink.taken c.args.sink.now) (g.O.Sink.taken c.serve_reads.new.sink) in
     if_some (g.I.Source.left c.args.source.now) (λ bytes part.
     subst (λ (v : SessionView _ _ sem.Call sem.Task). WrotePart (course_from sem m order c.args.rounds c.args.self.limits v (g.P.Pick.state c.args.pick.now)) (bytes_of bytes) 4096) first part) c.serve_reads.ensures.part
-
 
 pub returns-in-Err-clause-complete : goal.returns-in-Err-clause-complete
 returns-in-Err-clause-complete g c =

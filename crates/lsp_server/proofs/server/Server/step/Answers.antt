@@ -1,7 +1,6 @@
 -- What was taken stays taken where the flush fails.
 use Rattle.std.proofs.Common.{◌∷◌, []}
 use Rattle.lsp_session.specs.Item.{show_item}
-use Rattle.lsp_session.specs.SessionView.{session_view}
 use Rattle.lsp_server.specs.ServerView.{standing}
 use Rattle.lsp_server.proofs.KnownLemmas.{err_of}
 use Rattle.lsp_server.proofs.RanLemmas.{part_kept, part_whole}
