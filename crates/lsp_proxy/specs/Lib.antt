@@ -1,0 +1,7 @@
+pub mod Entries
+pub mod Law
+pub mod Origin
+pub mod Proxy
+pub mod Sent
+pub mod Shown
+pub mod Tables

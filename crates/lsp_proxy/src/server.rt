@@ -1,0 +1,255 @@
+//! What the server sends, row by row.
+ghost use Rattle.std.specs.Prelude.{◌≡◌, ◌<◌, ◌^◌, [], ◌∷◌, length, Some, IfOk, OnErr, option_map, map, if◌then◌else◌};
+ghost use Rattle.lsp_rpc.specs.Message.{request};
+ghost use Rattle.lsp_rpc.specs.Shown.{show_id, show_body, show_request, show_response};
+ghost use Rattle.std.specs.List.{filter};
+ghost use Rattle.lsp_proxy.specs.Proxy.{waiting_sent, opening_after, initialize_answered, answered, server_response, pass_to, server_request, first_requested, cancel_entry, server_cancel, broadcast, lowest, last_id, answer, internal, server_called, here_from, is_here_in, answered_to};
+ghost use Rattle.lsp_proxy.specs.Sent.{all_sent};
+ghost use Rattle.lsp_proxy.specs.Tables.{show_asker};
+ghost use Rattle.lsp_proxy.specs.Shown.{show_opening, show_proxy, Makes, IsSame};
+
+use crate::parts::{
+    LAST_ID, Sent, answered_id, cancels, copy, exit, named_by, one, refusal, response, split,
+    under_drawn,
+};
+use crate::presence::{lowest_of, presence_of};
+use crate::proxy::{Opening, Proxy};
+use crate::side::{Presence, Side};
+use crate::table::Asker;
+use lsp_rpc::{Error, ErrorCode, Id, Message, NoMemory, Request, Response};
+use serde_json::Value;
+use std::alloc::Global;
+
+// The response for each of the askers that is still here.
+fn answers(
+    alloc: Global,
+    editors: &[Presence],
+    askers: &[Asker],
+    body: &Result<Value, Error>,
+) -> Result<Sent, NoMemory>
+    ensures { IfOk result (λ sent. all_sent sent.items
+        ≡ map (answered_to (show_body body.now)) (filter (is_here_in editors.now) (map show_asker askers.now))) }
+{
+    let mut sent = Vec::new(alloc);
+    for asker in askers {
+        if !presence_of(editors, asker.editor).is_gone() {
+            let message = response(asker.id.clone(alloc)?, copy(alloc, body)?);
+            sent.push((Side::Editor(asker.editor), message))?;
+        }
+    }
+    Ok(sent)
+}
+
+fn answer_if_here(
+    alloc: Global,
+    editors: &[Presence],
+    asker: &Asker,
+    body: Result<Value, Error>,
+) -> Result<Sent, NoMemory>
+    ensures { IfOk result (λ sent. all_sent sent.items ≡ (if is_here_in editors.now (show_asker asker.now)
+        then answered_to (show_body body) (show_asker asker.now) ∷ [] else [])) }
+{
+    if presence_of(editors, asker.editor).is_gone() {
+        return Ok(Vec::new(alloc));
+    }
+    let id = asker.id.clone(alloc)?;
+    one(alloc, Side::Editor(asker.editor), response(id, body))
+}
+
+fn opening_of(body: Result<Value, Error>) -> Opening
+    ensures { show_opening result ≡ opening_after (show_body body) }
+{
+    match body {
+        Ok(value) => Opening::Opened(value),
+        Err(_) => Opening::Unopened,
+    }
+}
+
+// The notification for each editor that is still here.
+fn to_all(alloc: Global, editors: &[Presence], note: Request) -> Result<Sent, NoMemory>
+    requires { length editors.now < 2 ^ 32 }
+    ensures { IfOk result (λ sent. all_sent sent.items
+        ≡ map (λ k. (Side.Editor k, request (show_request note))) (here_from 0 editors.now)) }
+{
+    let mut sent = Vec::new(alloc);
+    let mut k = 0;
+    // The last of them gets the notification itself, and the others a copy.
+    let mut last = None;
+    for presence in editors {
+        if !presence.is_gone() {
+            if let Some(before) = last {
+                sent.push((Side::Editor(before), Message::Request(note.clone(alloc)?)))?;
+            }
+            last = Some(k);
+        }
+        k += 1;
+    }
+    if let Some(before) = last {
+        sent.push((Side::Editor(before), Message::Request(note)))?;
+    }
+    Ok(sent)
+}
+
+impl Proxy {
+    // The responses to all that wait for `initialize` under this id.
+    fn waiting_sent(&self, n: u64, body: &Result<Value, Error>) -> Result<Option<Sent>, NoMemory>
+        ensures { IfOk result (λ o. option_map (λ sent. all_sent sent.items) o
+            ≡ waiting_sent (show_proxy self.now).opening n (show_body body.now)
+            (show_proxy self.now).editors) }
+    {
+        match &self.opening {
+            Opening::Awaited(m, askers) => {
+                if n == *m {
+                    Ok(Some(answers(self.alloc, &self.editors, askers, body)?))
+                } else {
+                    Ok(None)
+                }
+            }
+            _ => Ok(None),
+        }
+    }
+
+    // The response to `initialize`, or to an editor's request.
+    #[tactic(auto, unfolding(crate::specs::Proxy::initialize_answered))]
+    fn initialize_answered(&mut self, n: u64, body: Result<Value, Error>) -> Result<Sent, NoMemory>
+        ensures ok { IfOk result
+            (Makes self.old self.new (initialize_answered n (show_body body))) }
+        ensures err { OnErr result (IsSame self.old self.new) }
+    {
+        match self.waiting_sent(n, &body)? {
+            Some(sent) => {
+                self.opening = opening_of(body);
+                Ok(sent)
+            }
+            None => self.answered(n, body),
+        }
+    }
+
+    // The response to an editor's request goes to that editor, under its own id.
+    #[tactic(auto, unfolding(crate::specs::Proxy::answered))]
+    fn answered(&mut self, n: u64, body: Result<Value, Error>) -> Result<Sent, NoMemory>
+        ensures ok { IfOk result (Makes self.old self.new (answered n (show_body body))) }
+        ensures err { OnErr result (IsSame self.old self.new) }
+    {
+        let Some(asker) = self.asked.asker(n) else {
+            return Ok(Vec::new(self.alloc));
+        };
+        let sent = answer_if_here(self.alloc, &self.editors, asker, body)?;
+        self.asked.remove(n);
+        Ok(sent)
+    }
+
+    #[tactic(auto, unfolding(crate::specs::Proxy::server_response))]
+    pub(crate) fn server_response(&mut self, reply: Response) -> Result<Sent, NoMemory>
+        ensures ok { IfOk result (Makes self.old self.new (server_response (show_response reply))) }
+        ensures err { OnErr result (IsSame self.old self.new) }
+    {
+        let (id, body) = reply.into_parts();
+        let Some(n) = answered_id(&id) else {
+            return Ok(Vec::new(self.alloc));
+        };
+        if self.closing == Some(n) {
+            let sent = one(self.alloc, Side::Server, exit(self.alloc)?)?;
+            self.closing = None;
+            return Ok(sent);
+        }
+        self.initialize_answered(n, body)
+    }
+
+    // A request of the server goes to editor k, the lowest that is still here.
+    #[tactic(auto, unfolding(crate::specs::Proxy::pass_to))]
+    fn pass_to(&mut self, k: u32, request: Request, id: Id) -> Result<Sent, NoMemory>
+        requires lowest { lowest (show_proxy self.old).editors ≡ Some k }
+        requires left { (show_proxy self.old).next < last_id }
+        ensures ok { IfOk result
+            (Makes self.old self.new (pass_to k (show_request request) (show_id id))) }
+        ensures err { OnErr result (IsSame self.old self.new) }
+    {
+        let n = self.next;
+        let sent = one(self.alloc, Side::Editor(k), under_drawn(n, request))?;
+        self.requested.push(n, Asker { editor: k, id })?;
+        self.next += 1;
+        Ok(sent)
+    }
+
+    fn refuse_server(&self, id: Id) -> Result<Sent, NoMemory>
+        ensures { IfOk result (λ sent. all_sent sent.items ≡ (Side.Server, answer (show_id id) internal) ∷ []) }
+    {
+        let refused = refusal(self.alloc, id, ErrorCode::InternalError)?;
+        one(self.alloc, Side::Server, refused)
+    }
+
+    #[tactic(auto, unfolding(crate::specs::Proxy::server_request))]
+    fn server_request(&mut self, request: Request, id: Id) -> Result<Sent, NoMemory>
+        ensures ok { IfOk result
+            (Makes self.old self.new (server_request (show_request request) (show_id id))) }
+        ensures err { OnErr result (IsSame self.old self.new) }
+    {
+        match lowest_of(&self.editors) {
+            Some(k) => {
+                if self.next < LAST_ID {
+                    self.pass_to(k, request, id)
+                } else {
+                    self.refuse_server(id)
+                }
+            }
+            None => self.refuse_server(id),
+        }
+    }
+
+    // The cancel of the server's first request of that id, all of which are of editor k.
+    fn cancels_at(&self, k: u32, id: Id) -> Result<Sent, NoMemory>
+        requires { lowest (show_proxy self.now).editors ≡ Some k }
+        ensures { IfOk result (λ sent. all_sent sent.items
+            ≡ cancel_entry (first_requested (show_id id) (show_proxy self.now).requested)) }
+    {
+        let place = self.requested.place(&Asker { editor: k, id });
+        cancels(self.alloc, Side::Editor(k), place)
+    }
+
+    fn cancels_of(&self, id: Id) -> Result<Sent, NoMemory>
+        ensures { IfOk result (λ sent. all_sent sent.items
+            ≡ cancel_entry (first_requested (show_id id) (show_proxy self.now).requested)) }
+    {
+        match lowest_of(&self.editors) {
+            Some(k) => self.cancels_at(k, id),
+            None => Ok(Vec::new(self.alloc)),
+        }
+    }
+
+    #[tactic(auto, unfolding(crate::specs::Proxy::server_cancel))]
+    fn server_cancel(&self, request: Request) -> Result<Sent, NoMemory>
+        ensures { IfOk result (Makes self.now self.now (server_cancel (show_request request))) }
+    {
+        let (_, _, params) = request.into_parts();
+        match named_by(params) {
+            Some(id) => self.cancels_of(id),
+            None => Ok(Vec::new(self.alloc)),
+        }
+    }
+
+    #[tactic(auto, unfolding(crate::specs::Proxy::broadcast))]
+    fn broadcast(&self, note: Request) -> Result<Sent, NoMemory>
+        ensures { IfOk result (Makes self.now self.now (broadcast (show_request note))) }
+    {
+        to_all(self.alloc, &self.editors, note)
+    }
+
+    pub(crate) fn server_called(&mut self, request: Request) -> Result<Sent, NoMemory>
+        ensures ok { IfOk result
+            (Makes self.old self.new (server_called (show_request request) (show_request request).id)) }
+        ensures err { OnErr result (IsSame self.old self.new) }
+    {
+        let (request, id) = split(request);
+        match id {
+            Some(id) => self.server_request(request, id),
+            None => {
+                if request.method() == "$/cancelRequest" {
+                    self.server_cancel(request)
+                } else {
+                    self.broadcast(request)
+                }
+            }
+        }
+    }
+}
