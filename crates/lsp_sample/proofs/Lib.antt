@@ -1,1 +1,3 @@
+mod ParamsLemmas
 mod RunLemmas
+mod WordsLemmas

@@ -1,21 +1,42 @@
--- What the sample reads of params, and what it answers.
-use Rattle.std.specs.Prelude.{codes, Bool, true, false, Option, Some, None}
-use Rattle.serde_json.specs.Data.{Data, null, boolean, number, string, array, object, no_members, member}
-use Rattle.serde_json.specs.Find.{get}
+-- What the sample reads of params.
+use Rattle.std.specs.Prelude.{ℕ, List, codes, bytes_eq, Bool, true, false, nat_le, if◌then◌else◌, is_some, Option, Some, None, option_map, option_and_then}
+use Rattle.serde_json.specs.Data.{Data, Items, no_items, item}
+use Rattle.serde_json.specs.Find.{get, as_object, as_str, as_array, as_number, as_u64}
+use Rattle.lsp_sample.specs.Calls.{CommandData, Echo, Wait, Unknown}
 
-abbrev pub is_object : Option Data → Bool
-is_object None = false
-is_object (Some null) = false
-is_object (Some (boolean b)) = false
-is_object (Some (number n)) = false
-is_object (Some (string s)) = false
-is_object (Some (array ds)) = false
-is_object (Some (object ms)) = true
+abbrev pub is_object : Data → Bool
+is_object params = is_some (as_object params)
 
--- an object whose member `capabilities` is an object
+-- `InitializeParams` here are an object whose member `capabilities` is an object
 abbrev pub has_capabilities : Data → Bool
-has_capabilities params = is_object (get (codes "capabilities") params)
+has_capabilities params = is_some (option_and_then as_object (get (codes "capabilities") params))
 
--- an `InitializeResult` of a server without capabilities
-abbrev pub initialize_result : Data
-initialize_result = object (member (codes "capabilities") (object no_members) no_members)
+-- the argument of a list of one
+abbrev pub sole : Items → Option Data
+sole no_items = None
+sole (item value no_items) = Some value
+sole (item value (item next more)) = None
+
+abbrev pub echo : Option Data → CommandData
+echo None = Unknown
+echo (Some value) = Echo value
+
+-- `wait` takes an integer from 0 to 1,000
+abbrev pub wait_for : Option ℕ → CommandData
+wait_for None = Unknown
+wait_for (Some polls) = if nat_le polls 1000 then Wait polls else Unknown
+
+abbrev pub wait : Option Data → CommandData
+wait argument = wait_for (option_and_then as_u64 (option_and_then as_number argument))
+
+abbrev pub command : List ℕ → Option Data → CommandData
+command name argument = if bytes_eq name (codes "echo") then echo argument else (if bytes_eq name (codes "wait") then wait argument else Unknown)
+
+-- the arguments are a list, or there are none
+abbrev pub command_with : List ℕ → Option Data → Option CommandData
+command_with name None = Some (command name None)
+command_with name (Some arguments) = option_map (λ list. command name (sole list)) (as_array arguments)
+
+-- `ExecuteCommandParams` are an object with a text `command`
+abbrev pub command_in : Data → Option CommandData
+command_in params = option_and_then (λ name. command_with name (get (codes "arguments") params)) (option_and_then as_str (get (codes "command") params))

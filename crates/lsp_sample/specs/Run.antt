@@ -1,27 +1,81 @@
 -- What the program writes.
-use Rattle.std.specs.Prelude.{◌≡◌, ◌≢◌, ℕ, List, Option, Some, None}
-use Rattle.lsp_rpc.specs.Message.{IdData}
-use Rattle.lsp_session.specs.declared.state.Life.{Life}
-use Rattle.lsp_session.specs.declared.state.Life.TheVariants.{Uninitialized, Initialized, ShutDown, Exited}
+use Rattle.std.specs.Prelude.{◌≡◌, ◌≢◌, ⊤, ℕ, List, Option, Some, None, String, IfSome}
+use Rattle.std.specs.declared.alloc.Global.{Global}
+use Rattle.lsp_desk.specs.declared.life.Life.{Life}
+use Rattle.lsp_desk.specs.declared.life.Life.TheVariants.{Uninitialized, Initializing, Initialized, ShutDown, Exited}
+use Rattle.lsp_desk.specs.declared.plain.PlainDesk.{PlainDesk}
+use Rattle.lsp_desk.specs.Meaning.{IsOpening}
+use Rattle.lsp_desk.specs.Plain.{plain_meaning}
+use Rattle.lsp_frame.specs.Codec.{default_limits}
+use Rattle.lsp_session.specs.State.{State}
+use Rattle.lsp_session.specs.Run.{Order, Picked, order_by}
+use Rattle.lsp_server.specs.declared.step.ServeError.{ServeError}
+use Rattle.lsp_server.specs.declared.step.ServeError.TheVariants.{ReadFault, WriteFault, ReadsSpent, NoMemory, DeskSpent}
+use Rattle.lsp_server.specs.Course.{Course, course}
+use Rattle.lsp_server.specs.Course as server_course
 use Rattle.lsp_server.specs.Served as server
+use Rattle.lsp_server.specs.Served.{CallBytes, ServedView}
 use Rattle.lsp_sample.specs.declared.sample.Sample.{Sample}
-use Rattle.lsp_sample.specs.Sample.{sample_rules}
+use Rattle.lsp_sample.specs.declared.command.Waiting.{Waiting}
+use Rattle.lsp_sample.specs.declared.words.Setting.{Setting}
+use Rattle.lsp_sample.specs.Calls.{CallData}
+use Rattle.lsp_sample.specs.Sample.{sample_semantics}
+use Rattle.lsp_sample.specs.Words.{asked}
 
 abbrev pub sample : Sample
 sample = record {}
 
--- what was written is the sample's session over all these bytes, and the life that stood at `exit` is as told
-pub record Served (bytes : List ℕ) (old_taken new_taken : Option (List ℕ)) (P : Option Life → Type 0) : Type 0 where
-  pub last : Sample
-  pub exited : Option Life
-  pub unanswered : List IdData
-  pub serves : server.IsServed sample_rules sample bytes old_taken new_taken last exited unanswered
-  pub ends : P exited
+-- the calls are polled in order of admission
+abbrev pub in_order : Order ⊤
+in_order = order_by (λ _ n. 0) (λ p n. p)
+
+abbrev pub SampleState : Type 0
+SampleState = Picked (State Sample CallData Waiting) ⊤
+
+-- what the sample is served with: the limits are those of a new server
+abbrev pub server_setting : PlainDesk → ℕ → ℕ → server_course.Setting Sample PlainDesk ⊤
+server_setting desk max rounds = record { service = sample; desk = desk; max = max; wait = 1024; rounds = rounds; limits = default_limits; pick = tt }
+
+-- the course of the sample's session over a desk of its own
+abbrev pub sample_course : Setting → PlainDesk → Course SampleState PlainDesk
+sample_course setting desk = course sample_semantics plain_meaning in_order (server_setting desk setting.max setting.rounds)
+
+-- what was written is the sample's session over all these bytes, from a new desk on, and the life that stood at `exit` is as told;
+-- they were read to their end or to the piece that tells an exit, and no further
+pub record Served (setting : Setting) (call : CallBytes) (P : Option Life → Type 0) : Type 0 where
+  pub desk : PlainDesk
+  pub opening : IsOpening plain_meaning desk
+  pub view : ServedView Sample PlainDesk
+  pub serves : server.IsServed (sample_course setting desk) call view tt
+  pub enough : server.ReadEnough (sample_course setting desk) call 4096
+  pub ends : P view.exited
+
+-- what was written is that of the sample's session over the items told by the bytes read
+pub record WroteTold (setting : Setting) (call : CallBytes) : Type 0 where
+  pub desk : PlainDesk
+  pub opening : IsOpening plain_meaning desk
+  pub last_desk : PlainDesk
+  pub wrote : server.WroteTold (sample_course setting desk) call last_desk
+
+-- what was written begins the output of the sample's session over all these bytes
+pub record WrotePart (setting : Setting) (call : CallBytes) : Type 0 where
+  pub desk : PlainDesk
+  pub opening : IsOpening plain_meaning desk
+  pub wrote : server.WrotePart (sample_course setting desk) call 4096
+
+-- the exit status by the error
+abbrev pub status_of : ServeError → ℕ
+status_of ReadFault = 3
+status_of WriteFault = 4
+status_of ReadsSpent = 5
+status_of NoMemory = 6
+status_of (DeskSpent n) = 7
 
 -- the exit status by the life that stood at `exit`
 abbrev pub status_at : Option Life → ℕ
 status_at None = 1
 status_at (Some Uninitialized) = 1
+status_at (Some Initializing) = 1
 status_at (Some Initialized) = 1
 status_at (Some ShutDown) = 0
 status_at (Some Exited) = 1
@@ -32,8 +86,6 @@ IsShutDown exited = exited ≡ Some ShutDown
 abbrev pub IsNotShutDown : Option Life → Type 0
 IsNotShutDown exited = exited ≢ Some ShutDown
 
-abbrev pub WroteTold : List ℕ → Option (List ℕ) → Option (List ℕ) → Option (List ℕ) → Type 0
-WroteTold bytes left old_taken new_taken = server.WroteTold sample_rules sample bytes left old_taken new_taken
-
-abbrev pub WrotePart : List ℕ → Option (List ℕ) → Option (List ℕ) → Option (List ℕ) → Type 0
-WrotePart bytes left old_taken new_taken = server.WrotePart sample_rules sample bytes left 4096 old_taken new_taken
+-- the arguments are a form of serving, over a source that tells its bytes: this holds of their setting and these bytes
+abbrev pub WhereTold : List (String Global) → Option (List ℕ) → (Setting → List ℕ → Type 0) → Type 0
+WhereTold words left P = IfSome (asked words) (λ setting. IfSome left (P setting))

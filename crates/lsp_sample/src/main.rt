@@ -1,13 +1,16 @@
-//! A small language server: it answers `initialize` and `shutdown`, and ends at `exit`.
+//! A small language server, served over standard input and output.
 #![tactic(auto)]
 
+mod command;
 #[cfg(test)]
 mod round_trips;
 mod run;
 mod sample;
 #[cfg(test)]
 mod tests;
+mod words;
 
+pub use command::{Command, Waiting};
 use lsp_server::{ReadSource, Sink, WriteSink};
 pub use run::{Status, run};
 pub use sample::{Sample, SampleCall};
@@ -16,9 +19,10 @@ use std::io::{BufWriter, ErrorKind};
 use std::process::ExitCode;
 use std::rt::Env;
 use std::{env, io};
+pub use words::Setting;
 
 /// The program's arguments, without its own name.
-fn words(rt: &(impl Env + Alloc<A = Global>)) -> io::Result<Vec<String>> {
+fn arguments(rt: &(impl Env + Alloc<A = Global>)) -> io::Result<Vec<String>> {
     let mut words = Vec::new(rt.alloc());
     for word in env::args(rt)?.skip(1) {
         words.push(word)?;
@@ -27,7 +31,7 @@ fn words(rt: &(impl Env + Alloc<A = Global>)) -> io::Result<Vec<String>> {
 }
 
 fn main(rt: HostRuntime) -> ExitCode {
-    let words = match words(&rt) {
+    let words = match arguments(&rt) {
         Ok(words) => words,
         // An argument that isn't UTF-8 is none of the program's.
         Err(error) if error.kind() == ErrorKind::InvalidData => {

@@ -1,23 +1,29 @@
 // The program: what its words ask for, and how it ends.
-ghost use Rattle.std.specs.Prelude.{◌≡◌, ◌↔◌, ◌≤◌, ◌<◌, ◌⊎◌, ◌+◌, ◌-◌, ◌^◌, true, false, length, map, string_bytes, IfSome};
+ghost use Rattle.std.specs.Prelude.{◌≡◌, ◌≢◌, ℕ, ◌≤◌, ◌<◌, ◌⊎◌, ◌↔◌, ◌+◌, ◌-◌, ◌^◌, None, length, IfSome};
 ghost use Rattle.lsp_server.specs.SourceSink.{CountRose, IsFlushed};
-ghost use Rattle.lsp_sample.specs.Words.{is_serve as is_serve_lem};
-ghost use Rattle.lsp_sample.specs.Run.{status_at as status_lem, Served, IsShutDown, IsNotShutDown, WroteTold, WrotePart};
+ghost use Rattle.lsp_desk.specs.Meaning.{IsOpening};
+ghost use Rattle.lsp_desk.specs.Plain.{plain_meaning};
+ghost use Rattle.lsp_server.specs.Served.{call_bytes};
+ghost use Rattle.lsp_server.specs.ServerView.{server_desk, setting as setting_lem};
+ghost use Rattle.lsp_sample.specs.Words.{asked};
+ghost use Rattle.lsp_sample.specs.Run.{sample, server_setting, status_at as status_at_lem, status_of as status_of_lem, Served as SampleServed, WhereTold, IsShutDown, IsNotShutDown, WroteTold, WrotePart};
 
-use crate::Sample;
+use crate::words::read_words;
+use crate::{Sample, Setting};
+use lsp_desk::{ClientSocket, PlainDesk};
 use lsp_server::{ServeError, Server, Sink, Source};
-use lsp_session::Life;
+use lsp_session::{InOrder, Life};
 use std::alloc::Global;
 
 /// How the program ends: its exit status.
 #[derive(Clone, Copy, Debug, PartialEq, Eq)]
 #[repr(u8)]
 pub enum Status {
-    /// `exit` came behind `shutdown`.
+    /// `exit` came after `shutdown`.
     Done = 0,
     /// `exit` came without `shutdown`, or the input ended before it.
     Unfinished = 1,
-    /// The words are none of the forms.
+    /// The arguments are none of the forms.
     Usage = 2,
     /// A read failed.
     ReadFault = 3,
@@ -27,12 +33,15 @@ pub enum Status {
     ReadsSpent = 5,
     /// There was no memory.
     NoMemory = 6,
+    /// The desk had no turns left.
+    DeskSpent = 7,
 }
 
 /// Runs the program over a source and a sink, and answers its exit status.
 ///
-/// With no words, or with the word `serve`, it serves a [`Sample`] to the end of input or the first
-/// `exit`. With other words nothing is read or written.
+/// With no arguments, or with `serve`, it serves a [`Sample`] to the end of input or the first `exit`: at most
+/// 4 calls are polled at a time, in 8 rounds after each message. `serve MAX ROUNDS` sets these two
+/// numbers. With other arguments nothing is read or written.
 pub fn run<I: Source, O: Sink>(
     alloc: Global,
     words: &Vec<String>,
@@ -41,46 +50,93 @@ pub fn run<I: Source, O: Sink>(
 ) -> u8
     ensures known { result ≤ 6 }
 
-    // The words.
-    ensures usage { (result ≡ 2) ↔ (is_serve_lem (map string_bytes words.now.items) ≡ false) }
-    ensures untouched { is_serve_lem (map string_bytes words.now.items) ≡ false → (source.new ≡ source.old) × (sink.new ≡ sink.old) }
+    // The arguments.
+    ensures usage { (result ≡ 2) ↔ (asked words.now.items ≡ None) }
+    ensures untouched { asked words.now.items ≡ None → (source.new ≡ source.old) × (sink.new ≡ sink.old) }
 
     // What is written is a session over all the source's bytes.
-    ensures done { result ≡ 0 → IfSome (I.left source.old) (λ bytes. Served bytes (O.taken sink.old) (O.taken sink.new) IsShutDown) }
-    ensures unfinished { result ≡ 1 → IfSome (I.left source.old) (λ bytes. Served bytes (O.taken sink.old) (O.taken sink.new) IsNotShutDown) }
-    ensures flushed { result ≤ 1 → IsFlushed (O.taken sink.old) (O.flushed sink.old) → IsFlushed (O.taken sink.new) (O.flushed sink.new) }
+    ensures done { result ≡ 0 → WhereTold words.now.items (I.left source.old) (λ setting bytes.
+        SampleServed setting (call_bytes bytes (I.left source.new) (O.taken sink.old) (O.taken sink.new)) IsShutDown) }
+    ensures unfinished { result ≡ 1 → WhereTold words.now.items (I.left source.old) (λ setting bytes.
+        SampleServed setting (call_bytes bytes (I.left source.new) (O.taken sink.old) (O.taken sink.new)) IsNotShutDown) }
 
-    // Each failure has its cause.
+    // What was written is flushed.
+    ensures flushed { (result ≤ 1) ⊎ (result ≡ 3) ⊎ (result ≡ 5)
+        → IsFlushed (O.taken sink.old) (O.flushed sink.old) → IsFlushed (O.taken sink.new) (O.flushed sink.new) }
+
+    // Each failure has its cause, and is told.
     ensures read { result ≡ 3 → CountRose (I.faults source.old) (I.faults source.new) }
     ensures write { result ≡ 4 → CountRose (O.faults sink.old) (O.faults sink.new) }
-    ensures spent { result ≡ 5 → IfSome (I.left source.old) (λ bytes. IfSome (I.left source.new) (λ rest. 2 ^ 64 - 1 + length rest ≤ length bytes)) }
+    ensures spent { result ≡ 5 → IfSome (I.left source.old) (λ bytes. IfSome (I.left source.new) (λ rest.
+        2 ^ 64 - 1 + length rest ≤ length bytes)) }
+    ensures read_told { I.faults source.old < I.faults source.new → result ≡ 3 }
+    ensures write_told { O.faults sink.old < O.faults sink.new → result ≡ 4 }
 
     // So with no failure, and with fewer bytes than reads, only memory may be wanting.
-    ensures complete { is_serve_lem (map string_bytes words.now.items) ≡ true → IfSome (I.left source.old) (λ bytes. length bytes < 2 ^ 64 - 1
+    ensures complete { WhereTold words.now.items (I.left source.old) (λ _ bytes. length bytes < 2 ^ 64 - 1
         → ¬ CountRose (I.faults source.old) (I.faults source.new) → ¬ CountRose (O.faults sink.old) (O.faults sink.new)
-        → (result ≡ 0) ⊎ (result ≡ 1) ⊎ (result ≡ 6)) }
+        → (result ≤ 1) ⊎ (result ≡ 6)) }
 
     // What was written by then.
-    ensures exact { (result ≡ 3) ⊎ (result ≡ 5) → IfSome (I.left source.old) (λ bytes.
-        WroteTold bytes (I.left source.new) (O.taken sink.old) (O.taken sink.new)) }
-    ensures part { 3 ≤ result → IfSome (I.left source.old) (λ bytes.
-        WrotePart bytes (I.left source.new) (O.taken sink.old) (O.taken sink.new)) }
+    ensures exact { (result ≡ 3) ⊎ (result ≡ 5) → WhereTold words.now.items (I.left source.old) (λ setting bytes.
+        WroteTold setting (call_bytes bytes (I.left source.new) (O.taken sink.old) (O.taken sink.new))) }
+    ensures part { 3 ≤ result → WhereTold words.now.items (I.left source.old) (λ setting bytes.
+        WrotePart setting (call_bytes bytes (I.left source.new) (O.taken sink.old) (O.taken sink.new))) }
 {
-    if !is_serve(words) {
-        return Status::Usage as u8;
+    match read_words(words) {
+        Some(setting) => serve(alloc, setting, source, sink),
+        None => Status::Usage as u8,
     }
-    match Server::new().serve(alloc, source, sink, Sample, u64::MAX) {
+}
+
+// Serves the sample over a new desk.
+fn serve<I: Source, O: Sink>(alloc: Global, setting: Setting, source: &mut I, sink: &mut O) -> u8
+    requires max { 1 ≤ setting.max }
+    requires rounds { 1 ≤ setting.rounds }
+    ensures known { result ≤ 6 }
+    ensures form { result ≢ 2 }
+    ensures done { result ≡ 0 → IfSome (I.left source.old) (λ bytes. SampleServed setting (call_bytes bytes (I.left source.new) (O.taken sink.old) (O.taken sink.new)) IsShutDown) }
+    ensures unfinished { result ≡ 1 → IfSome (I.left source.old) (λ bytes. SampleServed setting (call_bytes bytes (I.left source.new) (O.taken sink.old) (O.taken sink.new)) IsNotShutDown) }
+    ensures flushed { (result ≤ 1) ⊎ (result ≡ 3) ⊎ (result ≡ 5)
+        → IsFlushed (O.taken sink.old) (O.flushed sink.old) → IsFlushed (O.taken sink.new) (O.flushed sink.new) }
+    ensures read { result ≡ 3 → CountRose (I.faults source.old) (I.faults source.new) }
+    ensures write { result ≡ 4 → CountRose (O.faults sink.old) (O.faults sink.new) }
+    ensures spent { result ≡ 5 → IfSome (I.left source.old) (λ bytes. IfSome (I.left source.new) (λ rest.
+        2 ^ 64 - 1 + length rest ≤ length bytes)) }
+    ensures read_told { I.faults source.old < I.faults source.new → result ≡ 3 }
+    ensures write_told { O.faults sink.old < O.faults sink.new → result ≡ 4 }
+    ensures complete { IfSome (I.left source.old) (λ bytes. length bytes < 2 ^ 64 - 1
+        → ¬ CountRose (I.faults source.old) (I.faults source.new) → ¬ CountRose (O.faults sink.old) (O.faults sink.new)
+        → (result ≤ 1) ⊎ (result ≡ 6)) }
+    ensures exact { (result ≡ 3) ⊎ (result ≡ 5) → IfSome (I.left source.old) (λ bytes. WroteTold setting (call_bytes bytes (I.left source.new) (O.taken sink.old) (O.taken sink.new))) }
+    ensures part { 3 ≤ result → IfSome (I.left source.old) (λ bytes. WrotePart setting (call_bytes bytes (I.left source.new) (O.taken sink.old) (O.taken sink.new))) }
+{
+    match sample_server(alloc, setting.max).serve(
+        alloc,
+        source,
+        sink,
+        Sample,
+        &mut InOrder,
+        u64::MAX,
+        setting.rounds,
+    ) {
         Ok(served) => status_at(served.exited),
-        Err(ServeError::ReadFault) => Status::ReadFault as u8,
-        Err(ServeError::WriteFault) => Status::WriteFault as u8,
-        Err(ServeError::ReadsSpent) => Status::ReadsSpent as u8,
-        Err(ServeError::NoMemory) => Status::NoMemory as u8,
+        Err(stopped) => status_of(stopped.error),
     }
+}
+
+// A server over a new desk, which polls at most so many calls in a round.
+fn sample_server(alloc: Global, max: usize) -> Server<PlainDesk>
+    requires { 1 ≤ max }
+    ensures opening { IsOpening plain_meaning (server_desk result) }
+    ensures setting { (rounds : ℕ) → setting_lem result sample tt rounds ≡ server_setting (server_desk result) max rounds }
+{
+    Server::new(ClientSocket::new(PlainDesk::new(alloc))).concurrency_level(max)
 }
 
 // A server ends with status 0 where `shutdown` came before `exit` (LSP 3.17, "Exit Notification").
 fn status_at(exited: Option<Life>) -> u8
-    ensures { result ≡ status_lem exited }
+    ensures { result ≡ status_at_lem exited }
 {
     match exited {
         Some(Life::ShutDown) => Status::Done as u8,
@@ -88,13 +144,14 @@ fn status_at(exited: Option<Life>) -> u8
     }
 }
 
-// Whether the words are those of serving.
-fn is_serve(words: &Vec<String>) -> bool
-    ensures { result ≡ is_serve_lem (map string_bytes words.now.items) }
+fn status_of(error: ServeError) -> u8
+    ensures { result ≡ status_of_lem error }
 {
-    match words.as_slice() {
-        [] => true,
-        [word] => word.as_str() == "serve",
-        _ => false,
+    match error {
+        ServeError::ReadFault => Status::ReadFault as u8,
+        ServeError::WriteFault => Status::WriteFault as u8,
+        ServeError::ReadsSpent => Status::ReadsSpent as u8,
+        ServeError::NoMemory => Status::NoMemory as u8,
+        ServeError::DeskSpent(_) => Status::DeskSpent as u8,
     }
 }

@@ -1,53 +1,60 @@
 // The server of this program.
-ghost use Rattle.std.specs.Prelude.{◌≡◌, IfOk};
+ghost use Rattle.std.specs.Prelude.{◌≡◌, codes, false, IfOk};
 ghost use Rattle.serde_json.specs.View.{view};
-ghost use Rattle.lsp_sample.specs.Params.{initialize_result, has_capabilities as has_capabilities_lem};
+ghost use Rattle.lsp_desk.specs.Call.{Tell};
+ghost use Rattle.lsp_desk.specs.Shown.{show_client_call};
+ghost use Rattle.lsp_session.specs.Progress.{show_progress};
+ghost use Rattle.lsp_sample.specs.Calls.{initialize_result, greeting as greeting_lem, Execute};
+ghost use Rattle.lsp_sample.specs.Params.{has_capabilities as has_capabilities_lem};
+ghost use Rattle.lsp_sample.specs.Sample.{sample_semantics, first, waits as waits_lem};
+ghost use Rattle.lsp_sample.specs.Shown.{show_command};
 
-use lsp_rpc::{Error, NoMemory};
-use lsp_session::{CallMisfit, Entry, Handlers, Kind, Layer};
+use crate::command::read_command;
+use crate::{Command, Waiting};
+use lsp_desk::{Caller, ClientCall, DeskFault};
+use lsp_rpc::{Error, ErrorCode, NoMemory};
+use lsp_session::{CallMisfit, Entry, Handlers, Kind, Layer, Progress};
 use serde_json::{Value, json};
 use std::alloc::Global;
 
-/// A server that has no capabilities.
+/// A server that has no capabilities, and two commands: `echo` gives its argument back, and `wait`
+/// takes its time.
 #[derive(Clone, Copy, Debug, PartialEq, Eq)]
 pub struct Sample;
 
 /// What is asked of it.
-#[derive(Clone, Copy, Debug, PartialEq, Eq)]
+#[derive(Drop, Debug)]
 pub enum SampleCall {
     /// `initialize`, with the capabilities of a client.
     Initialize,
+    /// `initialized`, which is greeted.
+    Initialized,
     /// `shutdown`, which has no params.
     Shutdown,
+    /// `workspace/executeCommand`.
+    ExecuteCommand(Command),
 }
 
-impl Handlers for Sample {
-    ghost use Rattle.lsp_sample.specs.Sample.{sample_rules};
+impl<D: Caller> Handlers<D> for Sample {
+    ghost use Rattle.lsp_sample.specs.Sample.{sample_semantics};
     ghost use Rattle.lsp_sample.specs.SampleLaws.{sample_laws};
 
     type Call = SampleCall;
 
-    ghost rules = { sample_rules };
+    type Task = Waiting;
+
+    ghost semantics = { sample_semantics };
 
     ghost laws = { sample_laws };
 
     fn find(&self, name: &str) -> Option<Entry> {
         match name {
-            "initialize" => Some(Entry {
-                place: 0,
-                layer: Layer::Initialize,
-                kind: Kind::Request,
-            }),
-            "shutdown" => Some(Entry {
-                place: 1,
-                layer: Layer::Shutdown,
-                kind: Kind::Request,
-            }),
-            "exit" => Some(Entry {
-                place: 2,
-                layer: Layer::Exit,
-                kind: Kind::Notification,
-            }),
+            "initialize" => entry(0, Layer::Initialize, Kind::Request),
+            "initialized" => entry(1, Layer::Normal, Kind::Notification),
+            "shutdown" => entry(2, Layer::Shutdown, Kind::Request),
+            "exit" => entry(3, Layer::Exit, Kind::Notification),
+            "$/cancelRequest" => entry(4, Layer::Cancel, Kind::Notification),
+            "workspace/executeCommand" => entry(5, Layer::Normal, Kind::Request),
             _ => None,
         }
     }
@@ -58,26 +65,56 @@ impl Handlers for Sample {
         entry: Entry,
         params: Option<&Value>,
     ) -> Result<SampleCall, CallMisfit> {
-        match entry.layer {
-            Layer::Initialize => match params {
-                Some(params) if has_capabilities(params) => Ok(SampleCall::Initialize),
-                Some(_) => Err(CallMisfit::Unfit),
-                None => Err(CallMisfit::Missing),
+        match (entry.layer, entry.kind, params) {
+            (Layer::Initialize, _, Some(params)) if has_capabilities(params) => {
+                Ok(SampleCall::Initialize)
+            }
+            (Layer::Shutdown, _, None) => Ok(SampleCall::Shutdown),
+            (Layer::Shutdown, _, Some(_)) => Err(CallMisfit::Unexpected),
+            (Layer::Normal, Kind::Notification, Some(params)) if params.is_object() => {
+                Ok(SampleCall::Initialized)
+            }
+            (Layer::Normal, Kind::Request, Some(params)) => match read_command(params) {
+                Ok(Some(command)) => Ok(SampleCall::ExecuteCommand(command)),
+                Ok(None) => Err(CallMisfit::Unfit),
+                Err(NoMemory) => Err(CallMisfit::NoMemory),
             },
-            Layer::Shutdown => match params {
-                Some(_) => Err(CallMisfit::Unexpected),
-                None => Ok(SampleCall::Shutdown),
-            },
+            (Layer::Initialize | Layer::Normal, _, None) => Err(CallMisfit::Missing),
             _ => Err(CallMisfit::Unfit),
         }
     }
 
-    fn begin(&mut self, alloc: Global, call: SampleCall) -> Result<Result<Value, Error>, NoMemory> {
+    fn begin(
+        &mut self,
+        alloc: Global,
+        call: SampleCall,
+        desk: &mut D,
+    ) -> Result<Progress<Waiting>, DeskFault> {
         match call {
-            SampleCall::Initialize => Ok(Ok(capabilities(alloc)?)),
-            SampleCall::Shutdown => Ok(Ok(Value::Null)),
+            SampleCall::Initialize => Ok(Progress::Done(Ok(capabilities(alloc)?))),
+            SampleCall::Initialized => {
+                desk.client(greeting(alloc)?)?;
+                Ok(Progress::Done(Ok(Value::Null)))
+            }
+            SampleCall::Shutdown => Ok(Progress::Done(Ok(Value::Null))),
+            SampleCall::ExecuteCommand(command) => Ok(execute(alloc, command)?),
         }
     }
+
+    fn resume(
+        &mut self,
+        _alloc: Global,
+        task: Waiting,
+        _desk: &mut D,
+    ) -> Result<Progress<Waiting>, DeskFault> {
+        Ok(waits(task.left, task.polls))
+    }
+}
+
+fn entry(place: u64, layer: Layer, kind: Kind) -> Option<Entry>
+    ensures { result ≡ Some (record { place = place; layer = layer; kind = kind }) }
+{
+    Some(Entry { place, layer, kind })
 }
 
 // Whether the value is an object whose member `capabilities` is an object.
@@ -96,5 +133,45 @@ fn capabilities(alloc: Global) -> Result<Value, NoMemory>
     match json!(in alloc; {"capabilities": {}}) {
         Ok(value) => Ok(value),
         Err(_) => Err(NoMemory),
+    }
+}
+
+// A log message of type 3, that of information (LSP 3.17, "LogMessage Notification").
+fn greeting(alloc: Global) -> Result<ClientCall, NoMemory>
+    ensures { IfOk result (λ c. show_client_call c ≡ Tell (codes "window/logMessage") greeting_lem false) }
+{
+    let method = String::from_str(alloc, "window/logMessage")?;
+    match json!(in alloc; {"message": "server initialized!", "type": 3}) {
+        Ok(params) => Ok(ClientCall::Tell {
+            method,
+            params,
+            gated: false,
+        }),
+        Err(_) => Err(NoMemory),
+    }
+}
+
+// What the first poll of a command comes to.
+fn execute(alloc: Global, command: Command) -> Result<Progress<Waiting>, NoMemory>
+    ensures { IfOk result (λ progress. show_progress sample_semantics progress ≡ first (Execute (show_command command))) }
+{
+    match command {
+        Command::Echo(value) => Ok(Progress::Done(Ok(value))),
+        Command::Wait(polls) => Ok(waits(polls, polls)),
+        Command::Unknown => Ok(Progress::Done(Err(Error::new(alloc, ErrorCode::InvalidParams)?))),
+    }
+}
+
+// What a poll of a wait comes to, of which so many polls are left.
+fn waits(left: u64, polls: u64) -> Progress<Waiting>
+    ensures { show_progress sample_semantics result ≡ waits_lem left polls }
+{
+    if left == 0 {
+        Progress::Done(Ok(Value::from(polls)))
+    } else {
+        Progress::Pending(Waiting {
+            left: left - 1,
+            polls,
+        })
     }
 }

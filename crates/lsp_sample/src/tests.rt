@@ -1,8 +1,13 @@
 // Whole sessions: what an editor sends, and the bytes and the exit status that answer it.
+ghost use Rattle.std.specs.Prelude.{◌≤◌};
+
 use crate::{Sample, run};
-use lsp_rpc::{ErrorCode, Message};
-use lsp_server::{MemorySink, MemorySource, NeverSink, NeverSource, ServeError, Server};
-use lsp_session::{Item, Life, Session};
+use lsp_desk::{ClientSocket, PlainDesk};
+use lsp_rpc::Id;
+use lsp_server::{
+    MemorySink, MemorySource, NeverSink, NeverSource, ServeError, Served, Server, Stopped,
+};
+use lsp_session::InOrder;
 use std::alloc::{AllocError, Global};
 use std::test::Fail;
 
@@ -20,37 +25,42 @@ const SHUT_DOWN: &str = "{\"jsonrpc\":\"2.0\",\"result\":null,\"id\":2}";
 const PARSE_ERROR: &str =
     "{\"jsonrpc\":\"2.0\",\"error\":{\"code\":-32700,\"message\":\"Parse error\"},\"id\":null}";
 
-/// A session: its name, the bodies sent, the bodies of the answers with their lengths, and the
-/// exit status.
+/// A session: its name, the program's arguments, the bodies sent, the bodies of the answers with
+/// their lengths, and the exit status.
 type Row = (
     &'static str,
+    &'static [&'static str],
     &'static [&'static str],
     &'static [(usize, &'static str)],
     u8,
 );
 
-const SESSIONS: [Row; 13] = [
+const SESSIONS: [Row; 20] = [
     (
         "a whole session",
+        &[],
         &[INITIALIZE, SHUTDOWN, EXIT],
         &[(53, INITIALIZED), (38, SHUT_DOWN)],
         0,
     ),
-    ("no bytes", &[], &[], 1),
+    ("no bytes", &[], &[], &[], 1),
     (
-        "the input ends behind initialize",
+        "the input ends after initialize",
+        &[],
         &[INITIALIZE],
         &[(53, INITIALIZED)],
         1,
     ),
     (
         "a body that is cut",
+        &[],
         &["{\"jsonrpc\":\"2.0\",\"method\":"],
         &[(75, PARSE_ERROR)],
         1,
     ),
     (
         "a name that is not registered",
+        &[],
         &["{\"jsonrpc\":\"2.0\",\"method\":\"foo\",\"id\":0}"],
         &[(
             90,
@@ -59,13 +69,18 @@ const SESSIONS: [Row; 13] = [
         1,
     ),
     (
-        "a name that may be ignored",
-        &["{\"jsonrpc\":\"2.0\",\"method\":\"$/foo\",\"id\":0}"],
+        "a request that may be ignored is answered",
         &[],
+        &["{\"jsonrpc\":\"2.0\",\"method\":\"$/foo\",\"id\":0}"],
+        &[(
+            92,
+            "{\"jsonrpc\":\"2.0\",\"error\":{\"code\":-32601,\"message\":\"Method not found\",\"data\":\"$/foo\"},\"id\":0}",
+        )],
         1,
     ),
     (
         "shutdown with params, and once more",
+        &[],
         &[
             INITIALIZE,
             "{\"jsonrpc\":\"2.0\",\"method\":\"shutdown\",\"params\":null,\"id\":2}",
@@ -86,6 +101,7 @@ const SESSIONS: [Row; 13] = [
     ),
     (
         "no method, and no message",
+        &[],
         &["{\"jsonrpc\":\"2.0\",\"id\":0}", "[1]"],
         &[
             (
@@ -101,6 +117,7 @@ const SESSIONS: [Row; 13] = [
     ),
     (
         "what an editor sends",
+        &[],
         &[
             "{\"jsonrpc\":\"2.0\",\"id\":0,\"method\":\"initialize\",\"params\":{\"processId\":1234,\"clientInfo\":{\"name\":\"Visual Studio Code\",\"version\":\"1.92.0\"},\"locale\":\"en\",\"rootPath\":\"/w\",\"rootUri\":\"file:///w\",\"capabilities\":{\"workspace\":{\"applyEdit\":true},\"textDocument\":{\"publishDiagnostics\":{\"tagSupport\":{\"valueSet\":[1,2]}}},\"general\":{\"positionEncodings\":[\"utf-16\"]}},\"trace\":\"off\",\"workspaceFolders\":[{\"uri\":\"file:///w\",\"name\":\"w\"}]}}",
             "{\"jsonrpc\":\"2.0\",\"method\":\"$/setTrace\",\"params\":{\"value\":\"off\"}}",
@@ -113,6 +130,7 @@ const SESSIONS: [Row; 13] = [
     ),
     (
         "shutdown before initialize",
+        &[],
         &[SHUTDOWN, EXIT],
         &[(
             83,
@@ -122,6 +140,7 @@ const SESSIONS: [Row; 13] = [
     ),
     (
         "initialize twice",
+        &[],
         &[INITIALIZE, INITIALIZE],
         &[
             (53, INITIALIZED),
@@ -134,6 +153,7 @@ const SESSIONS: [Row; 13] = [
     ),
     (
         "initialize without params, and with others",
+        &[],
         &[
             "{\"jsonrpc\":\"2.0\",\"method\":\"initialize\",\"id\":1}",
             "{\"jsonrpc\":\"2.0\",\"method\":\"initialize\",\"params\":{\"capabilities\":1},\"id\":2}",
@@ -150,7 +170,117 @@ const SESSIONS: [Row; 13] = [
         ],
         1,
     ),
-    ("nothing behind exit", &[EXIT, INITIALIZE], &[], 1),
+    ("nothing after exit", &[], &[EXIT, INITIALIZE], &[], 1),
+    (
+        "a cancel is answered at once, and once",
+        &[],
+        &[
+            INITIALIZE,
+            "{\"jsonrpc\":\"2.0\",\"method\":\"workspace/executeCommand\",\"params\":{\"command\":\"wait\",\"arguments\":[1000]},\"id\":3}",
+            "{\"jsonrpc\":\"2.0\",\"method\":\"$/cancelRequest\",\"params\":{\"id\":3}}",
+            "{\"jsonrpc\":\"2.0\",\"method\":\"$/cancelRequest\",\"params\":{\"id\":3}}",
+        ],
+        &[
+            (53, INITIALIZED),
+            (
+                69,
+                "{\"jsonrpc\":\"2.0\",\"error\":{\"code\":-32800,\"message\":\"Canceled\"},\"id\":3}",
+            ),
+        ],
+        1,
+    ),
+    (
+        "one slot: a call waits in the queue",
+        &["serve", "1", "1"],
+        &[
+            INITIALIZE,
+            "{\"jsonrpc\":\"2.0\",\"method\":\"workspace/executeCommand\",\"params\":{\"command\":\"wait\",\"arguments\":[2]},\"id\":2}",
+            "{\"jsonrpc\":\"2.0\",\"method\":\"workspace/executeCommand\",\"params\":{\"command\":\"echo\",\"arguments\":[\"x\"]},\"id\":3}",
+        ],
+        &[
+            (53, INITIALIZED),
+            (35, "{\"jsonrpc\":\"2.0\",\"result\":2,\"id\":2}"),
+            (37, "{\"jsonrpc\":\"2.0\",\"result\":\"x\",\"id\":3}"),
+        ],
+        1,
+    ),
+    (
+        "one slot: the wait is longer than the input",
+        &["serve", "1", "1"],
+        &[
+            INITIALIZE,
+            "{\"jsonrpc\":\"2.0\",\"method\":\"workspace/executeCommand\",\"params\":{\"command\":\"wait\",\"arguments\":[3]},\"id\":2}",
+            "{\"jsonrpc\":\"2.0\",\"method\":\"workspace/executeCommand\",\"params\":{\"command\":\"echo\",\"arguments\":[\"x\"]},\"id\":3}",
+        ],
+        &[(53, INITIALIZED)],
+        1,
+    ),
+    (
+        "an id that is live is refused, and the first goes on",
+        &[],
+        &[
+            INITIALIZE,
+            "{\"jsonrpc\":\"2.0\",\"method\":\"workspace/executeCommand\",\"params\":{\"command\":\"wait\",\"arguments\":[1000]},\"id\":7}",
+            "{\"jsonrpc\":\"2.0\",\"method\":\"workspace/executeCommand\",\"params\":{},\"id\":7}",
+        ],
+        &[
+            (53, INITIALIZED),
+            (
+                76,
+                "{\"jsonrpc\":\"2.0\",\"error\":{\"code\":-32600,\"message\":\"Invalid request\"},\"id\":7}",
+            ),
+        ],
+        1,
+    ),
+    (
+        "a cancel names no id past 32 bits",
+        &[],
+        &[
+            INITIALIZE,
+            "{\"jsonrpc\":\"2.0\",\"method\":\"workspace/executeCommand\",\"params\":{\"command\":\"wait\",\"arguments\":[1000]},\"id\":5000000000}",
+            "{\"jsonrpc\":\"2.0\",\"method\":\"$/cancelRequest\",\"params\":{\"id\":5000000000}}",
+        ],
+        &[(53, INITIALIZED)],
+        1,
+    ),
+    (
+        "a greeting",
+        &[],
+        &[
+            INITIALIZE,
+            "{\"jsonrpc\":\"2.0\",\"method\":\"initialized\",\"params\":{}}",
+        ],
+        &[
+            (53, INITIALIZED),
+            (
+                98,
+                "{\"jsonrpc\":\"2.0\",\"method\":\"window/logMessage\",\"params\":{\"message\":\"server initialized!\",\"type\":3}}",
+            ),
+        ],
+        1,
+    ),
+    (
+        "exit answers each call that waits",
+        &[],
+        &[
+            INITIALIZE,
+            "{\"jsonrpc\":\"2.0\",\"method\":\"workspace/executeCommand\",\"params\":{\"command\":\"wait\",\"arguments\":[1000]},\"id\":4}",
+            "{\"jsonrpc\":\"2.0\",\"method\":\"workspace/executeCommand\",\"params\":{\"command\":\"wait\",\"arguments\":[1000]},\"id\":5}",
+            EXIT,
+        ],
+        &[
+            (53, INITIALIZED),
+            (
+                69,
+                "{\"jsonrpc\":\"2.0\",\"error\":{\"code\":-32800,\"message\":\"Canceled\"},\"id\":4}",
+            ),
+            (
+                69,
+                "{\"jsonrpc\":\"2.0\",\"error\":{\"code\":-32800,\"message\":\"Canceled\"},\"id\":5}",
+            ),
+        ],
+        1,
+    ),
 ];
 
 /// Bytes that are not all frames: the bytes sent, those of the answer, and the exit status.
@@ -168,7 +298,7 @@ const STRETCHES: [(&str, &[u8], &[u8], u8); 3] = [
         1,
     ),
     (
-        "a stretch behind initialize",
+        "a stretch after initialize",
         b"Content-Length: 75\r\n\r\n{\"jsonrpc\":\"2.0\",\"method\":\"initialize\",\"params\":{\"capabilities\":{}},\"id\":1}foo",
         b"Content-Length: 53\r\n\r\n{\"jsonrpc\":\"2.0\",\"result\":{\"capabilities\":{}},\"id\":1}Content-Length: 75\r\n\r\n{\"jsonrpc\":\"2.0\",\"error\":{\"code\":-32700,\"message\":\"Parse error\"},\"id\":null}",
         1,
@@ -176,9 +306,15 @@ const STRETCHES: [(&str, &[u8], &[u8], u8); 3] = [
 ];
 
 /// Words that are none of the program's forms.
-const OTHER_WORDS: [&[&str]; 6] = [
+const OTHER_WORDS: [&[&str]; 12] = [
     &["serve", "0", "8"],
+    &["serve", "4", "0"],
     &["serve", "4"],
+    &["serve", "+4", "8"],
+    &["serve", "4", "8x"],
+    &["serve", "", "8"],
+    &["serve", "4", "18446744073709551616"],
+    &["serve", "4", "8", "1"],
     &["bulk", "1", "0"],
     &["help"],
     &["--help"],
@@ -217,8 +353,8 @@ fn copied(alloc: Global, bytes: &[u8]) -> Result<Vec<u8>, AllocError> {
 #[test]
 fn sessions(rt: HostRuntime) -> Result<(), Fail> {
     let alloc = rt.alloc();
-    let words = Vec::new(alloc);
-    for (name, sent, answers, status) in SESSIONS {
+    for (name, words, sent, answers, status) in SESSIONS {
+        let words = words_of(alloc, words)?;
         let mut want = Vec::new(alloc);
         for (length, body) in answers {
             assert_eq!(rt; body.len(), *length, "{name}");
@@ -274,7 +410,7 @@ fn failing_reads_and_writes(rt: HostRuntime) -> Result<(), Fail> {
     let words = Vec::new(alloc);
     let answer = all_framed(alloc, &[INITIALIZED])?;
 
-    // The second read fails, behind the whole frame.
+    // The second read fails, after the whole frame.
     let mut source = MemorySource::new(all_framed(alloc, &[INITIALIZE])?, 97, vec![in alloc; 2]?);
     let mut sink = MemorySink::new(alloc, Vec::new(alloc));
     assert_eq!(rt; run(alloc, &words, &mut source, &mut sink), 3);
@@ -286,11 +422,163 @@ fn failing_reads_and_writes(rt: HostRuntime) -> Result<(), Fail> {
     assert_eq!(rt; run(alloc, &words, &mut source, &mut sink), 4);
     assert!(rt; sink.bytes().is_empty());
 
-    // The first flush fails, behind the first write.
+    // The first flush fails, after the first write.
     let mut source = MemorySource::new(all_framed(alloc, &[INITIALIZE])?, 97, Vec::new(alloc));
     let mut sink = MemorySink::new(alloc, vec![in alloc; 2]?);
     assert_eq!(rt; run(alloc, &words, &mut source, &mut sink), 4);
     assert!(rt; sink.bytes() == answer.as_slice());
+    Ok(())
+}
+
+/// A session with limits of its own, and its name: the most calls that are polled, the most that wait,
+/// the rounds after each message, the reads that are granted, the bodies sent, the bodies of the answers, and the ids
+/// that are left unanswered.
+struct Limited {
+    name: &'static str,
+    max: usize,
+    wait: usize,
+    rounds: u64,
+    reads: u64,
+    sent: &'static [&'static str],
+    answers: &'static [&'static str],
+    unanswered: &'static [i64],
+}
+
+const LIMITED: [Limited; 6] = [
+    Limited {
+        name: "the input in pieces",
+        max: 4,
+        wait: 1024,
+        rounds: 8,
+        reads: 98,
+        sent: &[INITIALIZE],
+        answers: &[INITIALIZED],
+        unanswered: &[],
+    },
+    Limited {
+        name: "a wait that is longer than the input",
+        max: 1,
+        wait: 1024,
+        rounds: 1,
+        reads: u64::MAX,
+        sent: &[
+            INITIALIZE,
+            "{\"jsonrpc\":\"2.0\",\"method\":\"workspace/executeCommand\",\"params\":{\"command\":\"wait\",\"arguments\":[3]},\"id\":2}",
+            "{\"jsonrpc\":\"2.0\",\"method\":\"workspace/executeCommand\",\"params\":{\"command\":\"echo\",\"arguments\":[\"x\"]},\"id\":3}",
+        ],
+        answers: &[INITIALIZED],
+        unanswered: &[2, 3],
+    },
+    Limited {
+        name: "an id that is refused once and waits once",
+        max: 4,
+        wait: 1024,
+        rounds: 8,
+        reads: u64::MAX,
+        sent: &[
+            INITIALIZE,
+            "{\"jsonrpc\":\"2.0\",\"method\":\"workspace/executeCommand\",\"params\":{\"command\":\"wait\",\"arguments\":[1000]},\"id\":7}",
+            "{\"jsonrpc\":\"2.0\",\"method\":\"workspace/executeCommand\",\"params\":{},\"id\":7}",
+        ],
+        answers: &[
+            INITIALIZED,
+            "{\"jsonrpc\":\"2.0\",\"error\":{\"code\":-32600,\"message\":\"Invalid request\"},\"id\":7}",
+        ],
+        unanswered: &[7],
+    },
+    Limited {
+        name: "an id past 32 bits",
+        max: 4,
+        wait: 1024,
+        rounds: 8,
+        reads: u64::MAX,
+        sent: &[
+            INITIALIZE,
+            "{\"jsonrpc\":\"2.0\",\"method\":\"workspace/executeCommand\",\"params\":{\"command\":\"wait\",\"arguments\":[1000]},\"id\":5000000000}",
+            "{\"jsonrpc\":\"2.0\",\"method\":\"$/cancelRequest\",\"params\":{\"id\":5000000000}}",
+        ],
+        answers: &[INITIALIZED],
+        unanswered: &[5000000000],
+    },
+    Limited {
+        name: "a request past the limit of those that wait",
+        max: 1,
+        wait: 1,
+        rounds: 1,
+        reads: u64::MAX,
+        sent: &[
+            INITIALIZE,
+            "{\"jsonrpc\":\"2.0\",\"method\":\"workspace/executeCommand\",\"params\":{\"command\":\"wait\",\"arguments\":[1000]},\"id\":2}",
+            "{\"jsonrpc\":\"2.0\",\"method\":\"workspace/executeCommand\",\"params\":{\"command\":\"echo\",\"arguments\":[\"x\"]},\"id\":3}",
+            "{\"jsonrpc\":\"2.0\",\"method\":\"workspace/executeCommand\",\"params\":{\"command\":\"echo\",\"arguments\":[\"y\"]},\"id\":4}",
+        ],
+        answers: &[
+            INITIALIZED,
+            "{\"jsonrpc\":\"2.0\",\"error\":{\"code\":-32803,\"message\":\"Too many requests\"},\"id\":4}",
+        ],
+        unanswered: &[2, 3],
+    },
+    Limited {
+        name: "a notification past that limit",
+        max: 1,
+        wait: 1,
+        rounds: 1,
+        reads: u64::MAX,
+        sent: &[
+            INITIALIZE,
+            "{\"jsonrpc\":\"2.0\",\"method\":\"workspace/executeCommand\",\"params\":{\"command\":\"wait\",\"arguments\":[1000]},\"id\":2}",
+            "{\"jsonrpc\":\"2.0\",\"method\":\"workspace/executeCommand\",\"params\":{\"command\":\"echo\",\"arguments\":[\"x\"]},\"id\":3}",
+            "{\"jsonrpc\":\"2.0\",\"method\":\"initialized\",\"params\":{}}",
+        ],
+        answers: &[INITIALIZED],
+        unanswered: &[2, 3],
+    },
+];
+
+fn served_with(
+    alloc: Global,
+    row: &Limited,
+    source: &mut NeverSource,
+    sink: &mut NeverSink,
+) -> Result<Served<Sample, PlainDesk>, Stopped<PlainDesk>>
+    requires { (1 ≤ row.now.max) × (1 ≤ row.now.rounds) }
+{
+    Server::new(ClientSocket::new(PlainDesk::new(alloc)))
+        .concurrency_level(row.max)
+        .waiting_limit(row.wait)
+        .serve(
+            alloc,
+            source,
+            sink,
+            Sample,
+            &mut InOrder,
+            row.reads,
+            row.rounds,
+        )
+}
+
+#[test]
+fn limits(rt: HostRuntime) -> Result<(), Fail> {
+    let alloc = rt.alloc();
+    for row in LIMITED {
+        let name = row.name;
+        let mut source = NeverSource::new(all_framed(alloc, row.sent)?, 50);
+        let mut sink = NeverSink::new(alloc);
+        assert!(rt; row.max > 0 && row.rounds > 0);
+        match served_with(alloc, &row, &mut source, &mut sink) {
+            Ok(served) => {
+                assert_eq!(rt; served.unanswered.len(), row.unanswered.len(), "{name}");
+                for (id, want) in served.unanswered.iter().zip(row.unanswered) {
+                    assert!(rt; *id == Id::Number(*want), "{name}");
+                }
+            }
+            Err(_) => assert!(rt; false, "{name}"),
+        }
+        assert!(rt;
+            sink.bytes() == all_framed(alloc, row.answers)?.as_slice(),
+            "{name}"
+        );
+    }
     Ok(())
 }
 
@@ -301,22 +589,12 @@ fn granted_reads(rt: HostRuntime) -> Result<(), Fail> {
     // One read of 50 bytes tells nothing of a frame of 97.
     let mut source = NeverSource::new(all_framed(alloc, &[INITIALIZE])?, 50);
     let mut sink = NeverSink::new(alloc);
-    match Server::new().serve(alloc, &mut source, &mut sink, Sample, 1) {
-        Err(ServeError::ReadsSpent) => {}
-        _ => assert!(rt; false, "reads spent"),
+    let server = Server::new(ClientSocket::new(PlainDesk::new(alloc)));
+    match server.serve(alloc, &mut source, &mut sink, Sample, &mut InOrder, 1, 8) {
+        Err(stopped) => assert!(rt; stopped.error == ServeError::ReadsSpent),
+        Ok(_) => assert!(rt; false, "reads spent"),
     }
     assert!(rt; sink.bytes().is_empty());
-
-    let mut source = NeverSource::new(all_framed(alloc, &[INITIALIZE])?, 50);
-    let mut sink = NeverSink::new(alloc);
-    match Server::new().serve(alloc, &mut source, &mut sink, Sample, 98) {
-        Ok(served) => {
-            assert!(rt; served.unanswered.is_empty());
-            assert!(rt; served.exited.is_none());
-        }
-        Err(_) => assert!(rt; false, "served"),
-    }
-    assert!(rt; sink.bytes() == all_framed(alloc, &[INITIALIZED])?.as_slice());
     Ok(())
 }
 
@@ -326,31 +604,10 @@ fn texts_of_errors(rt: HostRuntime) -> Result<(), Fail> {
         (ServeError::ReadFault, "read failed"),
         (ServeError::WriteFault, "write failed"),
         (ServeError::ReadsSpent, "reads spent"),
+        (ServeError::DeskSpent(u64::MAX), "desk spent"),
         (ServeError::NoMemory, "out of memory"),
     ] {
         assert!(rt; error.to_string(rt.alloc())?.as_str() == want);
     }
-    Ok(())
-}
-
-#[test]
-fn admitting_one_item_at_a_time(rt: HostRuntime) -> Result<(), Fail> {
-    let alloc = rt.alloc();
-    let mut session = Session::new(alloc, Sample);
-    assert!(rt; session.admit(Item::Tick).is_ok());
-    assert!(rt; session.admit(Item::Fault(ErrorCode::ParseError)).is_ok());
-    let out = session.take_out();
-    assert_eq!(rt; out.len(), 1);
-    for message in &out {
-        match message {
-            Message::Response(answer) => assert!(rt; answer.is_error()),
-            Message::Request(_) => assert!(rt; false, "an answer"),
-        }
-    }
-    assert!(rt; session.take_out().is_empty());
-    assert!(rt; session.life() == Life::Uninitialized);
-    assert!(rt; session.exited().is_none());
-    assert!(rt; !session.is_stopped());
-    assert!(rt; session.into_parts() == Sample);
     Ok(())
 }
