@@ -120,8 +120,8 @@ adds_ticket : (n : ℕ) (d : DeskState) (i : IdData) (t : ℕ) (d2 : DeskState) 
     → times n (open_tickets d) + times n (t ∷ []) ≡ 0 + times n (open_tickets d2)
 adds_ticket n d i t d2 e f =
     let more : times n (awaited_tickets d2) ≡ times n (awaited_tickets d) + times n (t ∷ []) =
-            ap (λ l. times n (map (λ a. a.ticket) l)) e ∙ ap (times n) (map-append (λ a. a.ticket) d.awaited (record { ticket = t; id = i } ∷ []))
-            ∙ times-append n (awaited_tickets d) (t ∷ []) in
+    ap (λ l. times n (map (λ a. a.ticket) l)) e ∙ ap (times n) (map-append (λ a. a.ticket) d.awaited (record { ticket = t; id = i } ∷ []))
+    ∙ times-append n (awaited_tickets d) (t ∷ []) in
     let rest : times n (kept_tickets d2) ≡ times n (kept_tickets d) = ap (λ l. times n (map (λ k. k.ticket) l)) f in
     omega (arith, open_is n d, open_is n d2, more, rest)
 
@@ -140,8 +140,8 @@ polled_adds n d ticket (Some k) is =
     let first = found_first (is_kept_for ticket) d.kept k is in
     let its : k.ticket ≡ ticket = eqb-true k.ticket ticket first.passes in
     let less : times n (kept_tickets d) ≡ times n (k.ticket ∷ []) + times n (kept_tickets d2) =
-            ap (λ l. times n (map (λ x. x.ticket) l)) first.whole
-            ∙ times-among (λ x. x.ticket) n (before_first (is_kept_for ticket) d.kept) (after_first (is_kept_for ticket) d.kept) k in
+    ap (λ l. times n (map (λ x. x.ticket) l)) first.whole
+    ∙ times-among (λ x. x.ticket) n (before_first (is_kept_for ticket) d.kept) (after_first (is_kept_for ticket) d.kept) k in
     let one : times n (k.ticket ∷ []) ≡ times n (ticket ∷ []) = ap (λ (t : ℕ). times n (t ∷ [])) its in
     omega (arith, open_is n d, open_is n d2, less, one)
 
@@ -151,11 +151,11 @@ answered_adds n d r (Some a) is =
     let d2 = (answered d r (Some a)).1 in
     let first = found_first (has_id r.id) d.awaited a (awaiting_found (same_id r.id null_id) _ a is) in
     let less : times n (awaited_tickets d) ≡ times n (a.ticket ∷ []) + times n (awaited_tickets d2) =
-            ap (λ l. times n (map (λ x. x.ticket) l)) first.whole
-            ∙ times-among (λ x. x.ticket) n (before_first (has_id r.id) d.awaited) (after_first (has_id r.id) d.awaited) a in
+    ap (λ l. times n (map (λ x. x.ticket) l)) first.whole
+    ∙ times-among (λ x. x.ticket) n (before_first (has_id r.id) d.awaited) (after_first (has_id r.id) d.awaited) a in
     let more : times n (kept_tickets d2) ≡ times n (kept_tickets d) + times n (a.ticket ∷ []) =
-            ap (times n) (map-append (λ k. k.ticket) d.kept (record { ticket = a.ticket; response = r } ∷ []))
-            ∙ times-append n (kept_tickets d) (a.ticket ∷ []) in
+    ap (times n) (map-append (λ k. k.ticket) d.kept (record { ticket = a.ticket; response = r } ∷ []))
+    ∙ times-append n (kept_tickets d) (a.ticket ∷ []) in
     omega (arith, open_is n d, open_is n d2, less, more)
 
 first_adds : (n : ℕ) (d : DeskState) (rs : List RequestData) → AddsUp n d calls.Next (first_of d rs)

@@ -84,10 +84,23 @@ fn rise_or_fall(alloc: Global, desk: &mut PlainDesk, rise: Option<Life>) -> Resu
 fn answers_in_order(rt: HostRuntime) -> Result<(), Fail> {
     let alloc = rt.alloc();
     let mut desk = PlainDesk::new(alloc);
-    assert_eq!(rt; ask(alloc, &mut desk, raw(alloc)?)?.as_str(), "Ok(Ticket(0, Number(1)))");
-    assert_eq!(rt; ask(alloc, &mut desk, raw(alloc)?)?.as_str(), "Ok(Ticket(1, Number(1)))");
-    for (text, reply) in [("bar", "Ok(Given)"), ("foo", "Ok(Given)"), ("x", "Ok(Ignored)")] {
-        assert_eq!(rt; serve(alloc, &mut desk, answer(alloc, text)?)?.as_str(), reply);
+    assert_eq!(rt;
+        ask(alloc, &mut desk, raw(alloc)?)?.as_str(),
+        "Ok(Ticket(0, Number(1)))"
+    );
+    assert_eq!(rt;
+        ask(alloc, &mut desk, raw(alloc)?)?.as_str(),
+        "Ok(Ticket(1, Number(1)))"
+    );
+    for (text, reply) in [
+        ("bar", "Ok(Given)"),
+        ("foo", "Ok(Given)"),
+        ("x", "Ok(Ignored)"),
+    ] {
+        assert_eq!(rt;
+            serve(alloc, &mut desk, answer(alloc, text)?)?.as_str(),
+            reply
+        );
     }
     let polls = [
         (0, "{\"jsonrpc\":\"2.0\",\"result\":\"bar\",\"id\":1}"),
@@ -95,7 +108,10 @@ fn answers_in_order(rt: HostRuntime) -> Result<(), Fail> {
         (1, "Ok(Gone)"),
     ];
     for (ticket, reply) in polls {
-        assert_eq!(rt; ask(alloc, &mut desk, ClientCall::Poll(ticket))?.as_str(), reply);
+        assert_eq!(rt;
+            ask(alloc, &mut desk, ClientCall::Poll(ticket))?.as_str(),
+            reply
+        );
     }
     Ok(())
 }
@@ -104,13 +120,30 @@ fn answers_in_order(rt: HostRuntime) -> Result<(), Fail> {
 fn gate_and_lives(rt: HostRuntime) -> Result<(), Fail> {
     let alloc = rt.alloc();
     let mut desk = ClientSocket::new(PlainDesk::new(alloc)).into_desk();
-    assert_eq!(rt; ask(alloc, &mut desk, asks(alloc, true)?)?.as_str(), "Ok(NotInitialized)");
-    assert_eq!(rt; ask(alloc, &mut desk, tells(alloc, true)?)?.as_str(), "Ok(Suppressed)");
-    assert_eq!(rt; ask(alloc, &mut desk, tells(alloc, false)?)?.as_str(), "Ok(Sent)");
+    assert_eq!(rt;
+        ask(alloc, &mut desk, asks(alloc, true)?)?.as_str(),
+        "Ok(NotInitialized)"
+    );
+    assert_eq!(rt;
+        ask(alloc, &mut desk, tells(alloc, true)?)?.as_str(),
+        "Ok(Suppressed)"
+    );
+    assert_eq!(rt;
+        ask(alloc, &mut desk, tells(alloc, false)?)?.as_str(),
+        "Ok(Sent)"
+    );
     let lives = [
-        (Some(Life::Initializing), "Ok(Life(Initializing))", "Ok(NotInitialized)"),
+        (
+            Some(Life::Initializing),
+            "Ok(Life(Initializing))",
+            "Ok(NotInitialized)",
+        ),
         (None, "Ok(Life(Uninitialized))", "Ok(NotInitialized)"),
-        (Some(Life::Initialized), "Ok(Life(Initialized))", "Ok(Ticket(0, Number(0)))"),
+        (
+            Some(Life::Initialized),
+            "Ok(Life(Initialized))",
+            "Ok(Ticket(0, Number(0)))",
+        ),
         (None, "Ok(Life(Initialized))", "Ok(Ticket(1, Number(1)))"),
     ];
     for (rise, life, reply) in lives {
@@ -125,20 +158,50 @@ fn gate_and_lives(rt: HostRuntime) -> Result<(), Fail> {
 fn messages_and_end(rt: HostRuntime) -> Result<(), Fail> {
     let alloc = rt.alloc();
     let mut desk = PlainDesk::new(alloc);
-    assert_eq!(rt; ask(alloc, &mut desk, tells(alloc, false)?)?.as_str(), "Ok(Sent)");
-    assert_eq!(rt; ask(alloc, &mut desk, ClientCall::NextId)?.as_str(), "Ok(Number(0))");
-    assert_eq!(rt; ask(alloc, &mut desk, asks(alloc, false)?)?.as_str(), "Ok(Ticket(0, Number(1)))");
-    assert_eq!(rt; ask(alloc, &mut desk, ClientCall::Poll(0))?.as_str(), "Ok(Awaited)");
-    assert_eq!(rt; ask(alloc, &mut desk, ClientCall::Poll(7))?.as_str(), "Ok(Gone)");
+    assert_eq!(rt;
+        ask(alloc, &mut desk, tells(alloc, false)?)?.as_str(),
+        "Ok(Sent)"
+    );
+    assert_eq!(rt;
+        ask(alloc, &mut desk, ClientCall::NextId)?.as_str(),
+        "Ok(Number(0))"
+    );
+    assert_eq!(rt;
+        ask(alloc, &mut desk, asks(alloc, false)?)?.as_str(),
+        "Ok(Ticket(0, Number(1)))"
+    );
+    assert_eq!(rt;
+        ask(alloc, &mut desk, ClientCall::Poll(0))?.as_str(),
+        "Ok(Awaited)"
+    );
+    assert_eq!(rt;
+        ask(alloc, &mut desk, ClientCall::Poll(7))?.as_str(),
+        "Ok(Gone)"
+    );
     assert_eq!(rt; serve(alloc, &mut desk, ServerCall::Next)?.as_str(), TOLD);
-    assert_eq!(rt; ask(alloc, &mut desk, tells(alloc, false)?)?.as_str(), "Ok(Sent)");
+    assert_eq!(rt;
+        ask(alloc, &mut desk, tells(alloc, false)?)?.as_str(),
+        "Ok(Sent)"
+    );
     assert_eq!(rt; serve(alloc, &mut desk, ServerCall::Next)?.as_str(), ASKED);
     assert_eq!(rt; serve(alloc, &mut desk, ServerCall::Take)?.as_str(), "1");
-    assert_eq!(rt; serve(alloc, &mut desk, ServerCall::Next)?.as_str(), "Ok(First(None))");
-    assert_eq!(rt; ask(alloc, &mut desk, tells(alloc, false)?)?.as_str(), "Ok(Sent)");
+    assert_eq!(rt;
+        serve(alloc, &mut desk, ServerCall::Next)?.as_str(),
+        "Ok(First(None))"
+    );
+    assert_eq!(rt;
+        ask(alloc, &mut desk, tells(alloc, false)?)?.as_str(),
+        "Ok(Sent)"
+    );
     assert_eq!(rt; serve(alloc, &mut desk, ServerCall::Close)?.as_str(), "1");
-    assert_eq!(rt; ask(alloc, &mut desk, asks(alloc, false)?)?.as_str(), "Ok(Exited)");
-    assert_eq!(rt; ask(alloc, &mut desk, asks(alloc, true)?)?.as_str(), "Ok(NotInitialized)");
+    assert_eq!(rt;
+        ask(alloc, &mut desk, asks(alloc, false)?)?.as_str(),
+        "Ok(Exited)"
+    );
+    assert_eq!(rt;
+        ask(alloc, &mut desk, asks(alloc, true)?)?.as_str(),
+        "Ok(NotInitialized)"
+    );
     assert_eq!(rt; ask(alloc, &mut desk, raw(alloc)?)?.as_str(), "Ok(Exited)");
     let ended = format!(in alloc; "{}", ExitedError)?;
     assert_eq!(rt; ended.as_str(), "language server has exited");
