@@ -1,0 +1,23 @@
+-- A call through a seat is one of the desk's.
+use Rattle.std.proofs.Common.{refl}
+use Rattle.lsp_desk.specs.Shown.{show_server_reply}
+use Rattle.lsp_shared.specs.declared.view.Asked.TheVariants.{Server}
+use Rattle.lsp_shared.specs.Steps.{by_server}
+use Rattle.lsp_shared.proofs.Turning.{server_same}
+use Rattle.lsp_shared.proofs.Chairing.{chair_calls, turn_tickets}
+use Rattle.lsp_shared.proofs.chair.Chair.server_call.Goals as goal
+
+pub returns-clause-calls : goal.returns-clause-calls
+returns-clause-calls g c = chair_calls show_server_reply by_server server_same _ _ (Server c.args.call) _ c.server_turn-result.ensures.answered c.server_turn-result.ensures.seat (λ s. s)
+
+pub returns-2-clause-calls : goal.returns-2-clause-calls
+returns-2-clause-calls g c = chair_calls show_server_reply by_server server_same _ _ (Server c.args.call) _ c.server_turn-result.ensures.answered c.server_turn-result.ensures.seat (λ s. s)
+
+pub returns-clause-tickets : goal.returns-clause-tickets
+returns-clause-tickets g c = turn_tickets by_server (Server c.args.call) _ _ _ c.server_turn-result.ensures.answered
+
+pub returns-2-clause-tickets : goal.returns-2-clause-tickets
+returns-2-clause-tickets g c = turn_tickets by_server (Server c.args.call) _ _ _ c.server_turn-result.ensures.answered
+
+pub returns-in-Err-Spent-clause-calls : goal.returns-in-Err-Spent-clause-calls
+returns-in-Err-Spent-clause-calls g c = chair_calls show_server_reply by_server server_same _ _ (Server c.args.call) _ c.server_turn-result.ensures.answered c.server_turn-result.ensures.seat (λ _. refl)

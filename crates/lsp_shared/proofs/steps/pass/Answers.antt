@@ -1,0 +1,6 @@
+use Rattle.std.proofs.Common.{arith}
+use Rattle.lsp_shared.proofs.Moves.{passes}
+use Rattle.lsp_shared.proofs.steps.pass.Goals as goal
+
+pub fetch_add-requires : goal.fetch_add-requires
+fetch_add-requires g c = (c.requires.seat.0, (let w = c.requires.seat.1 in omega arith), passes _ _ _ _ _ c.requires.ready c.requires.share)

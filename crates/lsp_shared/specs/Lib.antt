@@ -1,0 +1,7 @@
+pub mod Rule
+pub mod Steps
+pub mod Props
+pub mod Phases
+pub mod Chairs
+pub mod Seats
+pub mod Desks

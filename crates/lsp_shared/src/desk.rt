@@ -1,0 +1,46 @@
+//! The desk that threads share.
+ghost use Rattle.std.specs.Prelude.{◌≡◌, ◌^◌, true, length, IfOk};
+ghost use Rattle.lsp_shared.specs.Phases.{is_idle};
+
+use crate::rule::Turns;
+use crate::steps::TurnSeat;
+use crate::view::View;
+use atomic_table::Table;
+use lsp_desk::PlainDesk;
+use no_memory::NoMemory;
+use std::alloc::Global;
+
+/// A desk that threads share, each through a seat of its own. Calls take turns in the order in which these are drawn.
+#[derive(Drop)]
+pub struct SharedDesk {
+    pub(crate) table: Table<PlainDesk, View, (), Turns, Global>,
+    pub ghost words: { table.shared.table_id.words ≡ 2 },
+}
+
+/// The first seat of a desk, through which no call was made.
+#[derive(Drop)]
+pub struct OwnerSeat {
+    pub(crate) seat: TurnSeat,
+    pub ghost idle: { is_idle seat.me.0.phase ≡ true },
+    pub ghost empty: { length seat.me.1 ≡ 0 },
+    pub ghost unseen: { length seat.me.0.seen ≡ 0 },
+    pub ghost unmade: { length seat.me.0.made ≡ 0 },
+    pub ghost whole: { seat.me.0.share ≡ 2 ^ 63 },
+    pub ghost owns: { seat.me.0.owner ≡ true },
+}
+
+impl SharedDesk {
+    ghost use Rattle.lsp_shared.specs.Desks.{desk_id, first_desk};
+
+    /// A desk on which nothing was done, with its owner's seat. `NoMemory`: there is none.
+    pub fn new(alloc: Global) -> Result<(SharedDesk, OwnerSeat), NoMemory>
+        ensures { IfOk result (λ r. first_desk r.1 ≡ desk_id r.0) }
+    {
+        let mut slots = Vec::new(alloc);
+        slots.push(PlainDesk::new(alloc))?;
+        match Table::new(alloc, &[0, 0], slots, &()) {
+            Ok((table, seat)) => Ok((SharedDesk { table }, OwnerSeat { seat })),
+            Err(_) => Err(NoMemory),
+        }
+    }
+}
