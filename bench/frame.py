@@ -2,15 +2,16 @@
 """Measures the codec of lsp_frame on large heads and bodies, on garbage and on empty frames.
 
 The words of the server's program set no limits, so this makes a small program over the codec in a
-temporary folder, beside copies of the crates that it stands on, and builds it with `rt try`, which
-proves nothing. It takes the limits of a head and a body in bytes, feeds the codec what comes on
-standard input in pieces of 4,096 bytes, decodes after each, and prints how many items were told,
-how many bytes were held at most after `More`, and the seconds that feeding and decoding took.
+temporary folder, beside copies of the crates that it stands on, and builds it with `rt run`, which
+proves them. It takes the limits of a head and a body in bytes, feeds the codec what comes on
+standard input in pieces of 4,096 bytes, decodes after each, and prints how many items were told and
+how many bytes were held at most after `More`.
 
-Each input is run five times, and the least time counts. Printed are the nanoseconds and the peak
-memory of each, and the cost of a byte against that at the smallest size of its kind.
+Each input is run five times, and the least time of the processor counts. Printed are the cost of a
+byte, that cost against the one at the smallest size of its kind, and the peak memory.
 
-Usage: bench/frame.py     (`rt` has to be on the path)
+Usage: bench/frame.py [PROGRAM]     (`rt` has to be on the path, and GNU `time` in /usr/bin; PROGRAM: one
+that was built before)
 """
 import os
 import shutil
@@ -25,36 +26,50 @@ MIB = 1 << 20
 
 PROGRAM = """//! Feeds a codec what standard input gives, and prints what it told and held.
 #![tactic(auto)]
+ghost use Rattle.std.specs.Prelude.{◌≤◌};
 
 use lsp_frame::{Decoded, LanguageServerCodec, Limits};
 use std::io::Read;
 use std::process::ExitCode;
 use std::{env, io};
 
-fn run(rt: &HostRuntime) -> io::Result<()> {
-    let mut numbers = Vec::new(rt.alloc());
-    for word in env::args(rt)?.skip(1) {
-        numbers.push(word.parse::<u64>().unwrap_or(1))?;
+// The number that an argument writes, or 1.
+fn number(arguments: &Vec<String>, i: usize) -> u64
+    ensures { 1 ≤ result }
+{
+    match arguments.get(i) {
+        Some(argument) => match argument.parse::<u64>() {
+            Ok(number) => number.max(1),
+            Err(_) => 1,
+        },
+        None => 1,
     }
-    let limits = Limits { head: numbers[0], body: numbers[1] };
+}
+
+fn run(rt: &HostRuntime) -> io::Result<()> {
+    let mut arguments = Vec::new(rt.alloc());
+    for argument in env::args(rt)?.skip(1) {
+        arguments.push(argument)?;
+    }
+    let limits = Limits {
+        head: number(&arguments, 0),
+        body: number(&arguments, 1),
+    };
     let mut codec = LanguageServerCodec::with_limits(rt.alloc(), limits);
     let mut piece = vec![in rt.alloc(); 0u8; 4096]?;
     let mut input = rt.stdin();
     let mut items = 0u64;
     let mut held = 0u64;
-    loop {
+    for _ in 0..u64::MAX {
         let n = input.read(piece.as_mut_slice())?;
-        if n == 0 {
+        if n == 0 || codec.feed(&piece[..n]).is_err() {
             break;
         }
-        if codec.feed(&piece[..n]).is_err() {
-            break;
-        }
-        while let Ok(decoded) = codec.decode() {
-            if let Decoded::More = decoded {
-                break;
+        for _ in 0..u64::MAX {
+            match codec.decode() {
+                Ok(Decoded::More) | Err(_) => break,
+                Ok(_) => items = items.saturating_add(1),
             }
-            items += 1;
         }
         held = held.max(codec.held());
     }
@@ -88,12 +103,9 @@ def build(folder):
     os.makedirs(os.path.join(crate, "src"))
     with open(os.path.join(crate, "src", "main.rt"), "w") as out:
         out.write(PROGRAM)
-    subprocess.run(["rt", "try", "--", "1", "1"], cwd=crate, check=True, stdin=subprocess.DEVNULL,
+    subprocess.run(["rt", "run", "--", "1", "1"], cwd=crate, check=True, stdin=subprocess.DEVNULL,
                    stdout=subprocess.DEVNULL)
-    for base, _, names in os.walk(crate):
-        if "frame_bench" in names and os.access(os.path.join(base, "frame_bench"), os.X_OK):
-            return os.path.join(base, "frame_bench")
-    sys.exit("no program was built")
+    return os.path.join(crate, "out", "frame_bench")
 
 
 def frame(body):
@@ -124,34 +136,41 @@ def inputs():
         yield "the same in heads at the limit", 8192, 64 * MIB, block * (size // len(block))
 
 
-def run(program, head, body, path):
-    """The processor's seconds, the peak kilobytes, and what the program printed."""
+def run(words, path):
+    """The processor's seconds, and what the program printed."""
     with open(path, "rb") as given:
-        child = subprocess.Popen([program, str(head), str(body)], stdin=given,
-                                 stdout=subprocess.PIPE)
+        child = subprocess.Popen(words, stdin=given, stdout=subprocess.PIPE)
     printed = child.stdout.read().decode().split()
     _, status, usage = os.wait4(child.pid, 0)
     if os.waitstatus_to_exitcode(status) != 0:
         sys.exit("the program ended with status %d" % os.waitstatus_to_exitcode(status))
-    return usage.ru_utime + usage.ru_stime, usage.ru_maxrss, printed
+    return usage.ru_utime + usage.ru_stime, printed
+
+
+def peak(words, path):
+    """The most kilobytes that the program holds. (What wait4 tells counts this program's too.)"""
+    with open(path, "rb") as given:
+        done = subprocess.run(["/usr/bin/time", "-f", "%M"] + words, stdin=given, text=True,
+                              stdout=subprocess.DEVNULL, stderr=subprocess.PIPE)
+    return int(done.stderr)
 
 
 def main():
     with tempfile.TemporaryDirectory() as folder:
-        program = build(folder)
+        program = sys.argv[1] if len(sys.argv) > 1 else build(folder)
         path = os.path.join(folder, "input")
         smallest = {}
         print("bytes       ns a byte   against   peak KiB   most held     items   input")
         for kind, head, body, given in inputs():
             with open(path, "wb") as out:
                 out.write(given)
-            tries = [run(program, head, body, path) for _ in range(TRIES)]
-            cost = min(seconds for seconds, _, _ in tries) * 1e9 / len(given)
-            peak = max(kilobytes for _, kilobytes, _ in tries)
-            items, held = tries[0][2]
+            words = [program, str(head), str(body)]
+            tries = [run(words, path) for _ in range(TRIES)]
+            cost = min(seconds for seconds, _ in tries) * 1e9 / len(given)
+            items, held = tries[0][1]
             against = cost / smallest.setdefault(kind, cost)
             print("%-11d %9.2f   %7.2f   %8d   %9s   %7s   %s"
-                  % (len(given), cost, against, peak, held, items, kind), flush=True)
+                  % (len(given), cost, against, peak(words, path), held, items, kind), flush=True)
 
 
 if __name__ == "__main__":
