@@ -10,11 +10,7 @@ mod base;
 #[cfg(test)]
 mod base_texts;
 #[cfg(test)]
-mod caps_text;
-#[cfg(test)]
 mod caps_work;
-#[cfg(test)]
-mod methods;
 #[cfg(test)]
 mod names;
 #[cfg(test)]
@@ -23,7 +19,5 @@ mod names_texts;
 mod offer_lang;
 #[cfg(test)]
 mod offer_text;
-#[cfg(test)]
-mod offer_work;
 #[cfg(test)]
 mod rows;

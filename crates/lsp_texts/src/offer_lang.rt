@@ -103,6 +103,8 @@ const SEMANTIC_TOKENS_OPTIONS: &str = r#"
 const SEMANTIC_TOKENS_REGISTRATION_OPTIONS: &str = r#"
 {"documentSelector":[{"language":"language"}],"id":"id","legend":{"tokenModifiers":["tokenModifiers"],"tokenTypes":["tokenTypes"]},"workDoneProgress":true} :: SemanticTokensRegistrationOptions { text_document_registration_options: TextDocumentRegistrationOptions { document_selector: Some([DocumentFilter { language: Some("language"), scheme: None, pattern: None }]) }, semantic_tokens_options: SemanticTokensOptions { work_done_progress_options: WorkDoneProgressOptions { work_done_progress: Some(true) }, legend: SemanticTokensLegend { token_types: [SemanticTokenType("tokenTypes")], token_modifiers: [SemanticTokenModifier("tokenModifiers")] }, range: None, full: None }, static_registration_options: StaticRegistrationOptions { id: Some("id") } }
 ! []
+{"documentSelector":[{"language":"rust"}],"full":{"delta":true},"legend":{"tokenModifiers":["static"],"tokenTypes":["property","type","class"]},"range":true}
+! {"documentSelector":[],"full":{"delta":true},"legend":{"tokenModifiers":[],"tokenTypes":[]},"range":{}}
 "#;
 
 const SEMANTIC_TOKENS_LEGEND: &str = r#"
@@ -182,6 +184,7 @@ const DIAGNOSTIC_OPTIONS: &str = r#"
 const DIAGNOSTIC_REGISTRATION_OPTIONS: &str = r#"
 {"documentSelector":[{"language":"language"}],"id":"id","identifier":"identifier","interFileDependencies":true,"workDoneProgress":true,"workspaceDiagnostics":true} :: DiagnosticRegistrationOptions { text_document_registration_options: TextDocumentRegistrationOptions { document_selector: Some([DocumentFilter { language: Some("language"), scheme: None, pattern: None }]) }, diagnostic_options: DiagnosticOptions { identifier: Some("identifier"), inter_file_dependencies: true, workspace_diagnostics: true, work_done_progress_options: WorkDoneProgressOptions { work_done_progress: Some(true) } }, static_registration_options: StaticRegistrationOptions { id: Some("id") } }
 ! []
+{"documentSelector":[{"language":"css"}],"identifier":"css","interFileDependencies":false,"workspaceDiagnostics":false}
 "#;
 
 #[test]

@@ -59,6 +59,9 @@ const SAVE_OPTIONS: &str = r#"
 const TEXT_DOCUMENT_CHANGE_REGISTRATION_OPTIONS: &str = r#"
 {"documentSelector":[{"language":"language"}],"syncKind":122} :: TextDocumentChangeRegistrationOptions { document_selector: Some([DocumentFilter { language: Some("language"), scheme: None, pattern: None }]), sync_kind: TextDocumentSyncKind(122) }
 ! {"documentSelector":[{"language":"language"}]}
+{"documentSelector":[{"language":"javascript"}],"syncKind":2}
+# No documents of its own: those that the client selects
+{"documentSelector":null,"syncKind":1}
 "#;
 
 const TEXT_DOCUMENT_SAVE_REGISTRATION_OPTIONS: &str = r#"
@@ -87,6 +90,7 @@ const COMPLETION_OPTIONS_COMPLETION_ITEM: &str = r#"
 const COMPLETION_REGISTRATION_OPTIONS: &str = r#"
 {"documentSelector":[{"language":"language"}],"resolveProvider":true,"workDoneProgress":true} :: CompletionRegistrationOptions { text_document_registration_options: TextDocumentRegistrationOptions { document_selector: Some([DocumentFilter { language: Some("language"), scheme: None, pattern: None }]) }, completion_options: CompletionOptions { resolve_provider: Some(true), trigger_characters: None, all_commit_characters: None, work_done_progress_options: WorkDoneProgressOptions { work_done_progress: Some(true) }, completion_item: None } }
 ! []
+{"documentSelector":[{"language":"json","scheme":"file"}],"resolveProvider":true,"triggerCharacters":["\"",":"]}
 "#;
 
 const HOVER_PROVIDER_CAPABILITY: &str = r#"
@@ -278,6 +282,7 @@ const DOCUMENT_ON_TYPE_FORMATTING_OPTIONS: &str = r#"
 const DOCUMENT_ON_TYPE_FORMATTING_REGISTRATION_OPTIONS: &str = r#"
 {"documentSelector":[{"language":"language"}],"firstTriggerCharacter":"firstTriggerCharacter","moreTriggerCharacter":["moreTriggerCharacter"]} :: DocumentOnTypeFormattingRegistrationOptions { document_selector: Some([DocumentFilter { language: Some("language"), scheme: None, pattern: None }]), first_trigger_character: "firstTriggerCharacter", more_trigger_character: Some(["moreTriggerCharacter"]) }
 ! {"documentSelector":[{"language":"language"}]}
+{"documentSelector":[{"pattern":"**/*.rs"}],"firstTriggerCharacter":"=","moreTriggerCharacter":[".",">","{"]}
 "#;
 
 const RENAME_OPTIONS: &str = r#"
