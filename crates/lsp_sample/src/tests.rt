@@ -354,12 +354,12 @@ fn copied(alloc: Global, bytes: &[u8]) -> Result<Vec<u8>, AllocError> {
 fn sessions(rt: HostRuntime) -> Result<(), Fail> {
     let alloc = rt.alloc();
     for (name, words, sent, answers, status) in SESSIONS {
-        let words = words_of(alloc, words)?;
         let mut want = Vec::new(alloc);
         for (length, body) in answers {
             assert_eq!(rt; body.len(), *length, "{name}");
             framed(alloc, body, &mut want)?;
         }
+        let words = words_of(alloc, words)?;
         let mut source = NeverSource::new(all_framed(alloc, sent)?, 4096);
         let mut sink = NeverSink::new(alloc);
         assert_eq!(rt;
@@ -433,6 +433,7 @@ fn failing_reads_and_writes(rt: HostRuntime) -> Result<(), Fail> {
 /// A session with limits of its own, and its name: the most calls that are polled, the most that wait,
 /// the rounds after each message, the reads that are granted, the bodies sent, the bodies of the answers, and the ids
 /// that are left unanswered.
+#[derive(Clone, Copy)]
 struct Limited {
     name: &'static str,
     max: usize,

@@ -1,0 +1,11 @@
+pub mod Calls
+pub mod CodeLens
+pub mod Color
+pub mod Generic
+pub mod Goto
+pub mod Hover
+pub mod Link
+pub mod References
+pub mod Symbols
+pub mod Tree
+pub mod Types

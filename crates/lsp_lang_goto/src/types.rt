@@ -1,0 +1,173 @@
+// Hierarchies of types.
+ghost use Rattle.lsp_lang_goto.specs.Types.{type_hierarchy_prepare_params_row, type_hierarchy_supertypes_params_row, type_hierarchy_subtypes_params_row, type_hierarchy_item_row};
+
+use lsp_base::{
+    LSPAny, PartialResultParams, Range, TextDocumentPositionParams, WorkDoneProgressParams,
+};
+use lsp_kinds::{SymbolKind, SymbolTag};
+use lsp_shape::{Misfit, NoMemory, Reader, Wire, Writer};
+use lsp_uri::Uri;
+use serde_json::Value;
+use std::alloc::Global;
+
+/// Parameters of `textDocument/prepareTypeHierarchy`: the type whose supertypes or subtypes the user wants to explore,
+/// since 3.17 (LSP 3.17, "Prepare Type Hierarchy Request").
+#[derive(Debug, PartialEq, Eq, Clone, Drop)]
+pub struct TypeHierarchyPrepareParams {
+    /// The document and a position on the type, usually that of the cursor.
+    pub text_document_position_params: TextDocumentPositionParams,
+    /// The token for progress reports on this request, if the client sent one.
+    pub work_done_progress_params: WorkDoneProgressParams,
+}
+
+#[tactic(auto, unfolding(crate::specs::Types::type_hierarchy_prepare_params_row, lsp_base::specs::Document::text_document_position_params_row, lsp_base::specs::Progress::work_done_progress_params_row))]
+impl Wire for TypeHierarchyPrepareParams {
+    ghost shape = { type_hierarchy_prepare_params_row.shape };
+
+    ghost shown = { type_hierarchy_prepare_params_row.shown };
+
+    fn from_value(alloc: Global, value: &Value) -> Result<TypeHierarchyPrepareParams, Misfit> {
+        Ok(TypeHierarchyPrepareParams {
+            text_document_position_params: TextDocumentPositionParams::from_value(alloc, value)?,
+            work_done_progress_params: WorkDoneProgressParams::from_value(alloc, value)?,
+        })
+    }
+
+    fn to_value(&self, alloc: Global) -> Result<Value, NoMemory> {
+        let mut object = Writer::new(alloc);
+        object.flat(&self.text_document_position_params)?;
+        object.flat(&self.work_done_progress_params)?;
+        Ok(object.end())
+    }
+}
+
+/// Parameters of `typeHierarchy/supertypes`: the type whose supertypes are wanted, since 3.17 (LSP 3.17, "Type
+/// Hierarchy Supertypes").
+#[derive(Debug, Clone, Drop)]
+pub struct TypeHierarchySupertypesParams {
+    /// The type, as an item that the server returned earlier.
+    pub item: TypeHierarchyItem,
+    /// The token for progress reports on this request, if the client sent one.
+    pub work_done_progress_params: WorkDoneProgressParams,
+    /// The token for sending the supertypes in `$/progress` notifications, with an empty response after them, if the
+    /// client sent one.
+    pub partial_result_params: PartialResultParams,
+}
+
+#[tactic(auto, unfolding(crate::specs::Types::type_hierarchy_supertypes_params_row, lsp_base::specs::Progress::work_done_progress_params_row, lsp_base::specs::Progress::partial_result_params_row))]
+impl Wire for TypeHierarchySupertypesParams {
+    ghost shape = { type_hierarchy_supertypes_params_row.shape };
+
+    ghost shown = { type_hierarchy_supertypes_params_row.shown };
+
+    fn from_value(alloc: Global, value: &Value) -> Result<TypeHierarchySupertypesParams, Misfit> {
+        let object = Reader::new(alloc, value)?;
+        Ok(TypeHierarchySupertypesParams {
+            item: object.field("item")?,
+            work_done_progress_params: WorkDoneProgressParams::from_value(alloc, value)?,
+            partial_result_params: PartialResultParams::from_value(alloc, value)?,
+        })
+    }
+
+    fn to_value(&self, alloc: Global) -> Result<Value, NoMemory> {
+        let mut object = Writer::new(alloc);
+        object.field("item", &self.item)?;
+        object.flat(&self.work_done_progress_params)?;
+        object.flat(&self.partial_result_params)?;
+        Ok(object.end())
+    }
+}
+
+/// Parameters of `typeHierarchy/subtypes`: the type whose subtypes are wanted, since 3.17 (LSP 3.17, "Type Hierarchy
+/// Subtypes").
+#[derive(Debug, Clone, Drop)]
+pub struct TypeHierarchySubtypesParams {
+    /// The type, as an item that the server returned earlier.
+    pub item: TypeHierarchyItem,
+    /// The token for progress reports on this request, if the client sent one.
+    pub work_done_progress_params: WorkDoneProgressParams,
+    /// The token for sending the subtypes in `$/progress` notifications, with an empty response after them, if the
+    /// client sent one.
+    pub partial_result_params: PartialResultParams,
+}
+
+#[tactic(auto, unfolding(crate::specs::Types::type_hierarchy_subtypes_params_row, lsp_base::specs::Progress::work_done_progress_params_row, lsp_base::specs::Progress::partial_result_params_row))]
+impl Wire for TypeHierarchySubtypesParams {
+    ghost shape = { type_hierarchy_subtypes_params_row.shape };
+
+    ghost shown = { type_hierarchy_subtypes_params_row.shown };
+
+    fn from_value(alloc: Global, value: &Value) -> Result<TypeHierarchySubtypesParams, Misfit> {
+        let object = Reader::new(alloc, value)?;
+        Ok(TypeHierarchySubtypesParams {
+            item: object.field("item")?,
+            work_done_progress_params: WorkDoneProgressParams::from_value(alloc, value)?,
+            partial_result_params: PartialResultParams::from_value(alloc, value)?,
+        })
+    }
+
+    fn to_value(&self, alloc: Global) -> Result<Value, NoMemory> {
+        let mut object = Writer::new(alloc);
+        object.field("item", &self.item)?;
+        object.flat(&self.work_done_progress_params)?;
+        object.flat(&self.partial_result_params)?;
+        Ok(object.end())
+    }
+}
+
+/// A type in a hierarchy of types. The server returns it for `textDocument/prepareTypeHierarchy`, and the client sends
+/// it back to ask for its supertypes or subtypes; since 3.17 (LSP 3.17, "Prepare Type Hierarchy Request").
+#[derive(Debug, Clone, Drop)]
+pub struct TypeHierarchyItem {
+    /// What the client shows for the type, usually its identifier.
+    pub name: String,
+    /// What sort of type it is, such as a class or an interface. Clients usually show it as an icon.
+    pub kind: SymbolKind,
+    /// Marks on the type, such as `SymbolTag::DEPRECATED`.
+    pub tags: Option<Vec<SymbolTag>>,
+    /// More text for the user, such as the type parameters.
+    pub detail: Option<String>,
+    /// The document that contains the type.
+    pub uri: Uri,
+    /// The whole type, including its body and its comments, but no whitespace around it.
+    pub range: Range,
+    /// What to select when the user goes to the type, usually its name. It must lie within `range`.
+    pub selection_range: Range,
+    /// Any value, sent as the member `data`. The client returns it unchanged in `typeHierarchy/supertypes` and
+    /// `typeHierarchy/subtypes`.
+    pub payload: Option<LSPAny>,
+}
+
+#[tactic(auto, unfolding(crate::specs::Types::type_hierarchy_item_row))]
+impl Wire for TypeHierarchyItem {
+    ghost shape = { type_hierarchy_item_row.shape };
+
+    ghost shown = { type_hierarchy_item_row.shown };
+
+    fn from_value(alloc: Global, value: &Value) -> Result<TypeHierarchyItem, Misfit> {
+        let object = Reader::new(alloc, value)?;
+        Ok(TypeHierarchyItem {
+            name: object.field("name")?,
+            kind: object.field("kind")?,
+            tags: object.optional("tags")?,
+            detail: object.optional("detail")?,
+            uri: object.field("uri")?,
+            range: object.field("range")?,
+            selection_range: object.field("selectionRange")?,
+            payload: object.optional("data")?,
+        })
+    }
+
+    fn to_value(&self, alloc: Global) -> Result<Value, NoMemory> {
+        let mut object = Writer::new(alloc);
+        object.field("name", &self.name)?;
+        object.field("kind", &self.kind)?;
+        object.optional("tags", &self.tags)?;
+        object.optional("detail", &self.detail)?;
+        object.field("uri", &self.uri)?;
+        object.field("range", &self.range)?;
+        object.field("selectionRange", &self.selection_range)?;
+        object.optional("data", &self.payload)?;
+        Ok(object.end())
+    }
+}
