@@ -9,6 +9,7 @@ use lsp_server::{
 };
 use lsp_session::InOrder;
 use std::alloc::{AllocError, Global};
+use std::process::Abort;
 use std::test::Fail;
 
 const INITIALIZE: &str =
@@ -336,6 +337,20 @@ fn all_framed(alloc: Global, bodies: &[&str]) -> Result<Vec<u8>, AllocError> {
     Ok(frames)
 }
 
+// The frames of these bodies, each of which has the length beside it.
+fn answers_framed(
+    rt: &impl Abort,
+    alloc: Global,
+    answers: &[(usize, &str)],
+) -> Result<Vec<u8>, Fail> {
+    let mut frames = Vec::new(alloc);
+    for (length, body) in answers {
+        assert_eq!(rt; body.len(), *length, "{body}");
+        framed(alloc, body, &mut frames)?;
+    }
+    Ok(frames)
+}
+
 fn words_of(alloc: Global, texts: &[&str]) -> Result<Vec<String>, AllocError> {
     let mut words = Vec::new(alloc);
     for text in texts {
@@ -354,11 +369,7 @@ fn copied(alloc: Global, bytes: &[u8]) -> Result<Vec<u8>, AllocError> {
 fn sessions(rt: HostRuntime) -> Result<(), Fail> {
     let alloc = rt.alloc();
     for (name, words, sent, answers, status) in SESSIONS {
-        let mut want = Vec::new(alloc);
-        for (length, body) in answers {
-            assert_eq!(rt; body.len(), *length, "{name}");
-            framed(alloc, body, &mut want)?;
-        }
+        let want = answers_framed(&rt, alloc, answers)?;
         let words = words_of(alloc, words)?;
         let mut source = NeverSource::new(all_framed(alloc, sent)?, 4096);
         let mut sink = NeverSink::new(alloc);
