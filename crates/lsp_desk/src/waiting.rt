@@ -1,24 +1,20 @@
 //! The requests whose answers are awaited.
-ghost use Rattle.std.specs.Prelude.{◌≡◌, ◌<◌, ◌==◌, ◌++◌, [], ◌∷◌, List, OnOk, OnErr, length, position, get_or, remove};
-ghost use Rattle.std.specs.List.{list_any};
-ghost use Rattle.lsp_rpc.specs.Ids.{same_id};
+ghost use Rattle.std.specs.Prelude.{◌≡◌, ◌++◌, [], ◌∷◌, OnOk, OnErr, option_map};
+ghost use Rattle.std.specs.List.{find, list_any, before_first, after_first};
 ghost use Rattle.lsp_rpc.specs.Shown.{show_id};
-ghost use Rattle.lsp_desk.specs.Desk.{AwaitedData, has_id, is_awaited_by};
+ghost use Rattle.lsp_desk.specs.Desk.{has_id, is_awaited_by};
 
+use lsp_keyed::Keyed;
 use lsp_rpc::{Id, NoMemory};
 use std::alloc::Global;
 
-/// A request that was sent and whose answer is awaited.
-#[derive(Drop)]
-pub(crate) struct Awaited {
-    ticket: u64,
-    id: Id,
-}
-
-/// The requests whose answers are awaited, in the order in which they were sent.
+/// The requests whose answers are awaited, in the order in which they were sent, which is that of
+/// their tickets.
 #[derive(Drop)]
 pub(crate) struct Waiting {
-    awaited: Vec<Awaited>,
+    alloc: Global,
+    // the ids by the tickets
+    awaited: Keyed<Id, ()>,
 }
 
 impl Waiting {
@@ -28,67 +24,46 @@ impl Waiting {
         ensures { show_waiting result ≡ [] }
     {
         Waiting {
-            awaited: Vec::new(alloc),
+            alloc,
+            awaited: Keyed::new(alloc),
         }
     }
 
-    /// Awaits an answer after the others.
+    /// Awaits an answer after the others. After 2^64 tickets the numbers begin again; there is no place for
+    /// one while an answer of a greater one is awaited.
     pub(crate) fn push(&mut self, ticket: u64, id: Id) -> Result<(), NoMemory>
         ensures ok { OnOk result (show_waiting self.new
             ≡ show_waiting self.old ++ record { ticket = ticket; id = show_id id } ∷ []) }
         ensures err { OnErr result (show_waiting self.new ≡ show_waiting self.old) }
     {
-        self.awaited.push(Awaited { ticket, id })?;
-        Ok(())
+        if !self.awaited.is_above(ticket) {
+            return Err(NoMemory);
+        }
+        let same = id.clone(self.alloc)?;
+        self.awaited.push(ticket, id, same, ())
     }
 
-    /// Awaits the newest no more.
-    pub(crate) fn pop(&mut self)
-        ensures { (others : List AwaitedData) (newest : AwaitedData)
-            → show_waiting self.old ≡ others ++ newest ∷ [] → show_waiting self.new ≡ others }
+    /// The ticket of the oldest request of an id.
+    pub(crate) fn oldest(&self, id: &Id) -> Option<u64>
+        ensures { result
+            ≡ option_map (λ a. a.ticket) (find (has_id (show_id id.now)) (show_waiting self.now)) }
     {
-        self.awaited.pop();
+        self.awaited.oldest(id)
     }
 
-    /// The place of the oldest request of an id.
-    pub(crate) fn oldest(&self, id: &Id) -> Option<usize>
-        ensures { result ≡ position (has_id (show_id id.now)) (show_waiting self.now) }
+    /// Takes the oldest request of an id out. It takes no memory.
+    pub(crate) fn remove_oldest(&mut self, id: &Id)
+        ensures { show_waiting self.new
+            ≡ before_first (has_id (show_id id.now)) (show_waiting self.old)
+            ++ after_first (has_id (show_id id.now)) (show_waiting self.old) }
     {
-        oldest(&self.awaited, id)
-    }
-
-    /// The ticket of the request at a place.
-    pub(crate) fn ticket(&self, place: usize) -> u64
-        requires { place < length (show_waiting self.now) }
-        ensures { (other : AwaitedData) → result ≡ (get_or (show_waiting self.now) place other).ticket }
-    {
-        self.awaited[place].ticket
-    }
-
-    /// Takes the request at a place out. It takes no memory.
-    pub(crate) fn remove(&mut self, place: usize)
-        requires { place < length (show_waiting self.old) }
-        ensures { show_waiting self.new ≡ remove (show_waiting self.old) place }
-    {
-        self.awaited.remove(place);
+        let _ = self.awaited.take(id);
     }
 
     /// Whether an answer of the ticket is awaited.
     pub(crate) fn has_ticket(&self, ticket: u64) -> bool
         ensures { result ≡ list_any (is_awaited_by ticket) (show_waiting self.now) }
     {
-        is_awaited(&self.awaited, ticket)
+        self.awaited.has_number(ticket)
     }
-}
-
-fn oldest(awaited: &Vec<Awaited>, id: &Id) -> Option<usize>
-    ensures { result ≡ position (λ a. same_id (show_id a.id) (show_id id.now)) awaited.now.items }
-{
-    awaited.iter().position(|awaited| awaited.id == *id)
-}
-
-fn is_awaited(awaited: &Vec<Awaited>, ticket: u64) -> bool
-    ensures { result ≡ list_any (λ a. a.ticket == ticket) awaited.now.items }
-{
-    awaited.iter().any(|awaited| awaited.ticket == ticket)
 }

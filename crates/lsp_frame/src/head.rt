@@ -15,8 +15,10 @@ pub struct Head {
 
 // The headers of the block, where it is, whole, a head of at most two.
 pub(crate) fn head_of(block: &[u8]) -> Option<Head>
-    ensures value { option_map (λ h. map (header_bytes block.now) (take h.count h.spans)) result ≡ headers_in 2 block.now }
-    ensures within { IfSome result (λ h. All (IsHeaderWithin (length block.now)) (take h.count h.spans)) }
+    ensures value { option_map (λ h. map (header_bytes block.now) (take h.count h.spans)) result
+        ≡ headers_in 2 block.now }
+    ensures within { IfSome result (λ h. All (IsHeaderWithin (length block.now))
+        (take h.count h.spans)) }
     ensures count { IfSome result (λ h. h.count ≤ length h.spans) }
 {
     let mut spans = [EMPTY_HEADER_SPAN; 2];

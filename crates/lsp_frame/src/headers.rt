@@ -109,7 +109,8 @@ fn length_at(
     requires within { All (IsHeaderWithin (length block.now)) (take head.now.count head.now.spans) }
     requires few { head.now.count ≤ length head.now.spans }
     requires index { i < head.now.count }
-    ensures { result ≡ length_then before (header_bytes block.now (slice_index_or head.now.spans i no_span)) }
+    ensures { result
+        ≡ length_then before (header_bytes block.now (slice_index_or head.now.spans i no_span)) }
 {
     let span = head.spans[i];
     length_after(before, span.name.of(block), span.value.of(block))
@@ -119,7 +120,8 @@ fn length_at(
 pub(crate) fn content_length(block: &[u8], head: &Head) -> Result<Option<u64>, ParseError>
     requires within { All (IsHeaderWithin (length block.now)) (take head.now.count head.now.spans) }
     requires few { head.now.count ≤ length head.now.spans }
-    ensures { result ≡ length_in None (map (header_bytes block.now) (take head.now.count head.now.spans)) }
+    ensures { result
+        ≡ length_in None (map (header_bytes block.now) (take head.now.count head.now.spans)) }
 {
     let mut length = None;
     for i in 0..head.count {

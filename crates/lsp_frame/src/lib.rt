@@ -15,8 +15,6 @@ mod limits;
 mod next_item;
 mod parse_error;
 mod state;
-#[cfg(test)]
-mod tests;
 mod transition;
 
 pub use codec::{Decoded, LanguageServerCodec};

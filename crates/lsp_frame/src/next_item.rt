@@ -37,7 +37,8 @@ fn transition_from(
 ) -> Result<Transition, NoMemory>
     requires place { place ≤ length bytes.now }
     requires clear { IsLooked (drop place bytes.now) looked.old }
-    ensures value { IfOk result (λ t. show_transition t ≡ transition_of limits state (drop place bytes.now)) }
+    ensures value { IfOk result (λ t. show_transition t
+        ≡ transition_of limits state (drop place bytes.now)) }
     ensures within { IfOk result (λ t. IsWithinBytes (length bytes.now - place) t) }
     ensures floats { IfOk result (λ t. IsItemFloatFree t) }
     ensures looked { IsLooked (drop place bytes.now) looked.new }
@@ -72,11 +73,15 @@ pub(crate) fn find_next(
     requires clear { IsLooked bytes.now looked }
     requires allowed { IsAllowed limits state }
     ensures within { IfOk result (λ r. r.consumed ≤ length bytes.now) }
-    ensures goes { IfOk result (λ r. (last : List Item) (c : List ℕ) → all_from limits last state (bytes.now ++ c)
-        ≡ with_item (option_map show_found r.item) (all_from limits last r.state (drop r.consumed bytes.now ++ c))) }
+    ensures goes { IfOk result (λ r. (last : List Item) (c : List ℕ)
+        → all_from limits last state (bytes.now ++ c)
+        ≡ with_item (option_map show_found r.item) (all_from limits last r.state
+        (drop r.consumed bytes.now ++ c))) }
     ensures ends { IfOk result (λ r. r.item ≡ None → (last : List Item)
-        → all_from limits last r.state (drop r.consumed bytes.now) ≡ (if r.unfinished then last else [])) }
-    ensures waits { IfOk result (λ r. r.item ≡ None → Stands (transition_of limits r.state (drop r.consumed bytes.now))
+        → all_from limits last r.state (drop r.consumed bytes.now)
+        ≡ (if r.unfinished then last else [])) }
+    ensures waits { IfOk result (λ r. r.item ≡ None
+        → Stands (transition_of limits r.state (drop r.consumed bytes.now))
         × IsTrimmed r.state (drop r.consumed bytes.now)) }
     ensures allowed { IfOk result (λ r. IsAllowed limits r.state) }
     ensures clear { IfOk result (λ r. IsLooked (drop r.consumed bytes.now) r.looked) }

@@ -27,7 +27,8 @@ pub enum Transition {
 }
 
 fn at_search(bytes: &[u8]) -> Transition
-    ensures value { show_transition result ≡ search_transition (first_place (codes "Content-Length") bytes.now) }
+    ensures value { show_transition result
+        ≡ search_transition (first_place (codes "Content-Length") bytes.now) }
     ensures within { IsWithinBytes (length bytes.now) result }
     ensures floats { IsItemFloatFree result }
 {
@@ -75,7 +76,8 @@ fn search_after(fault: ParseError, len: usize) -> Transition
 // The transition at a whole block.
 fn at_head(limits: Limits, block: &[u8]) -> Transition
     requires { 0 < length block.now }
-    ensures value { show_transition result ≡ head_transition limits (length block.now) (headers_in 2 block.now) }
+    ensures value { show_transition result
+        ≡ head_transition limits (length block.now) (headers_in 2 block.now) }
     ensures within { IsWithinBytes (length block.now) result }
     ensures floats { IsItemFloatFree result }
 {

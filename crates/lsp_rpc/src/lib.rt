@@ -15,8 +15,6 @@ mod message;
 mod read;
 mod request;
 mod response;
-#[cfg(test)]
-mod tests;
 mod value;
 mod write;
 

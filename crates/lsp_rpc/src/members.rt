@@ -42,11 +42,15 @@ impl Members {
 
     // Keeps the value where the message has no member of that name yet.
     fn keep(&mut self, name: &str, value: Value)
-        ensures jsonrpc { KeepsValue (codes "jsonrpc") name.now value self.old.jsonrpc self.new.jsonrpc }
+        ensures jsonrpc { KeepsValue
+            (codes "jsonrpc") name.now value self.old.jsonrpc self.new.jsonrpc }
         ensures id { KeepsValue (codes "id") name.now value self.old.id self.new.id }
-        ensures method { KeepsValue (codes "method") name.now value self.old.method self.new.method }
-        ensures params { KeepsValue (codes "params") name.now value self.old.params self.new.params }
-        ensures outcome { KeepsValue (codes "result") name.now value self.old.result self.new.result }
+        ensures method { KeepsValue
+            (codes "method") name.now value self.old.method self.new.method }
+        ensures params { KeepsValue
+            (codes "params") name.now value self.old.params self.new.params }
+        ensures outcome { KeepsValue
+            (codes "result") name.now value self.old.result self.new.result }
         ensures error { KeepsValue (codes "error") name.now value self.old.error self.new.error }
     {
         match name {

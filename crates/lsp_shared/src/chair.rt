@@ -56,7 +56,9 @@ impl<'a> Chair<'a> {
 
     /// The seat by itself.
     pub fn rest(self) -> Rested
-        ensures { (result.seat.me.0 ≡ self.entry.seat.me.0) × (result.seat.table_id ≡ self.entry.seat.table_id) × (result.spent ≡ self.entry.spent) }
+        ensures { (result.seat.me.0 ≡ self.entry.seat.me.0)
+            × (result.seat.table_id ≡ self.entry.seat.table_id)
+            × (result.spent ≡ self.entry.spent) }
     {
         let Chair {
             desk: _,
@@ -75,7 +77,8 @@ impl<'a> Chair<'a> {
 
     pub fn sit(desk: &'a SharedDesk, rested: Rested) -> Chair<'a>
         requires { rested.seat.table_id ≡ desk.now.table.shared.table_id }
-        ensures { (result.seat.me.0 ≡ rested.seat.me.0) × (result.seat.table_id ≡ rested.seat.table_id) × (result.spent ≡ rested.spent) }
+        ensures { (result.seat.me.0 ≡ rested.seat.me.0)
+            × (result.seat.table_id ≡ rested.seat.table_id) × (result.spent ≡ rested.spent) }
     {
         let Rested {
             seat,
@@ -98,12 +101,16 @@ impl<'a> Chair<'a> {
         call: ClientCall,
     ) -> Result<ClientReply, DeskFault>
         requires { call_has_float (show_client_call call) ≡ false }
-        ensures turned { Answered by_client (Client call) self.old.seat.me.0 result self.new.seat.me.0 }
+        ensures turned { Answered by_client
+            (Client call) self.old.seat.me.0 result self.new.seat.me.0 }
         ensures tickets { HasTurn result (TicketsAddUp self.new.seat.me.0) }
         ensures same { self.new.seat.table_id ≡ self.old.seat.table_id }
-        ensures calls { Calls chair_meaning show_client_reply self.old (show_client_call call) result self.new }
-        ensures spent { (n : ℕ) → result ≡ Err (DeskFault.Spent n) → (n ≡ 2 ^ 64 - 1) × (self.new.spent ≡ true) }
-        ensures float_free { IfOk result (λ reply. reply_has_float (show_client_reply reply) ≡ false) }
+        ensures calls { Calls chair_meaning show_client_reply self.old
+            (show_client_call call) result self.new }
+        ensures spent { (n : ℕ) → result ≡ Err (DeskFault.Spent n) → (n ≡ 2 ^ 64 - 1)
+            × (self.new.spent ≡ true) }
+        ensures float_free { IfOk result (λ reply. reply_has_float (show_client_reply reply)
+            ≡ false) }
     {
         let (result, seen) = client_turn::<Brand, R>(
             rt,
@@ -126,12 +133,16 @@ impl<'a> Chair<'a> {
     ) -> Result<ServerReply, DeskFault>
         requires owner { self.old.seat.me.0.owner ≡ true }
         requires float_free { call_has_float (show_server_call call) ≡ false }
-        ensures turned { Answered by_server (Server call) self.old.seat.me.0 result self.new.seat.me.0 }
+        ensures turned { Answered by_server
+            (Server call) self.old.seat.me.0 result self.new.seat.me.0 }
         ensures tickets { HasTurn result (TicketsAddUp self.new.seat.me.0) }
         ensures same { self.new.seat.table_id ≡ self.old.seat.table_id }
-        ensures calls { Calls chair_meaning show_server_reply self.old (show_server_call call) result self.new }
-        ensures spent { (n : ℕ) → result ≡ Err (DeskFault.Spent n) → (n ≡ 2 ^ 64 - 1) × (self.new.spent ≡ true) }
-        ensures float_free { IfOk result (λ reply. reply_has_float (show_server_reply reply) ≡ false) }
+        ensures calls { Calls chair_meaning show_server_reply self.old
+            (show_server_call call) result self.new }
+        ensures spent { (n : ℕ) → result ≡ Err (DeskFault.Spent n) → (n ≡ 2 ^ 64 - 1)
+            × (self.new.spent ≡ true) }
+        ensures float_free { IfOk result (λ reply. reply_has_float (show_server_reply reply)
+            ≡ false) }
     {
         let (result, seen) = server_turn::<Brand, R>(
             rt,
@@ -150,8 +161,10 @@ impl<'a> Chair<'a> {
     /// Cuts off half of the share, for a seat that has seen the same and made nothing.
     pub fn split(&mut self) -> Chair<'a>
         requires { 2 ≤ self.old.seat.me.0.share }
-        ensures kept { (self.new.seat.me.0 ≡ rest_of self.old.seat.me.0) × (self.new.seat.table_id ≡ self.old.seat.table_id) × (self.new.spent ≡ self.old.spent) }
-        ensures given { (result.seat.me.0 ≡ half self.old.seat.me.0) × (result.seat.table_id ≡ self.old.seat.table_id) × (result.spent ≡ false) }
+        ensures kept { (self.new.seat.me.0 ≡ rest_of self.old.seat.me.0) × (self.new.seat.table_id
+            ≡ self.old.seat.table_id) × (self.new.spent ≡ self.old.spent) }
+        ensures given { (result.seat.me.0 ≡ half self.old.seat.me.0)
+            × (result.seat.table_id ≡ self.old.seat.table_id) × (result.spent ≡ false) }
     {
         let given = self.share / 2;
         let seat = part(&self.desk.table.shared, &mut self.seat);
@@ -169,8 +182,10 @@ impl<'a> Chair<'a> {
     pub fn join(&mut self, other: Chair<'_>)
         requires same { other.seat.table_id ≡ self.old.seat.table_id }
         requires other_owner { other.seat.me.0.owner ≡ false }
-        ensures joined { self.new.seat.me.0 ≡ learned (joined self.old.seat.me.0 other.entry.seat.me.0) }
-        ensures seen { Begins self.old.seat.me.0.seen self.new.seat.me.0.seen × Begins other.entry.seat.me.0.seen self.new.seat.me.0.seen }
+        ensures joined { self.new.seat.me.0
+            ≡ learned (joined self.old.seat.me.0 other.entry.seat.me.0) }
+        ensures seen { Begins self.old.seat.me.0.seen self.new.seat.me.0.seen
+            × Begins other.entry.seat.me.0.seen self.new.seat.me.0.seen }
         ensures sound { IsSound self.new.seat.me.0 }
         ensures same { self.new.seat.table_id ≡ self.old.seat.table_id }
         ensures spent { self.new.spent ≡ (self.old.spent || other.entry.spent) }

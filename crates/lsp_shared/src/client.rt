@@ -58,12 +58,16 @@ impl<'a, R: Wait + Sync> Caller for SharedClient<'a, R> {
 
     fn client(&mut self, call: ClientCall) -> Result<ClientReply, DeskFault>
         requires { call_has_float (show_client_call call) ≡ false }
-        ensures turned { Answered by_client (Client call) (client_view self.old) result (client_view self.new) }
+        ensures turned { Answered by_client (Client call) (client_view self.old) result
+            (client_view self.new) }
         ensures tickets { HasTurn result (TicketsAddUp (client_view self.new)) }
         ensures same { client_desk self.new ≡ client_desk self.old }
-        ensures calls { Calls client_meaning show_client_reply self.old (show_client_call call) result self.new }
-        ensures spent { (n : ℕ) → result ≡ Err (DeskFault.Spent n) → (n ≡ 2 ^ 64 - 1) × (client_meaning.spent self.new ≡ true) }
-        ensures float_free { IfOk result (λ reply. reply_has_float (show_client_reply reply) ≡ false) }
+        ensures calls { Calls client_meaning show_client_reply self.old
+            (show_client_call call) result self.new }
+        ensures spent { (n : ℕ) → result ≡ Err (DeskFault.Spent n) → (n ≡ 2 ^ 64 - 1)
+            × (client_meaning.spent self.new ≡ true) }
+        ensures float_free { IfOk result (λ reply. reply_has_float (show_client_reply reply)
+            ≡ false) }
     {
         self.chair.client_call(self.rt, call)
     }
@@ -86,12 +90,16 @@ impl<'a, R: Wait + Sync> Caller for DeskOwner<'a, R> {
 
     fn client(&mut self, call: ClientCall) -> Result<ClientReply, DeskFault>
         requires { call_has_float (show_client_call call) ≡ false }
-        ensures turned { Answered by_client (Client call) (owner_view self.old) result (owner_view self.new) }
+        ensures turned { Answered by_client (Client call) (owner_view self.old) result
+            (owner_view self.new) }
         ensures tickets { HasTurn result (TicketsAddUp (owner_view self.new)) }
         ensures same { owner_desk self.new ≡ owner_desk self.old }
-        ensures calls { Calls owner_meaning show_client_reply self.old (show_client_call call) result self.new }
-        ensures spent { (n : ℕ) → result ≡ Err (DeskFault.Spent n) → (n ≡ 2 ^ 64 - 1) × (owner_meaning.spent self.new ≡ true) }
-        ensures float_free { IfOk result (λ reply. reply_has_float (show_client_reply reply) ≡ false) }
+        ensures calls { Calls owner_meaning show_client_reply self.old
+            (show_client_call call) result self.new }
+        ensures spent { (n : ℕ) → result ≡ Err (DeskFault.Spent n) → (n ≡ 2 ^ 64 - 1)
+            × (owner_meaning.spent self.new ≡ true) }
+        ensures float_free { IfOk result (λ reply. reply_has_float (show_client_reply reply)
+            ≡ false) }
     {
         self.chair.client_call(self.rt, call)
     }
@@ -112,12 +120,16 @@ impl<'a, R: Wait + Sync> Desk for DeskOwner<'a, R> {
 
     fn server(&mut self, call: ServerCall) -> Result<ServerReply, DeskFault>
         requires { call_has_float (show_server_call call) ≡ false }
-        ensures turned { Answered by_server (Server call) (owner_view self.old) result (owner_view self.new) }
+        ensures turned { Answered by_server (Server call) (owner_view self.old) result
+            (owner_view self.new) }
         ensures tickets { HasTurn result (TicketsAddUp (owner_view self.new)) }
         ensures same { owner_desk self.new ≡ owner_desk self.old }
-        ensures calls { Calls owner_meaning show_server_reply self.old (show_server_call call) result self.new }
-        ensures spent { (n : ℕ) → result ≡ Err (DeskFault.Spent n) → (n ≡ 2 ^ 64 - 1) × (owner_meaning.spent self.new ≡ true) }
-        ensures float_free { IfOk result (λ reply. reply_has_float (show_server_reply reply) ≡ false) }
+        ensures calls { Calls owner_meaning show_server_reply self.old
+            (show_server_call call) result self.new }
+        ensures spent { (n : ℕ) → result ≡ Err (DeskFault.Spent n) → (n ≡ 2 ^ 64 - 1)
+            × (owner_meaning.spent self.new ≡ true) }
+        ensures float_free { IfOk result (λ reply. reply_has_float (show_server_reply reply)
+            ≡ false) }
     {
         self.chair.server_call(self.rt, call)
     }
@@ -136,7 +148,9 @@ impl<'a, R: Wait + Sync> DeskOwner<'a, R> {
     pub fn sit(rt: &'a R, desk: &'a SharedDesk, rested: Rested) -> DeskOwner<'a, R>
         requires same { rested_desk rested ≡ desk_id desk.now }
         requires owns { (rested_view rested).owner ≡ true }
-        ensures { (owner_view result ≡ rested_view rested) × (owner_desk result ≡ rested_desk rested) × (owner_meaning.spent result ≡ rested_spent rested) }
+        ensures { (owner_view result ≡ rested_view rested)
+            × (owner_desk result ≡ rested_desk rested) × (owner_meaning.spent result
+            ≡ rested_spent rested) }
     {
         DeskOwner {
             rt,
@@ -146,7 +160,9 @@ impl<'a, R: Wait + Sync> DeskOwner<'a, R> {
 
     /// The seat at rest: without its desk and its runtime, so that a thread can hand it back.
     pub fn rest(self) -> Rested
-        ensures same { (rested_view result ≡ owner_view self.entry) × (rested_desk result ≡ owner_desk self.entry) × (rested_spent result ≡ owner_meaning.spent self.entry) }
+        ensures same { (rested_view result ≡ owner_view self.entry)
+            × (rested_desk result ≡ owner_desk self.entry)
+            × (rested_spent result ≡ owner_meaning.spent self.entry) }
         ensures owns { (rested_view result).owner ≡ true }
     {
         let DeskOwner { rt: _, chair } = self;
@@ -157,8 +173,11 @@ impl<'a, R: Wait + Sync> DeskOwner<'a, R> {
     pub fn split(&mut self) -> Result<SharedClient<'a, R>, NoMemory>
         requires { 2 ≤ (owner_view self.old).share }
         ensures ready { IsOk result }
-        ensures kept { (owner_view self.new ≡ rest_of (owner_view self.old)) × (owner_desk self.new ≡ owner_desk self.old) × (owner_meaning.spent self.new ≡ owner_meaning.spent self.old) }
-        ensures given { IfOk result (λ c. (client_view c ≡ half (owner_view self.old)) × (client_desk c ≡ owner_desk self.old) × (client_meaning.spent c ≡ false)) }
+        ensures kept { (owner_view self.new ≡ rest_of (owner_view self.old))
+            × (owner_desk self.new ≡ owner_desk self.old) × (owner_meaning.spent self.new
+            ≡ owner_meaning.spent self.old) }
+        ensures given { IfOk result (λ c. (client_view c ≡ half (owner_view self.old))
+            × (client_desk c ≡ owner_desk self.old) × (client_meaning.spent c ≡ false)) }
     {
         Ok(SharedClient {
             rt: self.rt,
@@ -170,11 +189,14 @@ impl<'a, R: Wait + Sync> DeskOwner<'a, R> {
     /// Of what they had seen one begins the other.
     pub fn join(&mut self, other: SharedClient<'_, R>)
         requires { client_desk other ≡ owner_desk self.old }
-        ensures joined { owner_view self.new ≡ learned (joined (owner_view self.old) (client_view other.entry)) }
-        ensures seen { Begins (owner_view self.old).seen (owner_view self.new).seen × Begins (client_view other.entry).seen (owner_view self.new).seen }
+        ensures joined { owner_view self.new
+            ≡ learned (joined (owner_view self.old) (client_view other.entry)) }
+        ensures seen { Begins (owner_view self.old).seen (owner_view self.new).seen
+            × Begins (client_view other.entry).seen (owner_view self.new).seen }
         ensures sound { IsSound (owner_view self.new) }
         ensures same { owner_desk self.new ≡ owner_desk self.old }
-        ensures spent { owner_meaning.spent self.new ≡ (owner_meaning.spent self.old || client_meaning.spent other.entry) }
+        ensures spent { owner_meaning.spent self.new
+            ≡ (owner_meaning.spent self.old || client_meaning.spent other.entry) }
     {
         let SharedClient { rt: _, chair } = other;
         self.chair.join(chair);
@@ -206,7 +228,9 @@ impl<'a, R: Wait + Sync> SharedClient<'a, R> {
     pub fn sit(rt: &'a R, desk: &'a SharedDesk, rested: Rested) -> SharedClient<'a, R>
         requires same { rested_desk rested ≡ desk_id desk.now }
         requires asks { (rested_view rested).owner ≡ false }
-        ensures { (client_view result ≡ rested_view rested) × (client_desk result ≡ rested_desk rested) × (client_meaning.spent result ≡ rested_spent rested) }
+        ensures { (client_view result ≡ rested_view rested)
+            × (client_desk result ≡ rested_desk rested) × (client_meaning.spent result
+            ≡ rested_spent rested) }
     {
         SharedClient {
             rt,
@@ -216,7 +240,9 @@ impl<'a, R: Wait + Sync> SharedClient<'a, R> {
 
     /// The seat at rest: without its desk and its runtime, so that a thread can hand it back.
     pub fn rest(self) -> Rested
-        ensures same { (rested_view result ≡ client_view self.entry) × (rested_desk result ≡ client_desk self.entry) × (rested_spent result ≡ client_meaning.spent self.entry) }
+        ensures same { (rested_view result ≡ client_view self.entry)
+            × (rested_desk result ≡ client_desk self.entry)
+            × (rested_spent result ≡ client_meaning.spent self.entry) }
         ensures asks { (rested_view result).owner ≡ false }
     {
         let SharedClient { rt: _, chair } = self;
@@ -227,8 +253,11 @@ impl<'a, R: Wait + Sync> SharedClient<'a, R> {
     pub fn split(&mut self) -> Result<SharedClient<'a, R>, NoMemory>
         requires { 2 ≤ (client_view self.old).share }
         ensures ready { IsOk result }
-        ensures kept { (client_view self.new ≡ rest_of (client_view self.old)) × (client_desk self.new ≡ client_desk self.old) × (client_meaning.spent self.new ≡ client_meaning.spent self.old) }
-        ensures given { IfOk result (λ c. (client_view c ≡ half (client_view self.old)) × (client_desk c ≡ client_desk self.old) × (client_meaning.spent c ≡ false)) }
+        ensures kept { (client_view self.new ≡ rest_of (client_view self.old))
+            × (client_desk self.new ≡ client_desk self.old) × (client_meaning.spent self.new
+            ≡ client_meaning.spent self.old) }
+        ensures given { IfOk result (λ c. (client_view c ≡ half (client_view self.old))
+            × (client_desk c ≡ client_desk self.old) × (client_meaning.spent c ≡ false)) }
     {
         Ok(SharedClient {
             rt: self.rt,
@@ -240,11 +269,14 @@ impl<'a, R: Wait + Sync> SharedClient<'a, R> {
     /// Of what they had seen one begins the other.
     pub fn join(&mut self, other: SharedClient<'_, R>)
         requires { client_desk other ≡ client_desk self.old }
-        ensures joined { client_view self.new ≡ learned (joined (client_view self.old) (client_view other.entry)) }
-        ensures seen { Begins (client_view self.old).seen (client_view self.new).seen × Begins (client_view other.entry).seen (client_view self.new).seen }
+        ensures joined { client_view self.new
+            ≡ learned (joined (client_view self.old) (client_view other.entry)) }
+        ensures seen { Begins (client_view self.old).seen (client_view self.new).seen
+            × Begins (client_view other.entry).seen (client_view self.new).seen }
         ensures sound { IsSound (client_view self.new) }
         ensures same { client_desk self.new ≡ client_desk self.old }
-        ensures spent { client_meaning.spent self.new ≡ (client_meaning.spent self.old || client_meaning.spent other.entry) }
+        ensures spent { client_meaning.spent self.new
+            ≡ (client_meaning.spent self.old || client_meaning.spent other.entry) }
     {
         let SharedClient { rt: _, chair } = other;
         self.chair.join(chair);

@@ -8,8 +8,6 @@ mod rested;
 mod rule;
 mod sides;
 mod steps;
-#[cfg(test)]
-mod tests;
 mod turn;
 mod view;
 

@@ -32,7 +32,8 @@ impl<'a> OwnerChair<'a> {
     pub(crate) fn of(desk: &'a SharedDesk, seat: OwnerSeat) -> OwnerChair<'a>
         requires { seat.seat.table_id ≡ desk.now.table.shared.table_id }
         ensures is_new { IsNew result.chair.seat.me.0 }
-        ensures same { (result.chair.seat.table_id ≡ seat.seat.table_id) × (result.chair.spent ≡ false) }
+        ensures same { (result.chair.seat.table_id ≡ seat.seat.table_id)
+            × (result.chair.spent ≡ false) }
     {
         OwnerChair {
             chair: Chair::of(desk, seat),
@@ -45,12 +46,16 @@ impl<'a> OwnerChair<'a> {
         call: ClientCall,
     ) -> Result<ClientReply, DeskFault>
         requires { call_has_float (show_client_call call) ≡ false }
-        ensures turned { Answered by_client (Client call) self.old.chair.seat.me.0 result self.new.chair.seat.me.0 }
+        ensures turned { Answered by_client
+            (Client call) self.old.chair.seat.me.0 result self.new.chair.seat.me.0 }
         ensures tickets { HasTurn result (TicketsAddUp self.new.chair.seat.me.0) }
         ensures same { self.new.chair.seat.table_id ≡ self.old.chair.seat.table_id }
-        ensures calls { Calls chair_meaning show_client_reply self.old.chair (show_client_call call) result self.new.chair }
-        ensures spent { (n : ℕ) → result ≡ Err (DeskFault.Spent n) → (n ≡ 2 ^ 64 - 1) × (chair_meaning.spent self.new.chair ≡ true) }
-        ensures float_free { IfOk result (λ reply. reply_has_float (show_client_reply reply) ≡ false) }
+        ensures calls { Calls chair_meaning show_client_reply self.old.chair
+            (show_client_call call) result self.new.chair }
+        ensures spent { (n : ℕ) → result ≡ Err (DeskFault.Spent n) → (n ≡ 2 ^ 64 - 1)
+            × (chair_meaning.spent self.new.chair ≡ true) }
+        ensures float_free { IfOk result (λ reply. reply_has_float (show_client_reply reply)
+            ≡ false) }
     {
         self.chair.client_call(rt, call)
     }
@@ -61,12 +66,16 @@ impl<'a> OwnerChair<'a> {
         call: ServerCall,
     ) -> Result<ServerReply, DeskFault>
         requires { call_has_float (show_server_call call) ≡ false }
-        ensures turned { Answered by_server (Server call) self.old.chair.seat.me.0 result self.new.chair.seat.me.0 }
+        ensures turned { Answered by_server
+            (Server call) self.old.chair.seat.me.0 result self.new.chair.seat.me.0 }
         ensures tickets { HasTurn result (TicketsAddUp self.new.chair.seat.me.0) }
         ensures same { self.new.chair.seat.table_id ≡ self.old.chair.seat.table_id }
-        ensures calls { Calls chair_meaning show_server_reply self.old.chair (show_server_call call) result self.new.chair }
-        ensures spent { (n : ℕ) → result ≡ Err (DeskFault.Spent n) → (n ≡ 2 ^ 64 - 1) × (chair_meaning.spent self.new.chair ≡ true) }
-        ensures float_free { IfOk result (λ reply. reply_has_float (show_server_reply reply) ≡ false) }
+        ensures calls { Calls chair_meaning show_server_reply self.old.chair
+            (show_server_call call) result self.new.chair }
+        ensures spent { (n : ℕ) → result ≡ Err (DeskFault.Spent n) → (n ≡ 2 ^ 64 - 1)
+            × (chair_meaning.spent self.new.chair ≡ true) }
+        ensures float_free { IfOk result (λ reply. reply_has_float (show_server_reply reply)
+            ≡ false) }
     {
         self.chair.server_call(rt, call)
     }
@@ -74,7 +83,8 @@ impl<'a> OwnerChair<'a> {
     pub fn sit(desk: &'a SharedDesk, rested: Rested) -> OwnerChair<'a>
         requires same { rested.seat.table_id ≡ desk.now.table.shared.table_id }
         requires owns { rested.seat.me.0.owner ≡ true }
-        ensures { (result.chair.seat.me.0 ≡ rested.seat.me.0) × (result.chair.seat.table_id ≡ rested.seat.table_id) × (result.chair.spent ≡ rested.spent) }
+        ensures { (result.chair.seat.me.0 ≡ rested.seat.me.0) × (result.chair.seat.table_id
+            ≡ rested.seat.table_id) × (result.chair.spent ≡ rested.spent) }
     {
         OwnerChair {
             chair: Chair::sit(desk, rested),
@@ -82,7 +92,9 @@ impl<'a> OwnerChair<'a> {
     }
 
     pub fn rest(self) -> Rested
-        ensures same { (result.seat.me.0 ≡ self.entry.chair.seat.me.0) × (result.seat.table_id ≡ self.entry.chair.seat.table_id) × (result.spent ≡ self.entry.chair.spent) }
+        ensures same { (result.seat.me.0 ≡ self.entry.chair.seat.me.0)
+            × (result.seat.table_id ≡ self.entry.chair.seat.table_id)
+            × (result.spent ≡ self.entry.chair.spent) }
         ensures owns { result.seat.me.0.owner ≡ true }
     {
         let OwnerChair { chair } = self;
@@ -91,8 +103,12 @@ impl<'a> OwnerChair<'a> {
 
     pub fn split(&mut self) -> ClientChair<'a>
         requires { 2 ≤ self.old.chair.seat.me.0.share }
-        ensures kept { (self.new.chair.seat.me.0 ≡ rest_of self.old.chair.seat.me.0) × (self.new.chair.seat.table_id ≡ self.old.chair.seat.table_id) × (self.new.chair.spent ≡ self.old.chair.spent) }
-        ensures given { (result.chair.seat.me.0 ≡ half self.old.chair.seat.me.0) × (result.chair.seat.table_id ≡ self.old.chair.seat.table_id) × (result.chair.spent ≡ false) }
+        ensures kept { (self.new.chair.seat.me.0 ≡ rest_of self.old.chair.seat.me.0)
+            × (self.new.chair.seat.table_id ≡ self.old.chair.seat.table_id)
+            × (self.new.chair.spent ≡ self.old.chair.spent) }
+        ensures given { (result.chair.seat.me.0 ≡ half self.old.chair.seat.me.0)
+            × (result.chair.seat.table_id ≡ self.old.chair.seat.table_id)
+            × (result.chair.spent ≡ false) }
     {
         ClientChair {
             chair: self.chair.split(),
@@ -101,8 +117,10 @@ impl<'a> OwnerChair<'a> {
 
     pub fn join(&mut self, other: ClientChair<'_>)
         requires { other.chair.seat.table_id ≡ self.old.chair.seat.table_id }
-        ensures joined { self.new.chair.seat.me.0 ≡ learned (joined self.old.chair.seat.me.0 other.entry.chair.seat.me.0) }
-        ensures seen { Begins self.old.chair.seat.me.0.seen self.new.chair.seat.me.0.seen × Begins other.entry.chair.seat.me.0.seen self.new.chair.seat.me.0.seen }
+        ensures joined { self.new.chair.seat.me.0
+            ≡ learned (joined self.old.chair.seat.me.0 other.entry.chair.seat.me.0) }
+        ensures seen { Begins self.old.chair.seat.me.0.seen self.new.chair.seat.me.0.seen
+            × Begins other.entry.chair.seat.me.0.seen self.new.chair.seat.me.0.seen }
         ensures sound { IsSound self.new.chair.seat.me.0 }
         ensures same { self.new.chair.seat.table_id ≡ self.old.chair.seat.table_id }
         ensures spent { self.new.chair.spent ≡ (self.old.chair.spent || other.entry.chair.spent) }
@@ -140,12 +158,16 @@ impl<'a> ClientChair<'a> {
         call: ClientCall,
     ) -> Result<ClientReply, DeskFault>
         requires { call_has_float (show_client_call call) ≡ false }
-        ensures turned { Answered by_client (Client call) self.old.chair.seat.me.0 result self.new.chair.seat.me.0 }
+        ensures turned { Answered by_client
+            (Client call) self.old.chair.seat.me.0 result self.new.chair.seat.me.0 }
         ensures tickets { HasTurn result (TicketsAddUp self.new.chair.seat.me.0) }
         ensures same { self.new.chair.seat.table_id ≡ self.old.chair.seat.table_id }
-        ensures calls { Calls chair_meaning show_client_reply self.old.chair (show_client_call call) result self.new.chair }
-        ensures spent { (n : ℕ) → result ≡ Err (DeskFault.Spent n) → (n ≡ 2 ^ 64 - 1) × (chair_meaning.spent self.new.chair ≡ true) }
-        ensures float_free { IfOk result (λ reply. reply_has_float (show_client_reply reply) ≡ false) }
+        ensures calls { Calls chair_meaning show_client_reply self.old.chair
+            (show_client_call call) result self.new.chair }
+        ensures spent { (n : ℕ) → result ≡ Err (DeskFault.Spent n) → (n ≡ 2 ^ 64 - 1)
+            × (chair_meaning.spent self.new.chair ≡ true) }
+        ensures float_free { IfOk result (λ reply. reply_has_float (show_client_reply reply)
+            ≡ false) }
     {
         self.chair.client_call(rt, call)
     }
@@ -153,7 +175,8 @@ impl<'a> ClientChair<'a> {
     pub fn sit(desk: &'a SharedDesk, rested: Rested) -> ClientChair<'a>
         requires same { rested.seat.table_id ≡ desk.now.table.shared.table_id }
         requires asks { rested.seat.me.0.owner ≡ false }
-        ensures { (result.chair.seat.me.0 ≡ rested.seat.me.0) × (result.chair.seat.table_id ≡ rested.seat.table_id) × (result.chair.spent ≡ rested.spent) }
+        ensures { (result.chair.seat.me.0 ≡ rested.seat.me.0) × (result.chair.seat.table_id
+            ≡ rested.seat.table_id) × (result.chair.spent ≡ rested.spent) }
     {
         ClientChair {
             chair: Chair::sit(desk, rested),
@@ -161,7 +184,9 @@ impl<'a> ClientChair<'a> {
     }
 
     pub fn rest(self) -> Rested
-        ensures same { (result.seat.me.0 ≡ self.entry.chair.seat.me.0) × (result.seat.table_id ≡ self.entry.chair.seat.table_id) × (result.spent ≡ self.entry.chair.spent) }
+        ensures same { (result.seat.me.0 ≡ self.entry.chair.seat.me.0)
+            × (result.seat.table_id ≡ self.entry.chair.seat.table_id)
+            × (result.spent ≡ self.entry.chair.spent) }
         ensures asks { result.seat.me.0.owner ≡ false }
     {
         let ClientChair { chair } = self;
@@ -170,8 +195,12 @@ impl<'a> ClientChair<'a> {
 
     pub fn split(&mut self) -> ClientChair<'a>
         requires { 2 ≤ self.old.chair.seat.me.0.share }
-        ensures kept { (self.new.chair.seat.me.0 ≡ rest_of self.old.chair.seat.me.0) × (self.new.chair.seat.table_id ≡ self.old.chair.seat.table_id) × (self.new.chair.spent ≡ self.old.chair.spent) }
-        ensures given { (result.chair.seat.me.0 ≡ half self.old.chair.seat.me.0) × (result.chair.seat.table_id ≡ self.old.chair.seat.table_id) × (result.chair.spent ≡ false) }
+        ensures kept { (self.new.chair.seat.me.0 ≡ rest_of self.old.chair.seat.me.0)
+            × (self.new.chair.seat.table_id ≡ self.old.chair.seat.table_id)
+            × (self.new.chair.spent ≡ self.old.chair.spent) }
+        ensures given { (result.chair.seat.me.0 ≡ half self.old.chair.seat.me.0)
+            × (result.chair.seat.table_id ≡ self.old.chair.seat.table_id)
+            × (result.chair.spent ≡ false) }
     {
         ClientChair {
             chair: self.chair.split(),
@@ -180,8 +209,10 @@ impl<'a> ClientChair<'a> {
 
     pub fn join(&mut self, other: ClientChair<'_>)
         requires { other.chair.seat.table_id ≡ self.old.chair.seat.table_id }
-        ensures joined { self.new.chair.seat.me.0 ≡ learned (joined self.old.chair.seat.me.0 other.entry.chair.seat.me.0) }
-        ensures seen { Begins self.old.chair.seat.me.0.seen self.new.chair.seat.me.0.seen × Begins other.entry.chair.seat.me.0.seen self.new.chair.seat.me.0.seen }
+        ensures joined { self.new.chair.seat.me.0
+            ≡ learned (joined self.old.chair.seat.me.0 other.entry.chair.seat.me.0) }
+        ensures seen { Begins self.old.chair.seat.me.0.seen self.new.chair.seat.me.0.seen
+            × Begins other.entry.chair.seat.me.0.seen self.new.chair.seat.me.0.seen }
         ensures sound { IsSound self.new.chair.seat.me.0 }
         ensures same { self.new.chair.seat.table_id ≡ self.old.chair.seat.table_id }
         ensures spent { self.new.chair.spent ≡ (self.old.chair.spent || other.entry.chair.spent) }

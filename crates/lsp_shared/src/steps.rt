@@ -33,7 +33,8 @@ pub fn draw(table: &TurnTable, seat: &mut TurnSeat, n: u64) -> bool
     requires share { 0 < seat.old.me.0.share }
     requires small { n + 1 < 2 ^ 64 }
     ensures seat { seat.new.table_id ≡ seat.old.table_id }
-    ensures drawn { MatchBool result (seat.new.me ≡ (drawing seat.old.me.0 n, seat.old.me.1)) (seat.new.me ≡ seat.old.me) }
+    ensures drawn { MatchBool result (seat.new.me ≡ (drawing seat.old.me.0 n, seat.old.me.1))
+        (seat.new.me ≡ seat.old.me) }
 {
     table.compare_exchange::<Draws>(seat, TICKET, n, n + 1) == n
 }
@@ -45,7 +46,8 @@ pub fn take(table: &TurnTable, seat: &mut TurnSeat, t: u64) -> u64
     requires empty { seat.old.me.1 ≡ [] }
     requires share { 0 < seat.old.me.0.share }
     ensures seat { seat.new.table_id ≡ seat.old.table_id }
-    ensures taken { MatchBool (result == t) (GotTurn seat.old.me.0 t seat.new.me) (seat.new.me ≡ seat.old.me) }
+    ensures taken { MatchBool (result == t) (GotTurn seat.old.me.0 t seat.new.me) (seat.new.me
+        ≡ seat.old.me) }
 {
     table.load::<Takes>(seat, SERVING)
 }
@@ -97,7 +99,8 @@ pub fn unite(table: &TurnTable, seat: &mut TurnSeat, other: TurnSeat)
     requires other_owner { other.me.0.owner ≡ false }
     ensures seat { seat.new.table_id ≡ seat.old.table_id }
     ensures joined { seat.new.me ≡ (learned (joined seat.old.me.0 other.me.0), seat.old.me.1) }
-    ensures seen { Begins seat.old.me.0.seen seat.new.me.0.seen × Begins other.me.0.seen seat.new.me.0.seen }
+    ensures seen { Begins seat.old.me.0.seen seat.new.me.0.seen
+        × Begins other.me.0.seen seat.new.me.0.seen }
     ensures sound { IsSound seat.new.me.0 }
 {
     table.join_seat::<Joins>(seat, other);

@@ -25,7 +25,9 @@ pub fn draw_turn<R: Wait>(rt: &R, table: &TurnTable, seat: &mut TurnSeat) -> Opt
     requires share { 0 < seat.old.me.0.share }
     ensures seat { seat.new.table_id ≡ seat.old.table_id }
     ensures small { IfSome result (λ n. n + 1 < 2 ^ 64) }
-    ensures drawn { MatchOption result (seat.new.me ≡ (reading seat.old.me.0 (2 ^ 64 - 1), seat.old.me.1)) (λ n. seat.new.me ≡ (drawing (reading seat.old.me.0 n) n, seat.old.me.1)) }
+    ensures drawn { MatchOption result (seat.new.me
+        ≡ (reading seat.old.me.0 (2 ^ 64 - 1), seat.old.me.1)) (λ n. seat.new.me
+        ≡ (drawing (reading seat.old.me.0 n) n, seat.old.me.1)) }
 {
     for _ in rt.forever() {
         let n = look(table, seat);
@@ -108,7 +110,8 @@ pub fn client_turn<N: Note, R: Wait>(
     ensures once { (n : ℕ) → times n seat.new.me.0.made ≤ 1 }
     ensures seen { length seat.new.me.0.seen ≡ result.1 }
     ensures spent { (n : ℕ) → result.0 ≡ Err (DeskFault.Spent n) → n ≡ 2 ^ 64 - 1 }
-    ensures float_free { IfOk result.0 (λ reply. reply_has_float (show_client_reply reply) ≡ false) }
+    ensures float_free { IfOk result.0 (λ reply. reply_has_float (show_client_reply reply)
+        ≡ false) }
 {
     let Some(t) = draw_turn(rt, table, seat) else {
         return (Err(DeskFault::Spent(u64::MAX)), seen);
@@ -164,7 +167,8 @@ pub fn server_turn<N: Note, R: Wait>(
     ensures once { (n : ℕ) → times n seat.new.me.0.made ≤ 1 }
     ensures seen { length seat.new.me.0.seen ≡ result.1 }
     ensures spent { (n : ℕ) → result.0 ≡ Err (DeskFault.Spent n) → n ≡ 2 ^ 64 - 1 }
-    ensures float_free { IfOk result.0 (λ reply. reply_has_float (show_server_reply reply) ≡ false) }
+    ensures float_free { IfOk result.0 (λ reply. reply_has_float (show_server_reply reply)
+        ≡ false) }
 {
     let Some(t) = draw_turn(rt, table, seat) else {
         return (Err(DeskFault::Spent(u64::MAX)), seen);

@@ -1,0 +1,15 @@
+-- A list of entries, each with a number, a key and a value. The numbers rise.
+use Rattle.std.specs.Prelude.{ℕ, ◌<◌, ◌==◌, List, [], ◌∷◌, Bool}
+
+module _ {K V : Type 0} where
+  -- the entry has a key that is equal to this one
+  abbrev pub has_key : (K → K → Bool) → K → ℕ × (K × V) → Bool
+  has_key eq key e = eq key e.1.0
+
+  abbrev pub has_number : ℕ → ℕ × (K × V) → Bool
+  has_number n e = n == e.0
+
+  -- n is above each number
+  abbrev pub IsAbove : ℕ → List (ℕ × (K × V)) → Type 0
+  IsAbove n [] = Unit {0}
+  IsAbove n (e ∷ es) = (e.0 < n) × IsAbove n es

@@ -1,0 +1,19 @@
+-- The live ids as the code keeps them.
+use Rattle.std.specs.Prelude.{◌≡◌, ℕ, ◌++◌, List, [], ◌∷◌, map, Bool, false, ◌||◌}
+use Rattle.std.specs.List.{list_any}
+use Rattle.lsp_rpc.specs.Message.{IdData}
+use Rattle.lsp_rpc.specs.Ids.{same_id}
+use Rattle.lsp_rpc.specs.Shown.{show_id}
+use Rattle.lsp_rpc.specs.declared.id.Id.{Id}
+
+abbrev pub ids_of : {X : Type 0} → List (ℕ × (Id × X)) → List IdData
+ids_of es = map (λ e. show_id e.1.0) es
+
+-- two of them are equal
+abbrev pub have_repeats : {X : Type 0} → List (ℕ × (Id × X)) → Bool
+have_repeats [] = false
+have_repeats (e ∷ es) = list_any (λ x. same_id (show_id e.1.0) (show_id x.1.0)) es || have_repeats es
+
+-- this id, behind the others
+abbrev pub IsPushed : {X : Type 0} → Id → List (ℕ × (Id × X)) → List (ℕ × (Id × X)) → Type 0
+IsPushed {X} id old new = (n : ℕ) × ((x : X) × (new ≡ old ++ (n, (id, x)) ∷ []))
