@@ -1,3 +1,4 @@
 mod ParamsLemmas
-mod RunLemmas
+pub mod RunLemmas
 mod WordsLemmas
+pub mod BulkLemmas

@@ -5,3 +5,5 @@ pub mod Sample
 pub mod SampleLaws
 pub mod Words
 pub mod Run
+pub mod Bulk
+pub mod Tally

@@ -18,6 +18,9 @@ use Rattle.lsp_server.specs.Served.{CallBytes, ServedView}
 use Rattle.lsp_sample.specs.declared.sample.Sample.{Sample}
 use Rattle.lsp_sample.specs.declared.command.Waiting.{Waiting}
 use Rattle.lsp_sample.specs.declared.words.Setting.{Setting}
+use Rattle.lsp_sample.specs.declared.words.MadeUp.{MadeUp}
+use Rattle.lsp_sample.specs.declared.words.Form.{Form}
+use Rattle.lsp_sample.specs.declared.words.Form.TheVariants.{Serve, Bulk}
 use Rattle.lsp_sample.specs.Calls.{CallData}
 use Rattle.lsp_sample.specs.Sample.{sample_semantics}
 use Rattle.lsp_sample.specs.Words.{asked}
@@ -86,6 +89,20 @@ IsShutDown exited = exited ≡ Some ShutDown
 abbrev pub IsNotShutDown : Option Life → Type 0
 IsNotShutDown exited = exited ≢ Some ShutDown
 
+-- where the form is one of serving, over a source that tells its bytes
+abbrev pub OfServing : Option (List ℕ) → (Setting → List ℕ → Type 0) → Form → Type 0
+OfServing left P (Serve setting) = IfSome left (P setting)
+OfServing left P (Bulk session) = Unit {0}
+
+-- where the form is that of a made-up session
+abbrev pub OfMadeUp : (MadeUp → Type 0) → Form → Type 0
+OfMadeUp P (Serve setting) = Unit {0}
+OfMadeUp P (Bulk session) = P session
+
 -- the arguments are a form of serving, over a source that tells its bytes: this holds of their setting and these bytes
 abbrev pub WhereTold : List (String Global) → Option (List ℕ) → (Setting → List ℕ → Type 0) → Type 0
-WhereTold words left P = IfSome (asked words) (λ setting. IfSome left (P setting))
+WhereTold words left P = IfSome (asked words) (OfServing left P)
+
+-- the arguments are those of a made-up session, of which this holds
+abbrev pub WhereMadeUp : List (String Global) → (MadeUp → Type 0) → Type 0
+WhereMadeUp words P = IfSome (asked words) (OfMadeUp P)

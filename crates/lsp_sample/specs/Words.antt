@@ -1,9 +1,12 @@
 -- The forms of the program's arguments.
-use Rattle.std.specs.Prelude.{ℕ, ◌^◌, ◌&&◌, List, [], ◌∷◌, length, nat_lt, if◌then◌else◌, bytes_eq, codes, Option, Some, None, option_and_then, option_map, map, String, string_bytes}
+use Rattle.std.specs.Prelude.{ℕ, ◌^◌, ◌≤◌, ◌&&◌, List, [], ◌∷◌, length, nat_lt, if◌then◌else◌, bytes_eq, codes, Option, Some, None, option_and_then, option_map, map, String, string_bytes}
 use Rattle.std.specs.declared.alloc.Global.{Global}
 use Rattle.std.specs.Str.{all_ascii_digits}
 use Rattle.std.specs.Str.Parse.{digits_value}
 use Rattle.lsp_sample.specs.declared.words.Setting.{Setting}
+use Rattle.lsp_sample.specs.declared.words.MadeUp.{MadeUp}
+use Rattle.lsp_sample.specs.declared.words.Form.{Form}
+use Rattle.lsp_sample.specs.declared.words.Form.TheVariants.{Serve, Bulk}
 
 -- decimal digits alone, at least one, of a number within 64 bits
 abbrev pub number_of : List ℕ → Option ℕ
@@ -23,14 +26,29 @@ default_setting = record { max = 4; rounds = 8 }
 abbrev pub numbers_of : List ℕ → List ℕ → Option Setting
 numbers_of max rounds = option_and_then (λ m. option_map (λ r. record { max = m; rounds = r }) (positive_of rounds)) (positive_of max)
 
--- none, `serve`, or `serve MAX ROUNDS`
-abbrev pub setting_of : List (List ℕ) → Option Setting
-setting_of [] = Some default_setting
-setting_of (word ∷ []) = if bytes_eq word (codes "serve") then Some default_setting else None
-setting_of (word ∷ max ∷ []) = None
-setting_of (word ∷ max ∷ rounds ∷ []) = if bytes_eq word (codes "serve") then numbers_of max rounds else None
-setting_of (word ∷ max ∷ rounds ∷ more ∷ words) = None
+-- a number from 1 to 100,000
+abbrev pub count_of : List ℕ → Option ℕ
+count_of word = option_and_then (λ n. if nat_lt 100000 n then None else Some n) (positive_of word)
+
+-- `SEED COUNT`
+abbrev pub session_of : List ℕ → List ℕ → Option MadeUp
+session_of seed count = option_and_then (λ s. option_map (λ c. record { seed = s; count = c }) (count_of count)) (number_of seed)
+
+-- none, `serve`, `serve MAX ROUNDS`, or `bulk SEED COUNT`
+abbrev pub form_of : List (List ℕ) → Option Form
+form_of [] = Some (Serve default_setting)
+form_of (word ∷ []) = if bytes_eq word (codes "serve") then Some (Serve default_setting) else None
+form_of (word ∷ first ∷ []) = None
+form_of (word ∷ first ∷ second ∷ []) =
+    if bytes_eq word (codes "serve") then option_map Serve (numbers_of first second)
+    else (if bytes_eq word (codes "bulk") then option_map Bulk (session_of first second) else None)
+form_of (word ∷ first ∷ second ∷ more ∷ words) = None
 
 -- what the arguments ask for
-abbrev pub asked : List (String Global) → Option Setting
-asked words = setting_of (map string_bytes words)
+abbrev pub asked : List (String Global) → Option Form
+asked words = form_of (map string_bytes words)
+
+-- the numbers are within their bounds
+abbrev pub IsForm : Form → Type 0
+IsForm (Serve setting) = (1 ≤ setting.max) × (1 ≤ setting.rounds)
+IsForm (Bulk session) = session.count ≤ 100000

@@ -54,7 +54,8 @@ pub(crate) fn read_command(params: &Value) -> Result<Option<Command>, NoMemory>
 
 // The command of that name with this argument alone.
 fn named(name: &str, argument: Option<&Value>) -> Result<Command, NoMemory>
-    ensures { IfOk result (λ c. show_command c ≡ command_lem name.now (option_map (λ v. view v.now) argument.entry)) }
+    ensures { IfOk result (λ c. show_command c
+        ≡ command_lem name.now (option_map (λ v. view v.now) argument.entry)) }
 {
     match name {
         "echo" => echo(argument),
@@ -64,7 +65,8 @@ fn named(name: &str, argument: Option<&Value>) -> Result<Command, NoMemory>
 }
 
 fn echo(argument: Option<&Value>) -> Result<Command, NoMemory>
-    ensures { IfOk result (λ c. show_command c ≡ echo_lem (option_map (λ v. view v.now) argument.entry)) }
+    ensures { IfOk result (λ c. show_command c
+        ≡ echo_lem (option_map (λ v. view v.now) argument.entry)) }
 {
     match argument {
         Some(value) => Ok(Command::Echo(value.clone()?)),

@@ -1,7 +1,9 @@
 //! A small language server, served over standard input and output.
 #![tactic(auto)]
 
+mod bulk;
 mod command;
+mod line;
 #[cfg(test)]
 mod round_trips;
 mod run;
@@ -19,7 +21,7 @@ use std::io::{BufWriter, ErrorKind};
 use std::process::ExitCode;
 use std::rt::Env;
 use std::{env, io};
-pub use words::Setting;
+pub use words::{Form, MOST, MadeUp, Setting};
 
 /// The program's arguments, without its own name.
 fn arguments(rt: &(impl Env + Alloc<A = Global>)) -> io::Result<Vec<String>> {

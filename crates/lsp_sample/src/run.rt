@@ -6,9 +6,11 @@ ghost use Rattle.lsp_desk.specs.Plain.{plain_meaning};
 ghost use Rattle.lsp_server.specs.Served.{call_bytes};
 ghost use Rattle.lsp_server.specs.ServerView.{server_desk, setting as setting_lem};
 ghost use Rattle.lsp_sample.specs.Words.{asked};
-ghost use Rattle.lsp_sample.specs.Run.{sample, server_setting, status_at as status_at_lem, status_of as status_of_lem, Served as SampleServed, WhereTold, IsShutDown, IsNotShutDown, WroteTold, WrotePart};
+ghost use Rattle.lsp_sample.specs.Bulk.{WroteSummary, WroteSome};
+ghost use Rattle.lsp_sample.specs.Run.{sample, server_setting, status_at as status_at_lem, status_of as status_of_lem, Served as SampleServed, WhereTold, WhereMadeUp, IsShutDown, IsNotShutDown, WroteTold, WrotePart};
 
-use crate::words::read_words;
+use crate::bulk::bulk;
+use crate::words::{Form, read_words};
 use crate::{Sample, Setting};
 use lsp_desk::{ClientSocket, PlainDesk};
 use lsp_server::{ServeError, Server, Sink, Source};
@@ -41,7 +43,9 @@ pub enum Status {
 ///
 /// With no arguments, or with `serve`, it serves a [`Sample`] to the end of input or the first `exit`: at most
 /// 4 calls are polled at a time, in 8 rounds after each message. `serve MAX ROUNDS` sets these two
-/// numbers. With other arguments nothing is read or written.
+/// numbers. `bulk SEED COUNT` reads nothing: it serves a made-up session of COUNT messages in memory, as
+/// `serve` does, and writes one line that sums up what the server wrote. With other arguments nothing is
+/// read or written.
 pub fn run<I: Source, O: Sink>(
     alloc: Global,
     words: &Vec<String>,
@@ -52,64 +56,106 @@ pub fn run<I: Source, O: Sink>(
 
     // The arguments.
     ensures usage { (result ≡ 2) ↔ (asked words.now.items ≡ None) }
-    ensures untouched { asked words.now.items ≡ None → (source.new ≡ source.old) × (sink.new ≡ sink.old) }
+    ensures untouched { asked words.now.items ≡ None → (source.new ≡ source.old)
+        × (sink.new ≡ sink.old) }
 
     // What is written is a session over all the source's bytes.
     ensures done { result ≡ 0 → WhereTold words.now.items (I.left source.old) (λ setting bytes.
-        SampleServed setting (call_bytes bytes (I.left source.new) (O.taken sink.old) (O.taken sink.new)) IsShutDown) }
-    ensures unfinished { result ≡ 1 → WhereTold words.now.items (I.left source.old) (λ setting bytes.
-        SampleServed setting (call_bytes bytes (I.left source.new) (O.taken sink.old) (O.taken sink.new)) IsNotShutDown) }
+        SampleServed setting (call_bytes bytes (I.left source.new) (O.taken sink.old)
+        (O.taken sink.new)) IsShutDown) }
+    ensures unfinished { result ≡ 1
+        → WhereTold words.now.items (I.left source.old) (λ setting bytes.
+        SampleServed setting (call_bytes bytes (I.left source.new) (O.taken sink.old)
+        (O.taken sink.new)) IsNotShutDown) }
 
     // What was written is flushed.
     ensures flushed { (result ≤ 1) ⊎ (result ≡ 3) ⊎ (result ≡ 5)
-        → IsFlushed (O.taken sink.old) (O.flushed sink.old) → IsFlushed (O.taken sink.new) (O.flushed sink.new) }
+        → IsFlushed (O.taken sink.old) (O.flushed sink.old)
+        → IsFlushed (O.taken sink.new) (O.flushed sink.new) }
 
     // Each failure has its cause, and is told.
     ensures read { result ≡ 3 → CountRose (I.faults source.old) (I.faults source.new) }
     ensures write { result ≡ 4 → CountRose (O.faults sink.old) (O.faults sink.new) }
-    ensures spent { result ≡ 5 → IfSome (I.left source.old) (λ bytes. IfSome (I.left source.new) (λ rest.
+    ensures spent { result ≡ 5
+        → IfSome (I.left source.old) (λ bytes. IfSome (I.left source.new) (λ rest.
         2 ^ 64 - 1 + length rest ≤ length bytes)) }
     ensures read_told { I.faults source.old < I.faults source.new → result ≡ 3 }
     ensures write_told { O.faults sink.old < O.faults sink.new → result ≡ 4 }
 
     // So with no failure, and with fewer bytes than reads, only memory may be wanting.
-    ensures complete { WhereTold words.now.items (I.left source.old) (λ _ bytes. length bytes < 2 ^ 64 - 1
-        → ¬ CountRose (I.faults source.old) (I.faults source.new) → ¬ CountRose (O.faults sink.old) (O.faults sink.new)
+    ensures complete { WhereTold words.now.items (I.left source.old)
+        (λ _ bytes. length bytes < 2 ^ 64 - 1
+        → ¬ CountRose (I.faults source.old) (I.faults source.new)
+        → ¬ CountRose (O.faults sink.old) (O.faults sink.new)
         → (result ≤ 1) ⊎ (result ≡ 6)) }
 
     // What was written by then.
-    ensures exact { (result ≡ 3) ⊎ (result ≡ 5) → WhereTold words.now.items (I.left source.old) (λ setting bytes.
-        WroteTold setting (call_bytes bytes (I.left source.new) (O.taken sink.old) (O.taken sink.new))) }
+    ensures exact { (result ≡ 3) ⊎ (result ≡ 5)
+        → WhereTold words.now.items (I.left source.old) (λ setting bytes.
+        WroteTold setting (call_bytes bytes (I.left source.new) (O.taken sink.old)
+        (O.taken sink.new))) }
     ensures part { 3 ≤ result → WhereTold words.now.items (I.left source.old) (λ setting bytes.
-        WrotePart setting (call_bytes bytes (I.left source.new) (O.taken sink.old) (O.taken sink.new))) }
+        WrotePart setting (call_bytes bytes (I.left source.new) (O.taken sink.old)
+        (O.taken sink.new))) }
+
+    // A made-up session is served in memory, and its summary is written.
+    ensures bulk { result ≡ 0
+        → WhereMadeUp words.now.items (λ session. WroteSummary session (O.taken sink.old)
+        (O.taken sink.new)) }
+    ensures bulk_part { 3 ≤ result
+        → WhereMadeUp words.now.items (λ session. WroteSome session (O.taken sink.old)
+        (O.taken sink.new)) }
+    ensures bulk_known { WhereMadeUp words.now.items (λ _. (result ≡ 0) ⊎ (result ≡ 4)
+        ⊎ (result ≡ 6)) }
+    ensures bulk_unread { WhereMadeUp words.now.items (λ _. source.new ≡ source.old) }
+    ensures bulk_complete { WhereMadeUp words.now.items (λ _. ¬ CountRose (O.faults sink.old)
+        (O.faults sink.new) → (result ≡ 0) ⊎ (result ≡ 6)) }
 {
     match read_words(words) {
-        Some(setting) => serve(alloc, setting, source, sink),
+        Some(Form::Serve(setting)) => serve(alloc, setting, source, sink),
+        Some(Form::Bulk(session)) => bulk(alloc, session, sink),
         None => Status::Usage as u8,
     }
 }
 
 // Serves the sample over a new desk.
-fn serve<I: Source, O: Sink>(alloc: Global, setting: Setting, source: &mut I, sink: &mut O) -> u8
+pub(crate) fn serve<I: Source, O: Sink>(
+    alloc: Global,
+    setting: Setting,
+    source: &mut I,
+    sink: &mut O,
+) -> u8
     requires max { 1 ≤ setting.max }
     requires rounds { 1 ≤ setting.rounds }
     ensures known { result ≤ 6 }
     ensures form { result ≢ 2 }
-    ensures done { result ≡ 0 → IfSome (I.left source.old) (λ bytes. SampleServed setting (call_bytes bytes (I.left source.new) (O.taken sink.old) (O.taken sink.new)) IsShutDown) }
-    ensures unfinished { result ≡ 1 → IfSome (I.left source.old) (λ bytes. SampleServed setting (call_bytes bytes (I.left source.new) (O.taken sink.old) (O.taken sink.new)) IsNotShutDown) }
+    ensures done { result ≡ 0
+        → IfSome (I.left source.old) (λ bytes. SampleServed setting
+        (call_bytes bytes (I.left source.new) (O.taken sink.old) (O.taken sink.new)) IsShutDown) }
+    ensures unfinished { result ≡ 1
+        → IfSome (I.left source.old) (λ bytes. SampleServed setting
+        (call_bytes bytes (I.left source.new) (O.taken sink.old)
+        (O.taken sink.new)) IsNotShutDown) }
     ensures flushed { (result ≤ 1) ⊎ (result ≡ 3) ⊎ (result ≡ 5)
-        → IsFlushed (O.taken sink.old) (O.flushed sink.old) → IsFlushed (O.taken sink.new) (O.flushed sink.new) }
+        → IsFlushed (O.taken sink.old) (O.flushed sink.old)
+        → IsFlushed (O.taken sink.new) (O.flushed sink.new) }
     ensures read { result ≡ 3 → CountRose (I.faults source.old) (I.faults source.new) }
     ensures write { result ≡ 4 → CountRose (O.faults sink.old) (O.faults sink.new) }
-    ensures spent { result ≡ 5 → IfSome (I.left source.old) (λ bytes. IfSome (I.left source.new) (λ rest.
+    ensures spent { result ≡ 5
+        → IfSome (I.left source.old) (λ bytes. IfSome (I.left source.new) (λ rest.
         2 ^ 64 - 1 + length rest ≤ length bytes)) }
     ensures read_told { I.faults source.old < I.faults source.new → result ≡ 3 }
     ensures write_told { O.faults sink.old < O.faults sink.new → result ≡ 4 }
     ensures complete { IfSome (I.left source.old) (λ bytes. length bytes < 2 ^ 64 - 1
-        → ¬ CountRose (I.faults source.old) (I.faults source.new) → ¬ CountRose (O.faults sink.old) (O.faults sink.new)
+        → ¬ CountRose (I.faults source.old) (I.faults source.new)
+        → ¬ CountRose (O.faults sink.old) (O.faults sink.new)
         → (result ≤ 1) ⊎ (result ≡ 6)) }
-    ensures exact { (result ≡ 3) ⊎ (result ≡ 5) → IfSome (I.left source.old) (λ bytes. WroteTold setting (call_bytes bytes (I.left source.new) (O.taken sink.old) (O.taken sink.new))) }
-    ensures part { 3 ≤ result → IfSome (I.left source.old) (λ bytes. WrotePart setting (call_bytes bytes (I.left source.new) (O.taken sink.old) (O.taken sink.new))) }
+    ensures exact { (result ≡ 3) ⊎ (result ≡ 5)
+        → IfSome (I.left source.old) (λ bytes. WroteTold setting
+        (call_bytes bytes (I.left source.new) (O.taken sink.old) (O.taken sink.new))) }
+    ensures part { 3 ≤ result
+        → IfSome (I.left source.old) (λ bytes. WrotePart setting
+        (call_bytes bytes (I.left source.new) (O.taken sink.old) (O.taken sink.new))) }
 {
     match sample_server(alloc, setting.max).serve(
         alloc,
@@ -129,7 +175,8 @@ fn serve<I: Source, O: Sink>(alloc: Global, setting: Setting, source: &mut I, si
 fn sample_server(alloc: Global, max: usize) -> Server<PlainDesk>
     requires { 1 ≤ max }
     ensures opening { IsOpening plain_meaning (server_desk result) }
-    ensures setting { (rounds : ℕ) → setting_lem result sample tt rounds ≡ server_setting (server_desk result) max rounds }
+    ensures setting { (rounds : ℕ) → setting_lem result sample tt rounds
+        ≡ server_setting (server_desk result) max rounds }
 {
     Server::new(ClientSocket::new(PlainDesk::new(alloc))).concurrency_level(max)
 }

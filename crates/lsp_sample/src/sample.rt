@@ -138,7 +138,8 @@ fn capabilities(alloc: Global) -> Result<Value, NoMemory>
 
 // A log message of type 3, that of information (LSP 3.17, "LogMessage Notification").
 fn greeting(alloc: Global) -> Result<ClientCall, NoMemory>
-    ensures { IfOk result (λ c. show_client_call c ≡ Tell (codes "window/logMessage") greeting_lem false) }
+    ensures { IfOk result (λ c. show_client_call c
+        ≡ Tell (codes "window/logMessage") greeting_lem false) }
 {
     let method = String::from_str(alloc, "window/logMessage")?;
     match json!(in alloc; {"message": "server initialized!", "type": 3}) {
@@ -153,7 +154,8 @@ fn greeting(alloc: Global) -> Result<ClientCall, NoMemory>
 
 // What the first poll of a command comes to.
 fn execute(alloc: Global, command: Command) -> Result<Progress<Waiting>, NoMemory>
-    ensures { IfOk result (λ progress. show_progress sample_semantics progress ≡ first (Execute (show_command command))) }
+    ensures { IfOk result (λ progress. show_progress sample_semantics progress
+        ≡ first (Execute (show_command command))) }
 {
     match command {
         Command::Echo(value) => Ok(Progress::Done(Ok(value))),

@@ -623,3 +623,26 @@ fn texts_of_errors(rt: HostRuntime) -> Result<(), Fail> {
     }
     Ok(())
 }
+
+// The line that `bulk` writes for these words, without a read.
+fn line_of(rt: &impl Abort, alloc: Global, texts: &[&str]) -> Result<Vec<u8>, Fail> {
+    let words = words_of(alloc, texts)?;
+    let mut source = MemorySource::new(Vec::new(alloc), 1, vec![in alloc; 1]?);
+    let mut sink = NeverSink::new(alloc);
+    assert_eq!(rt; run(alloc, &words, &mut source, &mut sink), 0);
+    Ok(copied(alloc, sink.bytes())?)
+}
+
+#[test]
+fn made_up_sessions(rt: HostRuntime) -> Result<(), Fail> {
+    let alloc = rt.alloc();
+    let line = line_of(&rt, alloc, &["bulk", "0", "2"])?;
+    assert!(rt; line.as_slice() == b"replies 4 errors 1 messages 0 bytes 289\n".as_slice());
+    let first = line_of(&rt, alloc, &["bulk", "7", "100000"])?;
+    let second = line_of(&rt, alloc, &["bulk", "7", "100000"])?;
+    assert!(rt;
+        first.as_slice() == b"replies 80110 errors 40083 messages 19892 bytes 9388599\n".as_slice()
+    );
+    assert!(rt; first.as_slice() == second.as_slice());
+    Ok(())
+}

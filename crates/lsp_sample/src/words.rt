@@ -1,6 +1,6 @@
 // What the program's arguments ask for.
 ghost use Rattle.std.specs.Prelude.{◌≡◌, ◌≤◌, IfSome};
-ghost use Rattle.lsp_sample.specs.Words.{number_of, positive_of, numbers_of, asked};
+ghost use Rattle.lsp_sample.specs.Words.{number_of, positive_of, count_of, numbers_of, session_of, asked, IsForm};
 
 /// How a session is served.
 #[derive(Clone, Copy, Debug, PartialEq, Eq)]
@@ -11,18 +11,44 @@ pub struct Setting {
     pub rounds: u64,
 }
 
-const DEFAULT: Setting = Setting { max: 4, rounds: 8 };
+/// How a session is made up.
+#[derive(Clone, Copy, Debug, PartialEq, Eq)]
+pub struct MadeUp {
+    /// Where the drawing of messages begins.
+    pub seed: u64,
+    /// How many messages stand between `initialize` and `shutdown`.
+    pub count: u64,
+}
 
-/// The setting that the arguments ask for: none, `serve`, or `serve MAX ROUNDS`, where both are decimal
-/// numbers of at least 1.
-pub(crate) fn read_words(words: &Vec<String>) -> Option<Setting>
+/// What the program does.
+#[derive(Clone, Copy, Debug, PartialEq, Eq)]
+pub enum Form {
+    /// Serves a session over its source and its sink.
+    Serve(Setting),
+    /// Serves a made-up session in memory, and writes its summary.
+    Bulk(MadeUp),
+}
+
+pub(crate) const DEFAULT: Setting = Setting { max: 4, rounds: 8 };
+
+/// The most messages of a made-up session.
+pub const MOST: u64 = 100_000;
+
+/// What the arguments ask for: none, `serve`, `serve MAX ROUNDS`, or `bulk SEED COUNT`, where all are
+/// decimal numbers, MAX and ROUNDS of at least 1 and COUNT from 1 to [`MOST`].
+pub(crate) fn read_words(words: &Vec<String>) -> Option<Form>
     ensures value { result ≡ asked words.now.items }
-    ensures positive { IfSome result (λ setting. (1 ≤ setting.max) × (1 ≤ setting.rounds)) }
+    ensures form { IfSome result IsForm }
 {
     match words.as_slice() {
-        [] => Some(DEFAULT),
-        [word] if word.as_str() == "serve" => Some(DEFAULT),
-        [word, max, rounds] if word.as_str() == "serve" => numbers(max.as_str(), rounds.as_str()),
+        [] => Some(Form::Serve(DEFAULT)),
+        [word] if word.as_str() == "serve" => Some(Form::Serve(DEFAULT)),
+        [word, max, rounds] if word.as_str() == "serve" => {
+            Some(Form::Serve(numbers(max.as_str(), rounds.as_str())?))
+        }
+        [word, seed, count] if word.as_str() == "bulk" => {
+            Some(Form::Bulk(session(seed.as_str(), count.as_str())?))
+        }
         _ => None,
     }
 }
@@ -36,6 +62,26 @@ fn numbers(max: &str, rounds: &str) -> Option<Setting>
             max: max as usize,
             rounds,
         }),
+        _ => None,
+    }
+}
+
+fn session(seed: &str, count: &str) -> Option<MadeUp>
+    ensures value { result ≡ session_of seed.now count.now }
+    ensures few { IfSome result (λ session. session.count ≤ MOST) }
+{
+    match (number(seed), few(count)) {
+        (Some(seed), Some(count)) => Some(MadeUp { seed, count }),
+        _ => None,
+    }
+}
+
+fn few(word: &str) -> Option<u64>
+    ensures value { result ≡ count_of word.now }
+    ensures few { IfSome result (λ n. n ≤ MOST) }
+{
+    match positive(word) {
+        Some(n) if n <= MOST => Some(n),
         _ => None,
     }
 }

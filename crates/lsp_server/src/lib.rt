@@ -8,8 +8,6 @@ mod serving;
 mod sink;
 mod source;
 mod step;
-#[cfg(test)]
-mod tests;
 mod write;
 
 pub use memory::{MemorySink, MemorySource, NeverSink, NeverSource};
@@ -18,3 +16,4 @@ pub use server::{Served, Server, Stopped};
 pub use sink::{Refused, Sink};
 pub use source::{Failed, Source};
 pub use step::ServeError;
+pub use write::write_all;

@@ -36,15 +36,18 @@ impl<R: Read> Source for ReadSource<R> {
     fn read(&mut self, piece: &mut [u8]) -> Result<usize, Failed>
         requires { 0 < length piece.old }
         ensures within { IfOk result (λ n. n ≤ length piece.new) }
-        ensures gives { IfOk result (λ n. Consumes (R.remaining (reader_of self.old)) (R.remaining (reader_of self.new)) (take n piece.new)) }
+        ensures gives { IfOk result (λ n. Consumes (R.remaining (reader_of self.old))
+            (R.remaining (reader_of self.new)) (take n piece.new)) }
         ensures ends { IfOk result (λ n. EndsAt (R.remaining (reader_of self.old)) n) }
-        ensures kept { OnErr result (Keeps (R.remaining (reader_of self.old)) (R.remaining (reader_of self.new))) }
+        ensures kept { OnErr result (Keeps (R.remaining (reader_of self.old))
+            (R.remaining (reader_of self.new))) }
         ensures count { failed_reads self.old ≤ failed_reads self.new }
         ensures cause { OnErr result (CountRose (failed_reads self.old) (failed_reads self.new)) }
         ensures unfailed { OnOk result (failed_reads self.new ≡ failed_reads self.old) }
 
         // A failed read is counted once, up to the count's last value.
-        ensures one_more { OnErr result (failed_reads self.new ≡ next_number (failed_reads self.old)) }
+        ensures one_more { OnErr result (failed_reads self.new
+            ≡ next_number (failed_reads self.old)) }
     {
         match self.reader.read(piece) {
             Ok(n) => Ok(n),
@@ -88,17 +91,22 @@ impl<W: Write> Sink for WriteSink<W> {
         requires { 0 < length piece.now }
         ensures within { IfOk result (λ n. n ≤ length piece.now) }
         ensures some { IfOk result (λ n. 0 < n) }
-        ensures takes { IfOk result (λ n. Appends (W.contents (writer_of self.old)) (W.contents (writer_of self.new)) (take n piece.now)) }
-        ensures kept { OnErr result (Keeps (W.contents (writer_of self.old)) (W.contents (writer_of self.new))) }
+        ensures takes { IfOk result (λ n. Appends (W.contents (writer_of self.old))
+            (W.contents (writer_of self.new)) (take n piece.now)) }
+        ensures kept { OnErr result (Keeps (W.contents (writer_of self.old))
+            (W.contents (writer_of self.new))) }
         ensures flushed { known_flushed self.new ≡ known_flushed self.old }
         ensures count { failed_writes self.old ≤ failed_writes self.new }
-        ensures cause { IsErrOf result Refused.Failed → CountRose (failed_writes self.old) (failed_writes self.new) }
+        ensures cause { IsErrOf result Refused.Failed
+            → CountRose (failed_writes self.old) (failed_writes self.new) }
         ensures unfailed { OnOk result (failed_writes self.new ≡ failed_writes self.old) }
-        ensures no_memory { IsErrOf result Refused.NoMemory → failed_writes self.new ≡ failed_writes self.old }
+        ensures no_memory { IsErrOf result Refused.NoMemory → failed_writes self.new
+            ≡ failed_writes self.old }
 
         // A refused write failed, and is counted once, up to the count's last value.
         ensures only { OnErr result (IsErrOf result Refused.Failed) }
-        ensures one_more { OnErr result (failed_writes self.new ≡ next_number (failed_writes self.old)) }
+        ensures one_more { OnErr result (failed_writes self.new
+            ≡ next_number (failed_writes self.old)) }
     {
         match self.writer.write(piece) {
             Ok(n) if n > 0 => Ok(n),
@@ -111,16 +119,20 @@ impl<W: Write> Sink for WriteSink<W> {
 
     fn flush(&mut self) -> Result<(), Refused>
         ensures taken { Keeps (W.contents (writer_of self.old)) (W.contents (writer_of self.new)) }
-        ensures flushes { OnOk result (Flushes (W.contents (writer_of self.old)) (known_flushed self.old) (known_flushed self.new)) }
+        ensures flushes { OnOk result (Flushes (W.contents (writer_of self.old))
+            (known_flushed self.old) (known_flushed self.new)) }
         ensures kept { OnErr result (known_flushed self.new ≡ known_flushed self.old) }
         ensures count { failed_writes self.old ≤ failed_writes self.new }
-        ensures cause { IsErrOf result Refused.Failed → CountRose (failed_writes self.old) (failed_writes self.new) }
+        ensures cause { IsErrOf result Refused.Failed
+            → CountRose (failed_writes self.old) (failed_writes self.new) }
         ensures unfailed { OnOk result (failed_writes self.new ≡ failed_writes self.old) }
-        ensures no_memory { IsErrOf result Refused.NoMemory → failed_writes self.new ≡ failed_writes self.old }
+        ensures no_memory { IsErrOf result Refused.NoMemory → failed_writes self.new
+            ≡ failed_writes self.old }
 
         // A refused flush failed, and is counted once, up to the count's last value.
         ensures only { OnErr result (IsErrOf result Refused.Failed) }
-        ensures one_more { OnErr result (failed_writes self.new ≡ next_number (failed_writes self.old)) }
+        ensures one_more { OnErr result (failed_writes self.new
+            ≡ next_number (failed_writes self.old)) }
     {
         match self.writer.flush() {
             Ok(()) => Ok(()),
@@ -134,97 +146,3 @@ impl<W: Write> Sink for WriteSink<W> {
 
 // What no clause says: that each call makes one call of the reader or the writer, and what a failed
 // one is answered.
-#[cfg(test)]
-mod tests {
-    use super::*;
-    use std::io;
-    use std::io::ErrorKind;
-    use std::test::Fail;
-
-    // A writer that counts its calls. Each write takes so many bytes at most, or each call fails.
-    #[derive(Drop)]
-    struct Counted {
-        most: Option<usize>,
-        writes: u32,
-        flushes: u32,
-    }
-
-    impl Write for Counted {
-        fn write(&mut self, piece: &[u8]) -> io::Result<usize> {
-            self.writes = self.writes.saturating_add(1);
-            match self.most {
-                Some(most) => Ok(most.min(piece.len())),
-                None => Err(io::Error::from(ErrorKind::BrokenPipe)),
-            }
-        }
-
-        fn flush(&mut self) -> io::Result<()> {
-            self.flushes = self.flushes.saturating_add(1);
-            match self.most {
-                Some(_) => Ok(()),
-                None => Err(io::Error::from(ErrorKind::BrokenPipe)),
-            }
-        }
-    }
-
-    // A reader that counts its calls. Each read gives so many bytes at most, or fails.
-    #[derive(Drop)]
-    struct CountedReader {
-        most: Option<usize>,
-        reads: u32,
-    }
-
-    impl Read for CountedReader {
-        fn read(&mut self, piece: &mut [u8]) -> io::Result<usize> {
-            self.reads = self.reads.saturating_add(1);
-            match self.most {
-                Some(most) => Ok(most.min(piece.len())),
-                None => Err(io::Error::from(ErrorKind::BrokenPipe)),
-            }
-        }
-    }
-
-    #[test]
-    fn one_call_of_the_reader_for_each_read(rt: HostRuntime) -> Result<(), Fail> {
-        for (most, read, faults) in [
-            (Some(9), Ok(5), 0),
-            (Some(2), Ok(2), 0),
-            (Some(0), Ok(0), 0),
-            (None, Err(Failed), 1),
-        ] {
-            let mut source = ReadSource::new(CountedReader { most, reads: 0 });
-            let mut piece = [0; 5];
-            assert_eq!(rt; source.read(&mut piece), read, "at most {most:?}");
-            assert_eq!(rt;
-                (source.reader.reads, source.faults),
-                (1, faults),
-                "at most {most:?}"
-            );
-        }
-        Ok(())
-    }
-
-    #[test]
-    fn one_call_of_the_writer_for_each_call(rt: HostRuntime) -> Result<(), Fail> {
-        let failed = Refused::Failed;
-        for (most, written, flushed, faults) in [
-            (Some(9), Ok(5), Ok(()), 0),
-            (Some(5), Ok(5), Ok(()), 0),
-            (Some(2), Ok(2), Ok(()), 0),
-            (Some(0), Err(failed), Ok(()), 1),
-            (None, Err(failed), Err(failed), 2),
-        ] {
-            let mut sink = WriteSink::new(Counted {
-                most,
-                writes: 0,
-                flushes: 0,
-            });
-            assert_eq!(rt; sink.write(b"bytes"), written, "at most {most:?}");
-            assert_eq!(rt; (sink.writer.writes, sink.writer.flushes), (1, 0));
-            assert_eq!(rt; sink.flush(), flushed, "at most {most:?}");
-            assert_eq!(rt; (sink.writer.writes, sink.writer.flushes), (1, 1));
-            assert_eq!(rt; sink.faults, faults, "at most {most:?}");
-        }
-        Ok(())
-    }
-}

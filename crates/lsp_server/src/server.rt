@@ -138,20 +138,25 @@ impl<D: Desk + Drop> Server<D> {
 
         // The step was made, and exactly the frames of what it put out were written and flushed.
         ensures ok { OnOk result (Ran (Step H.semantics (order_by P.gives P.later) rounds) D.meaning
-            (standing H.semantics D.meaning session.old (P.state pick.old) (O.taken sink.old)) (show_item item ∷ [])
+            (standing H.semantics D.meaning session.old (P.state pick.old) (O.taken sink.old))
+            (show_item item ∷ [])
             (standing H.semantics D.meaning session.new (P.state pick.new) (O.taken sink.new))) }
         ensures ready { OnOk result (IsReady H.semantics D.meaning session.new) }
-        ensures flushed { OnOk result (IsFlushed (O.taken sink.old) (O.flushed sink.old) → IsFlushed (O.taken sink.new) (O.flushed sink.new)) }
+        ensures flushed { OnOk result (IsFlushed (O.taken sink.old) (O.flushed sink.old)
+            → IsFlushed (O.taken sink.new) (O.flushed sink.new)) }
 
         // At an error nothing was written, or what begins the frames of the whole step.
         ensures part { OnErr result (RanPart (Step H.semantics (order_by P.gives P.later) rounds)
-            (picked (session_view H.semantics D.meaning session.old) (P.state pick.old)) (O.taken sink.old) (show_item item ∷ []) (O.taken sink.new)) }
+            (picked (session_view H.semantics D.meaning session.old) (P.state pick.old))
+            (O.taken sink.old) (show_item item ∷ []) (O.taken sink.new)) }
         ensures grown { OnErr result (Grown D.meaning (desk_of session.old) (desk_of session.new)) }
 
         // Each error has its cause, and a failure is told.
         ensures count { O.faults sink.old ≤ O.faults sink.new }
-        ensures write { IsErrOf result ServeError.WriteFault → CountRose (O.faults sink.old) (O.faults sink.new) }
-        ensures write_told { O.faults sink.old < O.faults sink.new → IsErrOf result ServeError.WriteFault }
+        ensures write { IsErrOf result ServeError.WriteFault
+            → CountRose (O.faults sink.old) (O.faults sink.new) }
+        ensures write_told { O.faults sink.old < O.faults sink.new
+            → IsErrOf result ServeError.WriteFault }
         ensures spent { IfErr result (λ e. SaysSpent D.meaning (desk_of session.new) e) }
         ensures others { IfErr result IsInStep }
     {
@@ -171,16 +176,21 @@ impl<D: Desk + Drop> Server<D> {
         requires ready { IsReady H.semantics D.meaning session.old }
         requires alive { life_of D.meaning session.old ≢ Life.Exited }
         ensures ok { OnOk result (Ran (Step H.semantics (order_by P.gives P.later) rounds) D.meaning
-            (standing H.semantics D.meaning session.old (P.state pick.old) (O.taken sink.old)) (tick ∷ [])
+            (standing H.semantics D.meaning session.old (P.state pick.old) (O.taken sink.old))
+            (tick ∷ [])
             (standing H.semantics D.meaning session.new (P.state pick.new) (O.taken sink.new))) }
         ensures ready { OnOk result (IsReady H.semantics D.meaning session.new) }
-        ensures flushed { OnOk result (IsFlushed (O.taken sink.old) (O.flushed sink.old) → IsFlushed (O.taken sink.new) (O.flushed sink.new)) }
+        ensures flushed { OnOk result (IsFlushed (O.taken sink.old) (O.flushed sink.old)
+            → IsFlushed (O.taken sink.new) (O.flushed sink.new)) }
         ensures part { OnErr result (RanPart (Step H.semantics (order_by P.gives P.later) rounds)
-            (picked (session_view H.semantics D.meaning session.old) (P.state pick.old)) (O.taken sink.old) (tick ∷ []) (O.taken sink.new)) }
+            (picked (session_view H.semantics D.meaning session.old) (P.state pick.old))
+            (O.taken sink.old) (tick ∷ []) (O.taken sink.new)) }
         ensures grown { OnErr result (Grown D.meaning (desk_of session.old) (desk_of session.new)) }
         ensures count { O.faults sink.old ≤ O.faults sink.new }
-        ensures write { IsErrOf result ServeError.WriteFault → CountRose (O.faults sink.old) (O.faults sink.new) }
-        ensures write_told { O.faults sink.old < O.faults sink.new → IsErrOf result ServeError.WriteFault }
+        ensures write { IsErrOf result ServeError.WriteFault
+            → CountRose (O.faults sink.old) (O.faults sink.new) }
+        ensures write_told { O.faults sink.old < O.faults sink.new
+            → IsErrOf result ServeError.WriteFault }
         ensures spent { IfErr result (λ e. SaysSpent D.meaning (desk_of session.new) e) }
         ensures others { IfErr result IsInStep }
     {
@@ -209,53 +219,74 @@ impl<D: Desk + Drop> Server<D> {
         // the items that the frame grammar finds in all the source's bytes; in it each owed request
         // and each fault before any exit is answered once, but for what is listed as unanswered.
         ensures headline { IfOk result (λ served. IfSome (I.left source.old) (λ bytes. IsServed
-            (course H.semantics D.meaning (order_by P.gives P.later) (setting self service (P.state pick.old) rounds))
+            (course H.semantics D.meaning (order_by P.gives P.later)
+            (setting self service (P.state pick.old) rounds))
             (call_bytes bytes (I.left source.new) (O.taken sink.old) (O.taken sink.new))
             (show_served served) (P.state pick.new))) }
 
         // Ok comes only at the end of input or at an exit, and nothing is read after the piece that
         // tells the exit.
         ensures enough { OnOk result (IfSome (I.left source.old) (λ bytes. ReadEnough
-            (course H.semantics D.meaning (order_by P.gives P.later) (setting self service (P.state pick.old) rounds))
+            (course H.semantics D.meaning (order_by P.gives P.later)
+            (setting self service (P.state pick.old) rounds))
             (call_bytes bytes (I.left source.new) (O.taken sink.old) (O.taken sink.new)) 4096)) }
 
         // The bytes taken are flushed, if they were at the start.
-        ensures flushed { OnOk result (IsFlushed (O.taken sink.old) (O.flushed sink.old) → IsFlushed (O.taken sink.new) (O.flushed sink.new)) }
+        ensures flushed { OnOk result (IsFlushed (O.taken sink.old) (O.flushed sink.old)
+            → IsFlushed (O.taken sink.new) (O.flushed sink.new)) }
         ensures flushed_between { IfErr result (λ stopped. IsBetweenReads stopped.error
-            → IsFlushed (O.taken sink.old) (O.flushed sink.old) → IsFlushed (O.taken sink.new) (O.flushed sink.new)) }
+            → IsFlushed (O.taken sink.old) (O.flushed sink.old)
+            → IsFlushed (O.taken sink.new) (O.flushed sink.new)) }
 
         // Each error has its cause.
-        ensures read { IfErr result (λ stopped. stopped.error ≡ ServeError.ReadFault → CountRose (I.faults source.old) (I.faults source.new)) }
-        ensures write { IfErr result (λ stopped. stopped.error ≡ ServeError.WriteFault → CountRose (O.faults sink.old) (O.faults sink.new)) }
-        ensures reads_spent { IfErr result (λ stopped. stopped.error ≡ ServeError.ReadsSpent → IfSome (I.left source.old) (λ bytes.
+        ensures read { IfErr result (λ stopped. stopped.error ≡ ServeError.ReadFault
+            → CountRose (I.faults source.old) (I.faults source.new)) }
+        ensures write { IfErr result (λ stopped. stopped.error ≡ ServeError.WriteFault
+            → CountRose (O.faults sink.old) (O.faults sink.new)) }
+        ensures reads_spent { IfErr result (λ stopped. stopped.error ≡ ServeError.ReadsSpent
+            → IfSome (I.left source.old) (λ bytes.
             IfSome (I.left source.new) (λ rest. reads + length rest ≤ length bytes))) }
-        ensures desk_spent { IfErr result (λ stopped. SaysSpent D.meaning stopped.desk stopped.error) }
-        ensures never_alone { IfErr result (λ stopped. D.meaning.alone (server_desk self) ≡ true → (n : ℕ) → stopped.error ≢ ServeError.DeskSpent n) }
+        ensures desk_spent { IfErr result
+            (λ stopped. SaysSpent D.meaning stopped.desk stopped.error) }
+        ensures never_alone { IfErr result (λ stopped. D.meaning.alone (server_desk self) ≡ true
+            → (n : ℕ) → stopped.error ≢ ServeError.DeskSpent n) }
 
         // A failure is told: where a count rose, the answer is that error.
-        ensures counts { (I.faults source.old ≤ I.faults source.new) × (O.faults sink.old ≤ O.faults sink.new) }
-        ensures read_told { I.faults source.old < I.faults source.new → IsErrAnd result (λ stopped. stopped.error ≡ ServeError.ReadFault) }
-        ensures write_told { O.faults sink.old < O.faults sink.new → IsErrAnd result (λ stopped. stopped.error ≡ ServeError.WriteFault) }
+        ensures counts { (I.faults source.old ≤ I.faults source.new)
+            × (O.faults sink.old ≤ O.faults sink.new) }
+        ensures read_told { I.faults source.old < I.faults source.new
+            → IsErrAnd result (λ stopped. stopped.error ≡ ServeError.ReadFault) }
+        ensures write_told { O.faults sink.old < O.faults sink.new
+            → IsErrAnd result (λ stopped. stopped.error ≡ ServeError.WriteFault) }
 
         // Each of at most `reads` reads takes at most 4,096 bytes.
-        ensures few { IfSome (I.left source.old) (λ bytes. IfSome (I.left source.new) (λ rest. length bytes ≤ length rest + reads * 4096)) }
+        ensures few { IfSome (I.left source.old) (λ bytes. IfSome (I.left source.new)
+            (λ rest. length bytes ≤ length rest + reads * 4096)) }
 
         // So with no failure, and with more reads than bytes, only memory may be wanting, or turns
         // of a desk that others use.
-        ensures complete { IfErr result (λ stopped. IfSome (I.left source.old) (λ bytes. length bytes < reads
-            → ¬ CountRose (I.faults source.old) (I.faults source.new) → ¬ CountRose (O.faults sink.old) (O.faults sink.new) → ComesUnfailed (D.meaning.alone (server_desk self)) stopped.error)) }
+        ensures complete { IfErr result (λ stopped. IfSome (I.left source.old)
+            (λ bytes. length bytes < reads
+            → ¬ CountRose (I.faults source.old) (I.faults source.new)
+            → ¬ CountRose (O.faults sink.old) (O.faults sink.new)
+            → ComesUnfailed (D.meaning.alone (server_desk self)) stopped.error)) }
 
         // What was written by then.
-        ensures exact { IfErr result (λ stopped. IsBetweenReads stopped.error → IfSome (I.left source.old) (λ bytes. WroteTold
-            (course H.semantics D.meaning (order_by P.gives P.later) (setting self service (P.state pick.old) rounds))
-            (call_bytes bytes (I.left source.new) (O.taken sink.old) (O.taken sink.new)) stopped.desk)) }
+        ensures exact { IfErr result (λ stopped. IsBetweenReads stopped.error
+            → IfSome (I.left source.old) (λ bytes. WroteTold
+            (course H.semantics D.meaning (order_by P.gives P.later)
+            (setting self service (P.state pick.old) rounds))
+            (call_bytes bytes (I.left source.new) (O.taken sink.old)
+            (O.taken sink.new)) stopped.desk)) }
         ensures part { OnErr result (IfSome (I.left source.old) (λ bytes. WrotePart
-            (course H.semantics D.meaning (order_by P.gives P.later) (setting self service (P.state pick.old) rounds))
+            (course H.semantics D.meaning (order_by P.gives P.later)
+            (setting self service (P.state pick.old) rounds))
             (call_bytes bytes (I.left source.new) (O.taken sink.old) (O.taken sink.new)) 4096)) }
 
         // At each answer the desk that is handed back has grown from the one that was handed in.
         ensures grown { IfOk result (λ served. Grown D.meaning (server_desk self) served.desk) }
-        ensures grown_stopped { IfErr result (λ stopped. Grown D.meaning (server_desk self) stopped.desk) }
+        ensures grown_stopped { IfErr result (λ stopped. Grown D.meaning
+            (server_desk self) stopped.desk) }
     {
         let desk = self.socket.into_desk();
         let mut session = Session::new(alloc, service, desk, self.max).waiting_limit(self.wait);
@@ -283,8 +314,10 @@ fn hand_back<D: Desk + Drop, H: Handlers<D>>(
     session: Session<H, D>,
 ) -> Result<Served<H, D>, Stopped<D>>
     requires running { has_stopped session ≡ false }
-    ensures handed { IfOk result (λ served. show_served served ≡ handed_back (session_view H.semantics D.meaning session)) }
-    ensures stopped { IfErr result (λ stopped. (stopped.error ≡ ServeError.NoMemory) × (stopped.desk ≡ (session_view H.semantics D.meaning session).desk)) }
+    ensures handed { IfOk result (λ served. show_served served
+        ≡ handed_back (session_view H.semantics D.meaning session)) }
+    ensures stopped { IfErr result (λ stopped. (stopped.error ≡ ServeError.NoMemory)
+        × (stopped.desk ≡ (session_view H.semantics D.meaning session).desk)) }
 {
     let exited = session.exited();
     match session.unanswered() {

@@ -40,30 +40,48 @@ pub(crate) fn serve_reads<I: Source, O: Sink, D: Desk + Drop, H: Handlers<D>, P:
     requires alive { life_of D.meaning session.old ≢ Life.Exited }
     requires unexited { (session_view H.semantics D.meaning session.old).state.exited ≡ None }
     ensures ok { OnOk result (IfSome (I.left source.old) (λ bytes. RanFrom
-        (course_from H.semantics D.meaning (order_by P.gives P.later) rounds limits (session_view H.semantics D.meaning session.old) (P.state pick.old))
+        (course_from H.semantics D.meaning (order_by P.gives P.later) rounds limits
+        (session_view H.semantics D.meaning session.old) (P.state pick.old))
         (call_bytes bytes (I.left source.new) (O.taken sink.old) (O.taken sink.new))
-        (served (H.semantics.find (session_view H.semantics D.meaning session.old).state.service) (stream_items limits bytes))
-        (picked (session_view H.semantics D.meaning session.new) (P.state pick.new)) (desk_of session.new))) }
+        (served (H.semantics.find (session_view H.semantics D.meaning session.old).state.service)
+        (stream_items limits bytes))
+        (picked (session_view H.semantics D.meaning session.new) (P.state pick.new))
+        (desk_of session.new))) }
     ensures ready { OnOk result (IsReady H.semantics D.meaning session.new) }
     ensures enough { OnOk result (IfSome (I.left source.old) (λ bytes. ReadEnough
-        (course_from H.semantics D.meaning (order_by P.gives P.later) rounds limits (session_view H.semantics D.meaning session.old) (P.state pick.old))
+        (course_from H.semantics D.meaning (order_by P.gives P.later) rounds limits
+        (session_view H.semantics D.meaning session.old) (P.state pick.old))
         (call_bytes bytes (I.left source.new) (O.taken sink.old) (O.taken sink.new)) 4096)) }
-    ensures flushed { OnOk result (IsFlushed (O.taken sink.old) (O.flushed sink.old) → IsFlushed (O.taken sink.new) (O.flushed sink.new)) }
-    ensures flushed_between { IfErr result (λ e. IsBetweenReads e → IsFlushed (O.taken sink.old) (O.flushed sink.old) → IsFlushed (O.taken sink.new) (O.flushed sink.new)) }
-    ensures read { IsErrOf result ServeError.ReadFault → CountRose (I.faults source.old) (I.faults source.new) }
-    ensures write { IsErrOf result ServeError.WriteFault → CountRose (O.faults sink.old) (O.faults sink.new) }
-    ensures reads_spent { IsErrOf result ServeError.ReadsSpent → IfSome (I.left source.old) (λ bytes.
+    ensures flushed { OnOk result (IsFlushed (O.taken sink.old) (O.flushed sink.old)
+        → IsFlushed (O.taken sink.new) (O.flushed sink.new)) }
+    ensures flushed_between { IfErr result (λ e. IsBetweenReads e
+        → IsFlushed (O.taken sink.old) (O.flushed sink.old)
+        → IsFlushed (O.taken sink.new) (O.flushed sink.new)) }
+    ensures read { IsErrOf result ServeError.ReadFault
+        → CountRose (I.faults source.old) (I.faults source.new) }
+    ensures write { IsErrOf result ServeError.WriteFault
+        → CountRose (O.faults sink.old) (O.faults sink.new) }
+    ensures reads_spent { IsErrOf result ServeError.ReadsSpent
+        → IfSome (I.left source.old) (λ bytes.
         IfSome (I.left source.new) (λ rest. reads + length rest ≤ length bytes)) }
-    ensures few { IfSome (I.left source.old) (λ bytes. IfSome (I.left source.new) (λ rest. length bytes ≤ length rest + reads * 4096)) }
+    ensures few { IfSome (I.left source.old) (λ bytes. IfSome (I.left source.new)
+        (λ rest. length bytes ≤ length rest + reads * 4096)) }
     ensures desk_spent { IfErr result (λ e. SaysSpent D.meaning (desk_of session.new) e) }
-    ensures counts { (I.faults source.old ≤ I.faults source.new) × (O.faults sink.old ≤ O.faults sink.new) }
-    ensures read_told { I.faults source.old < I.faults source.new → IsErrOf result ServeError.ReadFault }
-    ensures write_told { O.faults sink.old < O.faults sink.new → IsErrOf result ServeError.WriteFault }
-    ensures exact { IfErr result (λ e. IsBetweenReads e → IfSome (I.left source.old) (λ bytes. WroteTold
-        (course_from H.semantics D.meaning (order_by P.gives P.later) rounds limits (session_view H.semantics D.meaning session.old) (P.state pick.old))
-        (call_bytes bytes (I.left source.new) (O.taken sink.old) (O.taken sink.new)) (desk_of session.new))) }
+    ensures counts { (I.faults source.old ≤ I.faults source.new)
+        × (O.faults sink.old ≤ O.faults sink.new) }
+    ensures read_told { I.faults source.old < I.faults source.new
+        → IsErrOf result ServeError.ReadFault }
+    ensures write_told { O.faults sink.old < O.faults sink.new
+        → IsErrOf result ServeError.WriteFault }
+    ensures exact { IfErr result (λ e. IsBetweenReads e
+        → IfSome (I.left source.old) (λ bytes. WroteTold
+        (course_from H.semantics D.meaning (order_by P.gives P.later) rounds limits
+        (session_view H.semantics D.meaning session.old) (P.state pick.old))
+        (call_bytes bytes (I.left source.new) (O.taken sink.old) (O.taken sink.new))
+        (desk_of session.new))) }
     ensures part { IfSome (I.left source.old) (λ bytes. WrotePart
-        (course_from H.semantics D.meaning (order_by P.gives P.later) rounds limits (session_view H.semantics D.meaning session.old) (P.state pick.old))
+        (course_from H.semantics D.meaning (order_by P.gives P.later) rounds limits
+        (session_view H.semantics D.meaning session.old) (P.state pick.old))
         (call_bytes bytes (I.left source.new) (O.taken sink.old) (O.taken sink.new)) 4096) }
     ensures grown { Grown D.meaning (desk_of session.old) (desk_of session.new) }
 {
@@ -89,7 +107,8 @@ pub(crate) fn serve_reads<I: Source, O: Sink, D: Desk + Drop, H: Handlers<D>, P:
 fn next_item(codec: &mut LanguageServerCodec) -> Result<Option<Item>, NoMemory>
     ensures next { IfOk result (λ item. GivesNext codec.old (option_map show_item item) codec.new) }
     ensures waits { IfOk result (λ item. item ≡ None → told_at codec.new ≡ []) }
-    ensures float_free { IfOk result (λ item. IfSome item (λ x. item_has_float (show_item x) ≡ false)) }
+    ensures float_free { IfOk result (λ item. IfSome item (λ x. item_has_float (show_item x)
+        ≡ false)) }
 {
     match codec.decode()? {
         Decoded::Item(message) => Ok(Some(Item::Message(message))),
@@ -111,20 +130,29 @@ pub(crate) fn serve_told<O: Sink, D: Desk + Drop, H: Handlers<D>, P: Pick>(
     requires ready { IsReady H.semantics D.meaning session.old }
     requires alive { life_of D.meaning session.old ≢ Life.Exited }
     requires unexited { (session_view H.semantics D.meaning session.old).state.exited ≡ None }
-    ensures ok { IfOk result (λ exits. ServedTold (Step H.semantics (order_by P.gives P.later) rounds) D.meaning
+    ensures ok { IfOk result
+        (λ exits. ServedTold (Step H.semantics (order_by P.gives P.later) rounds) D.meaning
         (H.semantics.find (session_view H.semantics D.meaning session.old).state.service)
-        (standing H.semantics D.meaning session.old (P.state pick.old) (O.taken sink.old)) codec.old exits
-        (standing H.semantics D.meaning session.new (P.state pick.new) (O.taken sink.new)) codec.new) }
+        (standing H.semantics D.meaning session.old (P.state pick.old)
+        (O.taken sink.old)) codec.old exits
+        (standing H.semantics D.meaning session.new (P.state pick.new)
+        (O.taken sink.new)) codec.new) }
     ensures ready { OnOk result (IsReady H.semantics D.meaning session.new) }
-    ensures open { IfOk result (λ exits. exits ≡ false → ((session_view H.semantics D.meaning session.new).state.exited ≡ None)
+    ensures open { IfOk result (λ exits. exits ≡ false
+        → ((session_view H.semantics D.meaning session.new).state.exited ≡ None)
         × (life_of D.meaning session.new ≢ Life.Exited)) }
-    ensures part { OnErr result ((c : List ℕ) → RanPart (Step H.semantics (order_by P.gives P.later) rounds)
-        (picked (session_view H.semantics D.meaning session.old) (P.state pick.old)) (O.taken sink.old)
-        (served (H.semantics.find (session_view H.semantics D.meaning session.old).state.service) (all_admitted (items_at (more codec.old c)))) (O.taken sink.new)) }
+    ensures part { OnErr result ((c : List ℕ)
+        → RanPart (Step H.semantics (order_by P.gives P.later) rounds)
+        (picked (session_view H.semantics D.meaning session.old) (P.state pick.old))
+        (O.taken sink.old)
+        (served (H.semantics.find (session_view H.semantics D.meaning session.old).state.service)
+        (all_admitted (items_at (more codec.old c)))) (O.taken sink.new)) }
     ensures grown { Grown D.meaning (desk_of session.old) (desk_of session.new) }
-    ensures flushed { OnOk result (IsFlushed (O.taken sink.old) (O.flushed sink.old) → IsFlushed (O.taken sink.new) (O.flushed sink.new)) }
+    ensures flushed { OnOk result (IsFlushed (O.taken sink.old) (O.flushed sink.old)
+        → IsFlushed (O.taken sink.new) (O.flushed sink.new)) }
     ensures count { O.faults sink.old ≤ O.faults sink.new }
-    ensures write { IsErrOf result ServeError.WriteFault → CountRose (O.faults sink.old) (O.faults sink.new) }
+    ensures write { IsErrOf result ServeError.WriteFault
+        → CountRose (O.faults sink.old) (O.faults sink.new) }
     ensures unfailed { OnOk result (O.faults sink.new ≡ O.faults sink.old) }
     ensures left { IfErr result (λ e. LeavesSink e → O.faults sink.new ≡ O.faults sink.old) }
     ensures spent { IfErr result (λ e. SaysSpent D.meaning (desk_of session.new) e) }
@@ -156,16 +184,21 @@ pub(crate) fn serve_end<O: Sink, D: Desk + Drop, H: Handlers<D>, P: Pick>(
     requires told { told_at codec.old ≡ [] }
     ensures ok { OnOk result (Ran (Step H.semantics (order_by P.gives P.later) rounds) D.meaning
         (standing H.semantics D.meaning session.old (P.state pick.old) (O.taken sink.old))
-        (served (H.semantics.find (session_view H.semantics D.meaning session.old).state.service) (all_admitted (items_at codec.old)))
+        (served (H.semantics.find (session_view H.semantics D.meaning session.old).state.service)
+        (all_admitted (items_at codec.old)))
         (standing H.semantics D.meaning session.new (P.state pick.new) (O.taken sink.new))) }
     ensures ready { OnOk result (IsReady H.semantics D.meaning session.new) }
     ensures part { OnErr result (RanPart (Step H.semantics (order_by P.gives P.later) rounds)
-        (picked (session_view H.semantics D.meaning session.old) (P.state pick.old)) (O.taken sink.old)
-        (served (H.semantics.find (session_view H.semantics D.meaning session.old).state.service) (all_admitted (items_at codec.old))) (O.taken sink.new)) }
+        (picked (session_view H.semantics D.meaning session.old) (P.state pick.old))
+        (O.taken sink.old)
+        (served (H.semantics.find (session_view H.semantics D.meaning session.old).state.service)
+        (all_admitted (items_at codec.old))) (O.taken sink.new)) }
     ensures grown { Grown D.meaning (desk_of session.old) (desk_of session.new) }
-    ensures flushed { OnOk result (IsFlushed (O.taken sink.old) (O.flushed sink.old) → IsFlushed (O.taken sink.new) (O.flushed sink.new)) }
+    ensures flushed { OnOk result (IsFlushed (O.taken sink.old) (O.flushed sink.old)
+        → IsFlushed (O.taken sink.new) (O.flushed sink.new)) }
     ensures count { O.faults sink.old ≤ O.faults sink.new }
-    ensures write { IsErrOf result ServeError.WriteFault → CountRose (O.faults sink.old) (O.faults sink.new) }
+    ensures write { IsErrOf result ServeError.WriteFault
+        → CountRose (O.faults sink.old) (O.faults sink.new) }
     ensures unfailed { OnOk result (O.faults sink.new ≡ O.faults sink.old) }
     ensures left { IfErr result (λ e. LeavesSink e → O.faults sink.new ≡ O.faults sink.old) }
     ensures spent { IfErr result (λ e. SaysSpent D.meaning (desk_of session.new) e) }
@@ -189,16 +222,20 @@ fn write_end<O: Sink, D: Desk + Drop, H: Handlers<D>, P: Pick>(
     requires told { told_at codec.old ≡ [] }
     ensures ok { OnOk result (Ran (Step H.semantics (order_by P.gives P.later) rounds) D.meaning
         (standing H.semantics D.meaning session.old (P.state pick.old) (O.taken sink.old))
-        (served (H.semantics.find (session_view H.semantics D.meaning session.old).state.service) (all_admitted (items_at codec.old)))
+        (served (H.semantics.find (session_view H.semantics D.meaning session.old).state.service)
+        (all_admitted (items_at codec.old)))
         (standing H.semantics D.meaning session.new (P.state pick.new) (O.taken sink.new))) }
     ensures ready { OnOk result (IsReady H.semantics D.meaning session.new) }
     ensures part { OnErr result (RanPart (Step H.semantics (order_by P.gives P.later) rounds)
-        (picked (session_view H.semantics D.meaning session.old) (P.state pick.old)) (O.taken sink.old)
-        (served (H.semantics.find (session_view H.semantics D.meaning session.old).state.service) (all_admitted (items_at codec.old))) (O.taken sink.new)) }
+        (picked (session_view H.semantics D.meaning session.old) (P.state pick.old))
+        (O.taken sink.old)
+        (served (H.semantics.find (session_view H.semantics D.meaning session.old).state.service)
+        (all_admitted (items_at codec.old))) (O.taken sink.new)) }
     ensures grown { OnErr result (Grown D.meaning (desk_of session.old) (desk_of session.new)) }
     ensures flushed { O.flushed sink.new ≡ O.flushed sink.old }
     ensures count { O.faults sink.old ≤ O.faults sink.new }
-    ensures write { IsErrOf result ServeError.WriteFault → CountRose (O.faults sink.old) (O.faults sink.new) }
+    ensures write { IsErrOf result ServeError.WriteFault
+        → CountRose (O.faults sink.old) (O.faults sink.new) }
     ensures unfailed { OnOk result (O.faults sink.new ≡ O.faults sink.old) }
     ensures left { IfErr result (λ e. LeavesSink e → O.faults sink.new ≡ O.faults sink.old) }
     ensures spent { IfErr result (λ e. SaysSpent D.meaning (desk_of session.new) e) }

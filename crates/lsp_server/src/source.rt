@@ -20,7 +20,8 @@ pub trait Source {
     fn read(&mut self, piece: &mut [u8]) -> Result<usize, Failed>
         requires { 0 < length piece.old }
         ensures within { IfOk result (λ n. n ≤ length piece.new) }
-        ensures gives { IfOk result (λ n. Consumes (left self.old) (left self.new) (take n piece.new)) }
+        ensures gives { IfOk result (λ n. Consumes (left self.old) (left self.new)
+            (take n piece.new)) }
         ensures ends { IfOk result (λ n. EndsAt (left self.old) n) }
         ensures kept { OnErr result (Keeps (left self.old) (left self.new)) }
 

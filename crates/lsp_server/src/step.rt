@@ -62,17 +62,22 @@ pub(crate) fn write_step<O: Sink, D: Desk + Drop, H: Handlers<D>, P: Pick>(
     requires alive { life_of D.meaning session.old ≢ Life.Exited }
     requires float_free { item_has_float (show_item item) ≡ false }
     ensures ok { OnOk result (Ran (Step H.semantics (order_by P.gives P.later) rounds) D.meaning
-        (standing H.semantics D.meaning session.old (P.state pick.old) (O.taken sink.old)) (show_item item ∷ [])
+        (standing H.semantics D.meaning session.old (P.state pick.old) (O.taken sink.old))
+        (show_item item ∷ [])
         (standing H.semantics D.meaning session.new (P.state pick.new) (O.taken sink.new))) }
     ensures ready { OnOk result (IsReady H.semantics D.meaning session.new) }
-    ensures lives { OnOk result (is_exit (H.semantics.find (session_view H.semantics D.meaning session.old).state.service) (show_item item) ≡ false
+    ensures lives { OnOk result
+        (is_exit (H.semantics.find (session_view H.semantics D.meaning session.old).state.service)
+        (show_item item) ≡ false
         → life_of D.meaning session.new ≢ Life.Exited) }
     ensures part { OnErr result (RanPart (Step H.semantics (order_by P.gives P.later) rounds)
-        (picked (session_view H.semantics D.meaning session.old) (P.state pick.old)) (O.taken sink.old) (show_item item ∷ []) (O.taken sink.new)) }
+        (picked (session_view H.semantics D.meaning session.old) (P.state pick.old))
+        (O.taken sink.old) (show_item item ∷ []) (O.taken sink.new)) }
     ensures grown { OnErr result (Grown D.meaning (desk_of session.old) (desk_of session.new)) }
     ensures flushed { O.flushed sink.new ≡ O.flushed sink.old }
     ensures count { O.faults sink.old ≤ O.faults sink.new }
-    ensures write { IsErrOf result ServeError.WriteFault → CountRose (O.faults sink.old) (O.faults sink.new) }
+    ensures write { IsErrOf result ServeError.WriteFault
+        → CountRose (O.faults sink.old) (O.faults sink.new) }
     ensures unfailed { OnOk result (O.faults sink.new ≡ O.faults sink.old) }
     ensures left { IfErr result (λ e. LeavesSink e → O.faults sink.new ≡ O.faults sink.old) }
     ensures spent { IfErr result (λ e. SaysSpent D.meaning (desk_of session.new) e) }
@@ -95,9 +100,11 @@ pub(crate) fn write_step<O: Sink, D: Desk + Drop, H: Handlers<D>, P: Pick>(
 /// Sends what the sink took on its way.
 pub(crate) fn flush<O: Sink>(sink: &mut O) -> Result<(), ServeError>
     ensures taken { Keeps (O.taken sink.old) (O.taken sink.new) }
-    ensures flushes { OnOk result (Flushes (O.taken sink.old) (O.flushed sink.old) (O.flushed sink.new)) }
+    ensures flushes { OnOk result (Flushes (O.taken sink.old) (O.flushed sink.old)
+        (O.flushed sink.new)) }
     ensures count { O.faults sink.old ≤ O.faults sink.new }
-    ensures write { IsErrOf result ServeError.WriteFault → CountRose (O.faults sink.old) (O.faults sink.new) }
+    ensures write { IsErrOf result ServeError.WriteFault
+        → CountRose (O.faults sink.old) (O.faults sink.new) }
     ensures unfailed { OnOk result (O.faults sink.new ≡ O.faults sink.old) }
     ensures left { IfErr result (λ e. LeavesSink e → O.faults sink.new ≡ O.faults sink.old) }
     ensures others { IfErr result ComesOfSink }

@@ -20,12 +20,15 @@ pub(crate) fn put<O: Sink>(
     messages: &Vec<Message>,
 ) -> Result<(), Refused>
     requires { have_float (map show_message messages.now.items) ≡ false }
-    ensures ok { OnOk result (Appends (O.taken sink.old) (O.taken sink.new) (frames (map show_message messages.now.items))) }
-    ensures part { OnErr result ((written : List ℕ) × IsPrefixOf written (frames (map show_message messages.now.items))
+    ensures ok { OnOk result (Appends (O.taken sink.old) (O.taken sink.new)
+        (frames (map show_message messages.now.items))) }
+    ensures part { OnErr result ((written : List ℕ)
+        × IsPrefixOf written (frames (map show_message messages.now.items))
         × Appends (O.taken sink.old) (O.taken sink.new) written) }
     ensures flushed { O.flushed sink.new ≡ O.flushed sink.old }
     ensures count { O.faults sink.old ≤ O.faults sink.new }
-    ensures cause { IsErrOf result Refused.Failed → CountRose (O.faults sink.old) (O.faults sink.new) }
+    ensures cause { IsErrOf result Refused.Failed
+        → CountRose (O.faults sink.old) (O.faults sink.new) }
     ensures unfailed { OnOk result (O.faults sink.new ≡ O.faults sink.old) }
     ensures no_memory { IsErrOf result Refused.NoMemory → O.faults sink.new ≡ O.faults sink.old }
 {
@@ -51,12 +54,15 @@ fn encode_all(alloc: Global, messages: &Vec<Message>) -> Result<BytesMut, NoMemo
     Ok(bytes)
 }
 
-fn write_all<O: Sink>(sink: &mut O, bytes: &[u8]) -> Result<(), Refused>
+/// Writes all the bytes, by as many calls of the sink as it takes.
+pub fn write_all<O: Sink>(sink: &mut O, bytes: &[u8]) -> Result<(), Refused>
     ensures ok { OnOk result (Appends (O.taken sink.old) (O.taken sink.new) bytes.now) }
-    ensures part { OnErr result ((written : List ℕ) × IsPrefixOf written bytes.now × Appends (O.taken sink.old) (O.taken sink.new) written) }
+    ensures part { OnErr result ((written : List ℕ) × IsPrefixOf written bytes.now
+        × Appends (O.taken sink.old) (O.taken sink.new) written) }
     ensures flushed { O.flushed sink.new ≡ O.flushed sink.old }
     ensures count { O.faults sink.old ≤ O.faults sink.new }
-    ensures cause { IsErrOf result Refused.Failed → CountRose (O.faults sink.old) (O.faults sink.new) }
+    ensures cause { IsErrOf result Refused.Failed
+        → CountRose (O.faults sink.old) (O.faults sink.new) }
     ensures unfailed { OnOk result (O.faults sink.new ≡ O.faults sink.old) }
     ensures no_memory { IsErrOf result Refused.NoMemory → O.faults sink.new ≡ O.faults sink.old }
 {
