@@ -13,8 +13,6 @@ mod proxy;
 mod server;
 mod side;
 mod table;
-#[cfg(test)]
-mod tests;
 
 pub use parts::Sent;
 pub use proxy::Proxy;

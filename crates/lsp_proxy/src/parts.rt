@@ -143,7 +143,8 @@ fn named_member(mut members: Map<String, Value>) -> Option<Id>
 }
 
 fn named_in(params: Value) -> Option<Id>
-    ensures { option_map show_id result ≡ option_and_then named_id (get (codes "id") (view params)) }
+    ensures { option_map show_id result
+        ≡ option_and_then named_id (get (codes "id") (view params)) }
 {
     match params {
         Value::Object(members) => named_member(members),

@@ -28,7 +28,8 @@ fn answers(
     body: &Result<Value, Error>,
 ) -> Result<Sent, NoMemory>
     ensures { IfOk result (λ sent. all_sent sent.items
-        ≡ map (answered_to (show_body body.now)) (filter (is_here_in editors.now) (map show_asker askers.now))) }
+        ≡ map (answered_to (show_body body.now)) (filter (is_here_in editors.now)
+        (map show_asker askers.now))) }
 {
     let mut sent = Vec::new(alloc);
     for asker in askers {
@@ -46,7 +47,8 @@ fn answer_if_here(
     asker: &Asker,
     body: Result<Value, Error>,
 ) -> Result<Sent, NoMemory>
-    ensures { IfOk result (λ sent. all_sent sent.items ≡ (if is_here_in editors.now (show_asker asker.now)
+    ensures { IfOk result (λ sent. all_sent sent.items
+        ≡ (if is_here_in editors.now (show_asker asker.now)
         then answered_to (show_body body) (show_asker asker.now) ∷ [] else [])) }
 {
     if presence_of(editors, asker.editor).is_gone() {
@@ -173,7 +175,8 @@ impl Proxy {
     }
 
     fn refuse_server(&self, id: Id) -> Result<Sent, NoMemory>
-        ensures { IfOk result (λ sent. all_sent sent.items ≡ (Side.Server, answer (show_id id) internal) ∷ []) }
+        ensures { IfOk result (λ sent. all_sent sent.items
+            ≡ (Side.Server, answer (show_id id) internal) ∷ []) }
     {
         let refused = refusal(self.alloc, id, ErrorCode::InternalError)?;
         one(self.alloc, Side::Server, refused)
@@ -237,7 +240,8 @@ impl Proxy {
 
     pub(crate) fn server_called(&mut self, request: Request) -> Result<Sent, NoMemory>
         ensures ok { IfOk result
-            (Makes self.old self.new (server_called (show_request request) (show_request request).id)) }
+            (Makes self.old self.new (server_called (show_request request)
+            (show_request request).id)) }
         ensures err { OnErr result (IsSame self.old self.new) }
     {
         let (request, id) = split(request);

@@ -1,0 +1,40 @@
+//! Relays between several editors and one language server, over standard input and output.
+#![tactic(auto)]
+
+use lsp_relay::{Status, run_proxy};
+use lsp_server::{ReadSource, Sink, WriteSink};
+use std::alloc::Global;
+use std::io::{BufWriter, ErrorKind};
+use std::process::ExitCode;
+use std::rt::Env;
+use std::{env, io};
+
+/// The program's arguments, without its own name.
+fn arguments(rt: &(impl Env + Alloc<A = Global>)) -> io::Result<Vec<String>> {
+    let mut words = Vec::new(rt.alloc());
+    for word in env::args(rt)?.skip(1) {
+        words.push(word)?;
+    }
+    Ok(words)
+}
+
+fn main(rt: HostRuntime) -> ExitCode {
+    let words = match arguments(&rt) {
+        Ok(words) => words,
+        // An argument that isn't UTF-8 is none of the program's.
+        Err(error) if error.kind() == ErrorKind::InvalidData => {
+            return ExitCode::from(Status::Usage as u8);
+        }
+        Err(_) => return ExitCode::from(Status::NoMemory as u8),
+    };
+    let Ok(output) = BufWriter::new(rt.alloc(), rt.stdout()) else {
+        return ExitCode::from(Status::NoMemory as u8);
+    };
+    let mut source = ReadSource::new(rt.stdin());
+    let mut sink = WriteSink::new(output);
+    let status = run_proxy(rt.alloc(), &words, &mut source, &mut sink);
+
+    // After a failure some of what was written may still wait here; nothing can be told of a second one.
+    let _ = sink.flush();
+    ExitCode::from(status)
+}

@@ -1,0 +1,7 @@
+pub mod ApartLemmas
+pub mod EventLemmas
+pub mod FloatLemmas
+pub mod GoingLemmas
+pub mod NoteLemmas
+pub mod TookLemmas
+pub mod ValueLemmas

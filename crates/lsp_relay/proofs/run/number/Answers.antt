@@ -1,0 +1,19 @@
+-- A number without a plus sign.
+use Rattle.std.proofs.Common.{◌≡◌, ◌==◌, ℕ, List, [], ◌∷◌, false, nat_eq, codes, refl, rules, ◌∙◌, arith}
+use Rattle.std.specs.List.{starts_with}
+use Rattle.std.specs.Str.Parse.{without_leading_plus}
+use Rattle.lsp_frame.specs.Headers.{length_of}
+use Rattle.lsp_frame.proofs.LengthParse.{length_of_parse}
+use Rattle.lsp_relay.specs.Words.{number_of}
+use Rattle.lsp_relay.proofs.run.number.Goals as goal
+
+no_plus : (word : List ℕ) → starts_with nat_eq word (codes "+") ≡ false → without_leading_plus word ≡ word
+no_plus [] h = refl
+no_plus (c ∷ word) h = let is : (c == 43) ≡ false = grind arith in rw is refl
+
+number_unsigned : (word : List ℕ) → starts_with nat_eq word (codes "+") ≡ false → length_of word ≡ number_of word
+number_unsigned word h = rw (no_plus word h) refl
+
+pub returns-else-starts_with : goal.returns-else-starts_with
+returns-else-starts_with c =
+    c.ok.ensures.value ∙ length_of_parse c.args.word.now c.parse.result c.parse.ensures.value.0 ∙ number_unsigned c.args.word.now (search rules)

@@ -1,0 +1,6 @@
+pub mod Value
+pub mod Notes
+pub mod Floats
+pub mod Relay
+pub mod Shown
+pub mod Words

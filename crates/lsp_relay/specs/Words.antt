@@ -1,0 +1,50 @@
+-- The arguments of the program, and how it ends.
+use Rattle.std.specs.Prelude.{ℕ, ◌^◌, ◌&&◌, List, [], ◌∷◌, length, nat_lt, nat_le, if◌then◌else◌, Option, Some, None, IfSome, option_and_then, map, String, string_bytes}
+use Rattle.std.specs.declared.alloc.Global.{Global}
+use Rattle.std.specs.Str.{all_ascii_digits}
+use Rattle.std.specs.Str.Parse.{digits_value}
+use Rattle.lsp_server.specs.Served.{CallBytes}
+use Rattle.lsp_server.specs.declared.step.ServeError.{ServeError}
+use Rattle.lsp_server.specs.declared.step.ServeError.TheVariants.{ReadFault, WriteFault, ReadsSpent, NoMemory, DeskSpent}
+use Rattle.lsp_relay.specs.Relay.{IsRelayed}
+
+-- the number of a word of decimal digits alone, where it fits 64 bits
+abbrev pub number_of : List ℕ → Option ℕ
+number_of word =
+    if (nat_lt 0 (length word) && all_ascii_digits word) && nat_lt (digits_value 10 word) (2 ^ 64)
+    then Some (digits_value 10 word) else None
+
+-- a number from 1 to 64
+abbrev pub up_to_64 : ℕ → Option ℕ
+up_to_64 n = if nat_le 1 n && nat_le n 64 then Some n else None
+
+abbrev pub editors_of : List ℕ → Option ℕ
+editors_of word = option_and_then up_to_64 (number_of word)
+
+-- one such word
+abbrev pub editors_in : List (List ℕ) → Option ℕ
+editors_in [] = None
+editors_in (word ∷ []) = editors_of word
+editors_in (word ∷ more ∷ words) = None
+
+-- how many editors the arguments ask for
+abbrev pub asked : List (String Global) → Option ℕ
+asked words = editors_in (map string_bytes words)
+
+-- all bytes were relayed, with some counts
+pub record HasRelayed (editors : ℕ) (call : CallBytes) : Type 0 where
+  pub passed : ℕ
+  pub dropped : ℕ
+  pub relayed : IsRelayed editors call passed dropped
+
+-- the exit status by the error; a relay has no desk that could be spent
+abbrev pub status_of : ServeError → ℕ
+status_of ReadFault = 3
+status_of WriteFault = 4
+status_of ReadsSpent = 5
+status_of NoMemory = 6
+status_of (DeskSpent n) = 7
+
+-- the arguments ask for editors, over a source that tells its bytes: this holds of their number and these bytes
+abbrev pub WhereTold : List (String Global) → Option (List ℕ) → (ℕ → List ℕ → Type 0) → Type 0
+WhereTold words left P = IfSome (asked words) (λ editors. IfSome left (P editors))

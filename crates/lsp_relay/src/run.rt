@@ -1,0 +1,159 @@
+//! The program but for its `main`.
+ghost use Rattle.std.specs.Prelude.{◌≡◌, ◌≢◌, ℕ, ◌≤◌, ◌<◌, ◌⊎◌, ◌↔◌, ◌+◌, ◌-◌, ◌^◌, None, length, IfSome};
+ghost use Rattle.lsp_server.specs.SourceSink.{CountRose, IsFlushed};
+ghost use Rattle.lsp_server.specs.Served.{call_bytes};
+ghost use Rattle.lsp_relay.specs.Relay.{WroteTold, WrotePart};
+ghost use Rattle.lsp_relay.specs.Words.{asked, editors_of, number_of, status_of as status_of_lem, HasRelayed, WhereTold};
+
+use crate::reads::relay;
+use lsp_server::{ServeError, Sink, Source};
+use std::alloc::Global;
+
+/// How the program ends: its exit status.
+#[derive(Clone, Copy, Debug, PartialEq, Eq)]
+pub enum Status {
+    /// The input was relayed to its end.
+    Done = 0,
+    /// The arguments are not one number of editors.
+    Usage = 2,
+    /// A read failed.
+    ReadFault = 3,
+    /// A write failed.
+    WriteFault = 4,
+    /// The most reads that can be counted were made.
+    ReadsSpent = 5,
+    /// There was no memory.
+    NoMemory = 6,
+}
+
+/// Runs the program over a source and a sink, and answers its exit status.
+///
+/// Its one word is the number of editors, from 1 to 64 in decimal digits alone. With other
+/// arguments nothing is read or written.
+pub fn run_proxy<I: Source, O: Sink>(
+    alloc: Global,
+    words: &Vec<String>,
+    source: &mut I,
+    sink: &mut O,
+) -> u8
+    ensures known { (result ≤ 6) × (result ≢ 1) }
+
+    // The arguments.
+    ensures usage { (result ≡ 2) ↔ (asked words.now.items ≡ None) }
+    ensures untouched { asked words.now.items ≡ None
+        → (source.new ≡ source.old) × (sink.new ≡ sink.old) }
+
+    // All the source's bytes were read, and what is written is what the proxy sends for their
+    // items.
+    ensures done { result ≡ 0 → WhereTold words.now.items (I.left source.old) (λ editors bytes.
+        HasRelayed editors
+        (call_bytes bytes (I.left source.new) (O.taken sink.old) (O.taken sink.new))) }
+
+    // What was written is flushed.
+    ensures flushed { (result ≡ 0) ⊎ (result ≡ 3) ⊎ (result ≡ 5)
+        → IsFlushed (O.taken sink.old) (O.flushed sink.old)
+        → IsFlushed (O.taken sink.new) (O.flushed sink.new) }
+
+    // Each failure has its cause, and is told.
+    ensures read { result ≡ 3 → CountRose (I.faults source.old) (I.faults source.new) }
+    ensures write { result ≡ 4 → CountRose (O.faults sink.old) (O.faults sink.new) }
+    ensures spent { result ≡ 5 → IfSome (I.left source.old) (λ bytes.
+        IfSome (I.left source.new) (λ rest. 2 ^ 64 - 1 + length rest ≤ length bytes)) }
+    ensures read_told { I.faults source.old < I.faults source.new → result ≡ 3 }
+    ensures write_told { O.faults sink.old < O.faults sink.new → result ≡ 4 }
+
+    // So with no failure, and with fewer bytes than reads, only memory may be wanting.
+    ensures complete { WhereTold words.now.items (I.left source.old) (λ _ bytes.
+        length bytes < 2 ^ 64 - 1
+        → ¬ CountRose (I.faults source.old) (I.faults source.new)
+        → ¬ CountRose (O.faults sink.old) (O.faults sink.new) → (result ≡ 0) ⊎ (result ≡ 6)) }
+
+    // What was written by then.
+    ensures exact { (result ≡ 3) ⊎ (result ≡ 5)
+        → WhereTold words.now.items (I.left source.old) (λ editors bytes. WroteTold editors
+        (call_bytes bytes (I.left source.new) (O.taken sink.old) (O.taken sink.new))) }
+    ensures part { 3 ≤ result
+        → WhereTold words.now.items (I.left source.old) (λ editors bytes. WrotePart editors
+        (call_bytes bytes (I.left source.new) (O.taken sink.old) (O.taken sink.new)) 4096) }
+{
+    match read_words(words) {
+        Some(editors) => relay_all(alloc, editors, source, sink),
+        None => Status::Usage as u8,
+    }
+}
+
+// Relays between so many editors, with all the reads that can be counted.
+fn relay_all<I: Source, O: Sink>(alloc: Global, editors: u32, source: &mut I, sink: &mut O) -> u8
+    requires { 1 ≤ editors }
+    ensures known { (result ≤ 6) × (result ≢ 1) × (result ≢ 2) }
+    ensures done { result ≡ 0 → IfSome (I.left source.old) (λ bytes. HasRelayed editors
+        (call_bytes bytes (I.left source.new) (O.taken sink.old) (O.taken sink.new))) }
+    ensures flushed { (result ≡ 0) ⊎ (result ≡ 3) ⊎ (result ≡ 5)
+        → IsFlushed (O.taken sink.old) (O.flushed sink.old)
+        → IsFlushed (O.taken sink.new) (O.flushed sink.new) }
+    ensures read { result ≡ 3 → CountRose (I.faults source.old) (I.faults source.new) }
+    ensures write { result ≡ 4 → CountRose (O.faults sink.old) (O.faults sink.new) }
+    ensures spent { result ≡ 5 → IfSome (I.left source.old) (λ bytes.
+        IfSome (I.left source.new) (λ rest. 2 ^ 64 - 1 + length rest ≤ length bytes)) }
+    ensures read_told { I.faults source.old < I.faults source.new → result ≡ 3 }
+    ensures write_told { O.faults sink.old < O.faults sink.new → result ≡ 4 }
+    ensures complete { IfSome (I.left source.old) (λ bytes. length bytes < 2 ^ 64 - 1
+        → ¬ CountRose (I.faults source.old) (I.faults source.new)
+        → ¬ CountRose (O.faults sink.old) (O.faults sink.new) → (result ≡ 0) ⊎ (result ≡ 6)) }
+    ensures exact { (result ≡ 3) ⊎ (result ≡ 5)
+        → IfSome (I.left source.old) (λ bytes. WroteTold editors
+        (call_bytes bytes (I.left source.new) (O.taken sink.old) (O.taken sink.new))) }
+    ensures part { 3 ≤ result → IfSome (I.left source.old) (λ bytes. WrotePart editors
+        (call_bytes bytes (I.left source.new) (O.taken sink.old) (O.taken sink.new)) 4096) }
+{
+    match relay(alloc, editors, source, sink, u64::MAX) {
+        Ok(_) => Status::Done as u8,
+        Err(error) => status_of(error),
+    }
+}
+
+// A relay has no desk that could be spent.
+fn status_of(error: ServeError) -> u8
+    requires { (n : ℕ) → error ≢ ServeError.DeskSpent n }
+    ensures { result ≡ status_of_lem error }
+{
+    match error {
+        ServeError::ReadFault => Status::ReadFault as u8,
+        ServeError::WriteFault => Status::WriteFault as u8,
+        ServeError::ReadsSpent => Status::ReadsSpent as u8,
+        ServeError::NoMemory => Status::NoMemory as u8,
+        ServeError::DeskSpent(_) => unreachable!(),
+    }
+}
+
+// How many editors the arguments ask for: one word.
+fn read_words(words: &Vec<String>) -> Option<u32>
+    ensures value { result ≡ asked words.now.items }
+    ensures some { IfSome result (λ editors. 1 ≤ editors) }
+{
+    match words.as_slice() {
+        [word] => read_word(word.as_str()),
+        _ => None,
+    }
+}
+
+fn read_word(word: &str) -> Option<u32>
+    ensures value { result ≡ editors_of word.now }
+    ensures some { IfSome result (λ editors. 1 ≤ editors) }
+{
+    match number(word) {
+        Some(n) if 1 <= n && n <= 64 => Some(n as u32),
+        _ => None,
+    }
+}
+
+// The number that is written in decimal digits alone. Std's reader takes a plus sign too.
+fn number(word: &str) -> Option<u64>
+    ensures { result ≡ number_of word.now }
+{
+    if word.as_bytes().starts_with(b"+") {
+        None
+    } else {
+        word.parse::<u64>().ok()
+    }
+}
