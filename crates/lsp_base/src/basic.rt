@@ -128,9 +128,11 @@ impl Eq for Position {
 }
 
 impl PartialOrd for Position {
-    ghost partial_cmp = { as_partial_cmp (then_cmp (on (λ p. p.line) nat_cmp) (on (λ p. p.character) nat_cmp)) };
+    ghost partial_cmp = { as_partial_cmp
+        (then_cmp (on (λ p. p.line) nat_cmp) (on (λ p. p.character) nat_cmp)) };
 
-    ghost laws = { partial_order_from_own_ties (Prim.search (comparing, rules)) (Prim.search (comparing, rules)) };
+    ghost laws = { partial_order_from_own_ties (Prim.search (comparing, rules))
+        (Prim.search (comparing, rules)) };
 
     fn partial_cmp(&self, other: &Position) -> Option<Ordering> {
         Some(self.cmp(other))

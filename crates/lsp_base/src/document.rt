@@ -60,7 +60,8 @@ pub struct TextDocumentItem {
 impl TextDocumentItem {
     /// That version of the document, with its text.
     pub fn new(uri: Uri, language_id: String, version: i32, text: String) -> TextDocumentItem
-        ensures { result ≡ record { uri = uri; language_id = language_id; version = version; text = text } }
+        ensures { result
+            ≡ record { uri = uri; language_id = language_id; version = version; text = text } }
     {
         TextDocumentItem {
             uri,

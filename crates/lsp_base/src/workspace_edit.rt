@@ -26,7 +26,12 @@ pub struct WorkspaceEdit {
 impl WorkspaceEdit {
     /// Those edits of each document.
     pub fn new(changes: HashMap<Uri, Vec<TextEdit>>) -> WorkspaceEdit
-        ensures { result ≡ record { changes = Some changes; document_changes = None; change_annotations = None } }
+        ensures { result
+            ≡ record {
+              changes = Some changes;
+              document_changes = None;
+              change_annotations = None;
+            } }
     {
         WorkspaceEdit {
             changes: Some(changes),

@@ -312,7 +312,8 @@ impl TryFrom<&str> for CompletionItemKind {
 }
 
 impl fmt::Debug for CompletionItemKind {
-    ghost debug_output = { λ k. Some (kind_text completion_item_kinds (codes "CompletionItemKind") k) };
+    ghost debug_output = { λ k. Some
+        (kind_text completion_item_kinds (codes "CompletionItemKind") k) };
 
     fn fmt<W: fmt::Write>(&self, f: &mut fmt::Formatter<W>) -> fmt::Result {
         write_kind(f, "CompletionItemKind", self.name(), self.0)
@@ -382,7 +383,8 @@ impl TryFrom<&str> for CompletionItemTag {
 }
 
 impl fmt::Debug for CompletionItemTag {
-    ghost debug_output = { λ k. Some (kind_text completion_item_tags (codes "CompletionItemTag") k) };
+    ghost debug_output = { λ k. Some
+        (kind_text completion_item_tags (codes "CompletionItemTag") k) };
 
     fn fmt<W: fmt::Write>(&self, f: &mut fmt::Formatter<W>) -> fmt::Result {
         write_kind(f, "CompletionItemTag", self.name(), self.0)
@@ -467,7 +469,8 @@ impl TryFrom<&str> for CompletionTriggerKind {
 }
 
 impl fmt::Debug for CompletionTriggerKind {
-    ghost debug_output = { λ k. Some (kind_text completion_trigger_kinds (codes "CompletionTriggerKind") k) };
+    ghost debug_output = { λ k. Some
+        (kind_text completion_trigger_kinds (codes "CompletionTriggerKind") k) };
 
     fn fmt<W: fmt::Write>(&self, f: &mut fmt::Formatter<W>) -> fmt::Result {
         write_kind(f, "CompletionTriggerKind", self.name(), self.0)

@@ -74,7 +74,8 @@ impl TryFrom<&str> for DiagnosticSeverity {
 }
 
 impl fmt::Debug for DiagnosticSeverity {
-    ghost debug_output = { λ k. Some (kind_text diagnostic_severities (codes "DiagnosticSeverity") k) };
+    ghost debug_output = { λ k. Some
+        (kind_text diagnostic_severities (codes "DiagnosticSeverity") k) };
 
     fn fmt<W: fmt::Write>(&self, f: &mut fmt::Formatter<W>) -> fmt::Result {
         write_kind(f, "DiagnosticSeverity", self.name(), self.0)

@@ -66,7 +66,8 @@ impl TryFrom<&str> for CodeActionTriggerKind {
 }
 
 impl fmt::Debug for CodeActionTriggerKind {
-    ghost debug_output = { λ k. Some (kind_text code_action_trigger_kinds (codes "CodeActionTriggerKind") k) };
+    ghost debug_output = { λ k. Some
+        (kind_text code_action_trigger_kinds (codes "CodeActionTriggerKind") k) };
 
     fn fmt<W: fmt::Write>(&self, f: &mut fmt::Formatter<W>) -> fmt::Result {
         write_kind(f, "CodeActionTriggerKind", self.name(), self.0)
@@ -144,7 +145,8 @@ impl TryFrom<&str> for DocumentHighlightKind {
 }
 
 impl fmt::Debug for DocumentHighlightKind {
-    ghost debug_output = { λ k. Some (kind_text document_highlight_kinds (codes "DocumentHighlightKind") k) };
+    ghost debug_output = { λ k. Some
+        (kind_text document_highlight_kinds (codes "DocumentHighlightKind") k) };
 
     fn fmt<W: fmt::Write>(&self, f: &mut fmt::Formatter<W>) -> fmt::Result {
         write_kind(f, "DocumentHighlightKind", self.name(), self.0)
@@ -268,7 +270,8 @@ impl PrepareSupportDefaultBehavior {
 
     /// The name of the number, where it has one.
     pub fn name(&self) -> Option<&'static str>
-        ensures { option_map (λ s. s.now) result ≡ name_in prepare_support_default_behaviors self.now }
+        ensures { option_map (λ s. s.now) result
+            ≡ name_in prepare_support_default_behaviors self.now }
     {
         name_of(&Self::NAMES, self.0)
     }
@@ -278,7 +281,8 @@ impl PrepareSupportDefaultBehavior {
 impl TryFrom<&str> for PrepareSupportDefaultBehavior {
     type Error = &'static str;
 
-    ghost try_from_gives = { λ name r. IsReadBy prepare_support_default_behaviors name.now (λ e. e.now) r };
+    ghost try_from_gives = { λ name r. IsReadBy prepare_support_default_behaviors name.now
+        (λ e. e.now) r };
 
     fn try_from(name: &str) -> Result<PrepareSupportDefaultBehavior, &'static str> {
         match number_of(&Self::NAMES, name) {
@@ -289,7 +293,8 @@ impl TryFrom<&str> for PrepareSupportDefaultBehavior {
 }
 
 impl fmt::Debug for PrepareSupportDefaultBehavior {
-    ghost debug_output = { λ k. Some (kind_text prepare_support_default_behaviors (codes "PrepareSupportDefaultBehavior") k) };
+    ghost debug_output = { λ k. Some
+        (kind_text prepare_support_default_behaviors (codes "PrepareSupportDefaultBehavior") k) };
 
     fn fmt<W: fmt::Write>(&self, f: &mut fmt::Formatter<W>) -> fmt::Result {
         write_kind(f, "PrepareSupportDefaultBehavior", self.name(), self.0)
@@ -356,7 +361,8 @@ impl SignatureHelpTriggerKind {
 impl TryFrom<&str> for SignatureHelpTriggerKind {
     type Error = &'static str;
 
-    ghost try_from_gives = { λ name r. IsReadBy signature_help_trigger_kinds name.now (λ e. e.now) r };
+    ghost try_from_gives = { λ name r. IsReadBy signature_help_trigger_kinds name.now
+        (λ e. e.now) r };
 
     fn try_from(name: &str) -> Result<SignatureHelpTriggerKind, &'static str> {
         match number_of(&Self::NAMES, name) {
@@ -367,7 +373,8 @@ impl TryFrom<&str> for SignatureHelpTriggerKind {
 }
 
 impl fmt::Debug for SignatureHelpTriggerKind {
-    ghost debug_output = { λ k. Some (kind_text signature_help_trigger_kinds (codes "SignatureHelpTriggerKind") k) };
+    ghost debug_output = { λ k. Some
+        (kind_text signature_help_trigger_kinds (codes "SignatureHelpTriggerKind") k) };
 
     fn fmt<W: fmt::Write>(&self, f: &mut fmt::Formatter<W>) -> fmt::Result {
         write_kind(f, "SignatureHelpTriggerKind", self.name(), self.0)

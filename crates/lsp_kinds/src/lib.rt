@@ -7,8 +7,6 @@ mod language;
 mod named;
 mod symbols;
 mod sync;
-#[cfg(test)]
-mod tests;
 mod workspace;
 
 pub use completion::{

@@ -21,7 +21,8 @@ pub(crate) fn number_of(mut names: &[(&'static str, i32)], name: &str) -> Option
 }
 
 pub(crate) fn name_of(mut names: &[(&'static str, i32)], number: i32) -> Option<&'static str>
-    ensures { option_map (λ s. s.now) result ≡ name_in (map (λ e. (e.0.now, e.1)) names.entry.now) number }
+    ensures { option_map (λ s. s.now) result
+        ≡ name_in (map (λ e. (e.0.now, e.1)) names.entry.now) number }
 {
     while let [entry, rest @ ..] = names {
         if entry.1 == number {

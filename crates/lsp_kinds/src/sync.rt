@@ -69,7 +69,8 @@ impl TryFrom<&str> for TextDocumentSyncKind {
 }
 
 impl fmt::Debug for TextDocumentSyncKind {
-    ghost debug_output = { λ k. Some (kind_text text_document_sync_kinds (codes "TextDocumentSyncKind") k) };
+    ghost debug_output = { λ k. Some
+        (kind_text text_document_sync_kinds (codes "TextDocumentSyncKind") k) };
 
     fn fmt<W: fmt::Write>(&self, f: &mut fmt::Formatter<W>) -> fmt::Result {
         write_kind(f, "TextDocumentSyncKind", self.name(), self.0)
@@ -136,7 +137,8 @@ impl TextDocumentSaveReason {
 impl TryFrom<&str> for TextDocumentSaveReason {
     type Error = &'static str;
 
-    ghost try_from_gives = { λ name r. IsReadBy text_document_save_reasons name.now (λ e. e.now) r };
+    ghost try_from_gives = { λ name r. IsReadBy text_document_save_reasons name.now
+        (λ e. e.now) r };
 
     fn try_from(name: &str) -> Result<TextDocumentSaveReason, &'static str> {
         match number_of(&Self::NAMES, name) {
@@ -147,7 +149,8 @@ impl TryFrom<&str> for TextDocumentSaveReason {
 }
 
 impl fmt::Debug for TextDocumentSaveReason {
-    ghost debug_output = { λ k. Some (kind_text text_document_save_reasons (codes "TextDocumentSaveReason") k) };
+    ghost debug_output = { λ k. Some
+        (kind_text text_document_save_reasons (codes "TextDocumentSaveReason") k) };
 
     fn fmt<W: fmt::Write>(&self, f: &mut fmt::Formatter<W>) -> fmt::Result {
         write_kind(f, "TextDocumentSaveReason", self.name(), self.0)

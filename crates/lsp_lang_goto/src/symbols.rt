@@ -164,6 +164,8 @@ pub struct WorkspaceSymbolParams {
 impl WorkspaceSymbolParams {
     /// An empty query without tokens.
     pub fn default(alloc: Global) -> WorkspaceSymbolParams
+        ensures partial_token { result.partial_result_params.partial_result_token ≡ None }
+        ensures token { result.work_done_progress_params.work_done_token ≡ None }
         ensures query { string_bytes result.query ≡ [] }
     {
         WorkspaceSymbolParams {

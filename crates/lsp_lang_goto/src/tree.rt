@@ -57,8 +57,10 @@ impl Wire for DocumentSymbol {
 #[cycle(reading)]
 #[tactic(auto, unfolding(crate::specs::Tree::document_symbol_level, crate::specs::Tree::show_document_symbol))]
 fn read_symbol(alloc: Global, value: &Value) -> Result<DocumentSymbol, Misfit>
-    ensures read { IfOk result (λ x. read document_symbol_level.shape (view value.now) ≡ Some (show_document_symbol x)) }
-    ensures unfit { IsErrOf result Misfit.Unfit → read document_symbol_level.shape (view value.now) ≡ None }
+    ensures read { IfOk result
+        (λ x. read document_symbol_level.shape (view value.now) ≡ Some (show_document_symbol x)) }
+    ensures unfit { IsErrOf result Misfit.Unfit
+        → read document_symbol_level.shape (view value.now) ≡ None }
 {
     let Value::Object(object) = value else {
         return Err(Misfit::Unfit);
@@ -81,8 +83,13 @@ fn read_children(
     alloc: Global,
     object: &Map<String, Value>,
 ) -> Result<Option<Vec<DocumentSymbol>>, Misfit>
-    ensures read { IfOk result (λ o. read_member omitted (read (list document_symbol_shape)) (get_member (codes "children") (members_view object.now.entries)) ≡ Some (show_option (show_list show_document_symbol) o)) }
-    ensures unfit { IsErrOf result Misfit.Unfit → read_member omitted (read (list document_symbol_shape)) (get_member (codes "children") (members_view object.now.entries)) ≡ None }
+    ensures read { IfOk result
+        (λ o. read_member omitted (read (list document_symbol_shape))
+        (get_member (codes "children") (members_view object.now.entries))
+        ≡ Some (show_option (show_list show_document_symbol) o)) }
+    ensures unfit { IsErrOf result Misfit.Unfit
+        → read_member omitted (read (list document_symbol_shape))
+        (get_member (codes "children") (members_view object.now.entries)) ≡ None }
 {
     match find(object, "children") {
         Some(value) => read_list(alloc, value),
@@ -93,8 +100,11 @@ fn read_children(
 #[cycle(reading)]
 #[tactic(auto, using(crate::proofs::Unrolled::reading_lemmas))]
 fn read_list(alloc: Global, value: &Value) -> Result<Option<Vec<DocumentSymbol>>, Misfit>
-    ensures read { IfOk result (λ o. read_maybe (read (list document_symbol_shape)) (view value.now) ≡ Some (show_option (show_list show_document_symbol) o)) }
-    ensures unfit { IsErrOf result Misfit.Unfit → read_maybe (read (list document_symbol_shape)) (view value.now) ≡ None }
+    ensures read { IfOk result
+        (λ o. read_maybe (read (list document_symbol_shape)) (view value.now)
+        ≡ Some (show_option (show_list show_document_symbol) o)) }
+    ensures unfit { IsErrOf result Misfit.Unfit
+        → read_maybe (read (list document_symbol_shape)) (view value.now) ≡ None }
 {
     match value {
         Value::Null => Ok(None),
@@ -106,8 +116,11 @@ fn read_list(alloc: Global, value: &Value) -> Result<Option<Vec<DocumentSymbol>>
 #[cycle(reading)]
 #[tactic(auto, using(crate::proofs::Unrolled::reading_lemmas))]
 fn read_all(alloc: Global, items: &Vec<Value>) -> Result<Vec<DocumentSymbol>, Misfit>
-    ensures read { IfOk result (λ v. read_items (read document_symbol_shape) (items_view items.now.items) ≡ Some (parts_of (map show_document_symbol v.items))) }
-    ensures unfit { IsErrOf result Misfit.Unfit → read_items (read document_symbol_shape) (items_view items.now.items) ≡ None }
+    ensures read { IfOk result
+        (λ v. read_items (read document_symbol_shape) (items_view items.now.items)
+        ≡ Some (parts_of (map show_document_symbol v.items))) }
+    ensures unfit { IsErrOf result Misfit.Unfit
+        → read_items (read document_symbol_shape) (items_view items.now.items) ≡ None }
 {
     let mut all = Vec::with_capacity(alloc, items.len())?;
     for item in items {
@@ -120,8 +133,10 @@ fn read_all(alloc: Global, items: &Vec<Value>) -> Result<Vec<DocumentSymbol>, Mi
 #[cycle(writing)]
 #[tactic(auto, unfolding(crate::specs::Tree::document_symbol_level, crate::specs::Tree::show_document_symbol))]
 fn write_symbol(alloc: Global, symbol: &DocumentSymbol) -> Result<Value, NoMemory>
-    ensures written { IfOk result (λ v. view v ≡ write document_symbol_level.shape (show_document_symbol symbol.now)) }
-    ensures of_shape { OnOk result (is_of document_symbol_level.shape (show_document_symbol symbol.now) ≡ true) }
+    ensures written { IfOk result
+        (λ v. view v ≡ write document_symbol_level.shape (show_document_symbol symbol.now)) }
+    ensures of_shape { OnOk result
+        (is_of document_symbol_level.shape (show_document_symbol symbol.now) ≡ true) }
 {
     let mut object = Map::new(alloc);
     put(alloc, &mut object, "name", &symbol.name)?;
@@ -147,8 +162,14 @@ fn put_children(
     object: &mut Map<String, Value>,
     children: &Option<Vec<DocumentSymbol>>,
 ) -> Result<(), NoMemory>
-    ensures put { OnOk result (members_view object.new.entries ≡ put_present (codes "children") (write (list document_symbol_shape)) (show_option (show_list show_document_symbol) children.now) (members_view object.old.entries)) }
-    ensures of_shape { OnOk result (is_maybe (is_of (list document_symbol_shape)) (show_option (show_list show_document_symbol) children.now) ≡ true) }
+    ensures put { OnOk result
+        (members_view object.new.entries
+        ≡ put_present (codes "children") (write (list document_symbol_shape))
+        (show_option (show_list show_document_symbol) children.now)
+        (members_view object.old.entries)) }
+    ensures of_shape { OnOk result
+        (is_maybe (is_of (list document_symbol_shape))
+        (show_option (show_list show_document_symbol) children.now) ≡ true) }
 {
     match children {
         Some(symbols) => {
@@ -162,8 +183,11 @@ fn put_children(
 #[cycle(writing)]
 #[tactic(auto, using(crate::proofs::Unrolled::writing_lemmas))]
 fn write_all(alloc: Global, symbols: &Vec<DocumentSymbol>) -> Result<Value, NoMemory>
-    ensures written { IfOk result (λ v. view v ≡ write (list document_symbol_shape) (show_list show_document_symbol symbols.now)) }
-    ensures of_shape { OnOk result (is_of (list document_symbol_shape) (show_list show_document_symbol symbols.now) ≡ true) }
+    ensures written { IfOk result
+        (λ v. view v
+        ≡ write (list document_symbol_shape) (show_list show_document_symbol symbols.now)) }
+    ensures of_shape { OnOk result
+        (is_of (list document_symbol_shape) (show_list show_document_symbol symbols.now) ≡ true) }
 {
     let mut items = Vec::with_capacity(alloc, symbols.len())?;
     for symbol in symbols {

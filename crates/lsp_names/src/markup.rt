@@ -120,7 +120,8 @@ impl MarkedString {
 
     /// Code in that language.
     pub fn from_language_code(language: String, code_block: String) -> MarkedString
-        ensures { result ≡ MarkedString.LanguageString (record { language = language; value = code_block }) }
+        ensures { result
+            ≡ MarkedString.LanguageString (record { language = language; value = code_block }) }
     {
         MarkedString::LanguageString(LanguageString {
             language,

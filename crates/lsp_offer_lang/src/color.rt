@@ -180,7 +180,8 @@ impl From<StaticTextDocumentColorProviderOptions> for FoldingRangeProviderCapabi
 }
 
 impl From<FoldingProviderOptions> for FoldingRangeProviderCapability {
-    ghost from_gives = { λ given made. made ≡ folding_range_provider_capability.FoldingProvider given };
+    ghost from_gives = { λ given made. made
+        ≡ folding_range_provider_capability.FoldingProvider given };
 
     fn from(provider: FoldingProviderOptions) -> FoldingRangeProviderCapability {
         FoldingRangeProviderCapability::FoldingProvider(provider)

@@ -53,7 +53,8 @@ impl Wire for SemanticTokensServerCapabilities {
 }
 
 impl From<SemanticTokensOptions> for SemanticTokensServerCapabilities {
-    ghost from_gives = { λ given made. made ≡ semantic_tokens_server_capabilities.SemanticTokensOptions given };
+    ghost from_gives = { λ given made. made
+        ≡ semantic_tokens_server_capabilities.SemanticTokensOptions given };
 
     fn from(options: SemanticTokensOptions) -> SemanticTokensServerCapabilities {
         SemanticTokensServerCapabilities::SemanticTokensOptions(options)
@@ -61,7 +62,8 @@ impl From<SemanticTokensOptions> for SemanticTokensServerCapabilities {
 }
 
 impl From<SemanticTokensRegistrationOptions> for SemanticTokensServerCapabilities {
-    ghost from_gives = { λ given made. made ≡ semantic_tokens_server_capabilities.SemanticTokensRegistrationOptions given };
+    ghost from_gives = { λ given made. made
+        ≡ semantic_tokens_server_capabilities.SemanticTokensRegistrationOptions given };
 
     fn from(options: SemanticTokensRegistrationOptions) -> SemanticTokensServerCapabilities {
         SemanticTokensServerCapabilities::SemanticTokensRegistrationOptions(options)
@@ -86,6 +88,9 @@ pub struct SemanticTokensOptions {
 impl SemanticTokensOptions {
     /// An empty legend, and no supported request.
     pub fn default(alloc: Global) -> SemanticTokensOptions
+        ensures progress { result.work_done_progress_options.work_done_progress ≡ None }
+        ensures token_types { result.legend.token_types.items ≡ [] }
+        ensures token_modifiers { result.legend.token_modifiers.items ≡ [] }
         ensures range { result.range ≡ None }
         ensures full { result.full ≡ None }
     {

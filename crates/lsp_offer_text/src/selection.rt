@@ -55,7 +55,8 @@ impl Wire for SelectionRangeProviderCapability {
 }
 
 impl From<SelectionRangeRegistrationOptions> for SelectionRangeProviderCapability {
-    ghost from_gives = { λ given made. made ≡ selection_range_provider_capability.RegistrationOptions given };
+    ghost from_gives = { λ given made. made
+        ≡ selection_range_provider_capability.RegistrationOptions given };
 
     fn from(options: SelectionRangeRegistrationOptions) -> SelectionRangeProviderCapability {
         SelectionRangeProviderCapability::RegistrationOptions(options)

@@ -234,6 +234,8 @@ impl RelatedFullDocumentDiagnosticReport {
     /// The default value: no diagnostics, no result id, and no related documents.
     pub fn default(alloc: Global) -> RelatedFullDocumentDiagnosticReport
         ensures related_documents { result.related_documents ≡ None }
+        ensures result_id { result.full_document_diagnostic_report.result_id ≡ None }
+        ensures items { result.full_document_diagnostic_report.items.items ≡ [] }
     {
         RelatedFullDocumentDiagnosticReport {
             related_documents: None,

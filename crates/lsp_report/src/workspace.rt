@@ -224,7 +224,8 @@ impl From<WorkspaceFullDocumentDiagnosticReport> for WorkspaceDocumentDiagnostic
 }
 
 impl From<WorkspaceUnchangedDocumentDiagnosticReport> for WorkspaceDocumentDiagnosticReport {
-    ghost from_gives = { λ given made. made ≡ workspace_document_diagnostic_report.Unchanged given };
+    ghost from_gives = { λ given made. made
+        ≡ workspace_document_diagnostic_report.Unchanged given };
 
     fn from(
         unchanged: WorkspaceUnchangedDocumentDiagnosticReport,

@@ -25,7 +25,9 @@ pub fn attempt<T: Wire>(alloc: Global, value: &Value) -> Result<Option<T>, NoMem
 }
 
 fn put_each(object: &mut Map<String, Value>, members: Map<String, Value>) -> Result<(), NoMemory>
-    ensures { OnOk result (members_view object.new.entries ≡ put_all (members_view members.entries) (members_view object.old.entries)) }
+    ensures { OnOk result
+        (members_view object.new.entries
+        ≡ put_all (members_view members.entries) (members_view object.old.entries)) }
 {
     for (name, member) in members {
         drop(object.insert(name, member)?);
@@ -44,7 +46,8 @@ fn members_of(alloc: Global, value: Value) -> Map<String, Value>
 
 /// The members of what is written for the value.
 pub fn members_written<T: Wire>(alloc: Global, value: &T) -> Result<Map<String, Value>, NoMemory>
-    ensures written { IfOk result (λ m. members_view m.entries ≡ members_in (write T.shape (T.shown value.now))) }
+    ensures written { IfOk result
+        (λ m. members_view m.entries ≡ members_in (write T.shape (T.shown value.now))) }
     ensures of_shape { OnOk result (is_of T.shape (T.shown value.now) ≡ true) }
 {
     Ok(members_of(alloc, value.to_value(alloc)?))
@@ -56,7 +59,10 @@ pub fn put_flat<T: Wire>(
     object: &mut Map<String, Value>,
     value: &T,
 ) -> Result<(), NoMemory>
-    ensures written { OnOk result (members_view object.new.entries ≡ put_all (members_in (write T.shape (T.shown value.now))) (members_view object.old.entries)) }
+    ensures written { OnOk result
+        (members_view object.new.entries
+        ≡ put_all (members_in (write T.shape (T.shown value.now)))
+        (members_view object.old.entries)) }
     ensures of_shape { OnOk result (is_of T.shape (T.shown value.now) ≡ true) }
 {
     put_each(object, members_of(alloc, value.to_value(alloc)?))
@@ -64,14 +70,18 @@ pub fn put_flat<T: Wire>(
 
 /// The text of the member of that name, where it is one.
 pub fn tag<'v>(value: &'v Value, name: &str) -> Option<&'v str>
-    ensures { option_map (λ s. s.now) result ≡ option_and_then as_str (get name.now (view value.now)) }
+    ensures { option_map (λ s. s.now) result
+        ≡ option_and_then as_str (get name.now (view value.now)) }
 {
     value.get(name)?.as_str()
 }
 
 /// What is written for the value, with a text as the member of that name.
 pub fn put_tag<T: Wire>(alloc: Global, tag: &str, name: &str, value: &T) -> Result<Value, NoMemory>
-    ensures written { IfOk result (λ v. view v ≡ object_of (with_member tag.now (string name.now) (members_in (write T.shape (T.shown value.now))))) }
+    ensures written { IfOk result
+        (λ v. view v
+        ≡ object_of (with_member tag.now (string name.now)
+        (members_in (write T.shape (T.shown value.now))))) }
     ensures of_shape { OnOk result (is_of T.shape (T.shown value.now) ≡ true) }
 {
     let mut object = members_of(alloc, value.to_value(alloc)?);

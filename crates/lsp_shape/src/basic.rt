@@ -216,8 +216,11 @@ impl<T: Wire> Wire for Vec<T> {
 // What the items are read as.
 #[tactic(auto, using(crate::proofs::Items::item_lemmas))]
 fn read_all<T: Wire>(alloc: Global, items: &Vec<Value>) -> Result<Vec<T>, Misfit>
-    ensures read { IfOk result (λ v. read_items (read T.shape) (items_view items.now.items) ≡ Some (parts_of (map T.shown v.items))) }
-    ensures unfit { IsErrOf result Misfit.Unfit → read_items (read T.shape) (items_view items.now.items) ≡ None }
+    ensures read { IfOk result
+        (λ v. read_items (read T.shape) (items_view items.now.items)
+        ≡ Some (parts_of (map T.shown v.items))) }
+    ensures unfit { IsErrOf result Misfit.Unfit
+        → read_items (read T.shape) (items_view items.now.items) ≡ None }
 {
     let mut all = Vec::with_capacity(alloc, items.len())?;
     for item in items {

@@ -17,7 +17,8 @@ use std::alloc::Global;
 pub fn read_value<T: Wire>(alloc: Global, value: &Value) -> Result<T, Misfit>
     ensures read { IfOk result (λ x. read T.shape (view value.now) ≡ Some (T.shown x)) }
     ensures unfit { IsErrOf result Misfit.Unfit → read T.shape (view value.now) ≡ None }
-    ensures floatless { has_float (view value.now) ≡ false → IfOk result (λ x. plain_has_float (T.shown x) ≡ false) }
+    ensures floatless { has_float (view value.now) ≡ false
+        → IfOk result (λ x. plain_has_float (T.shown x) ≡ false) }
 {
     T::from_value(alloc, value)
 }
@@ -26,7 +27,8 @@ pub fn read_value<T: Wire>(alloc: Global, value: &Value) -> Result<T, Misfit>
 pub fn write_value<T: Wire>(alloc: Global, value: &T) -> Result<Value, NoMemory>
     ensures written { IfOk result (λ v. view v ≡ write T.shape (T.shown value.now)) }
     ensures of_shape { OnOk result (is_of T.shape (T.shown value.now) ≡ true) }
-    ensures floatless { plain_has_float (T.shown value.now) ≡ false → IfOk result (λ v. has_float (view v) ≡ false) }
+    ensures floatless { plain_has_float (T.shown value.now) ≡ false
+        → IfOk result (λ v. has_float (view v) ≡ false) }
 {
     value.to_value(alloc)
 }
@@ -43,7 +45,8 @@ pub fn trimmed<T: Wire>(alloc: Global, value: &Value) -> Result<Value, Misfit>
 
 /// Writes the value, and reads that back: the same value, where its plain data is clear.
 pub fn reads_back<T: Wire>(alloc: Global, value: &T) -> Result<T, Misfit>
-    ensures same { IfOk result (λ x. clear T.shape (T.shown value.now) ≡ true → T.shown x ≡ T.shown value.now) }
+    ensures same { IfOk result
+        (λ x. clear T.shape (T.shown value.now) ≡ true → T.shown x ≡ T.shown value.now) }
     ensures fits { IsErrOf result Misfit.Unfit → clear T.shape (T.shown value.now) ≡ false }
     ensures always { ReadsBack T.shape }
 {

@@ -7,8 +7,6 @@ mod law;
 mod map;
 mod member;
 mod object;
-#[cfg(test)]
-mod tests;
 mod tokens;
 mod wire;
 

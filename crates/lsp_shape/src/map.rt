@@ -99,8 +99,12 @@ pub fn rest<K: Key, T: Wire>(
     members: &Map<String, Value>,
     names: &[&str],
 ) -> Result<HashMap<K, T>, Misfit>
-    ensures read { IfOk result (λ m. read_entries (map (λ n. n.now) names.now) K.is_key (read T.shape) (members_view members.now.entries) ≡ Some (entries_of K.key_text T.shown m.entries)) }
-    ensures unfit { IsErrOf result Misfit.Unfit → read_entries (map (λ n. n.now) names.now) K.is_key (read T.shape) (members_view members.now.entries) ≡ None }
+    ensures read { IfOk result
+        (λ m. read_entries (map (λ n. n.now) names.now) K.is_key (read T.shape)
+        (members_view members.now.entries) ≡ Some (entries_of K.key_text T.shown m.entries)) }
+    ensures unfit { IsErrOf result Misfit.Unfit
+        → read_entries (map (λ n. n.now) names.now) K.is_key (read T.shape)
+        (members_view members.now.entries) ≡ None }
 {
     let mut entries = HashMap::new(alloc);
     for (name, member) in members.iter() {

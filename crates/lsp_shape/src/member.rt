@@ -18,15 +18,20 @@ use std::alloc::Global;
 
 /// The member of that name.
 pub fn find<'v>(object: &'v Map<String, Value>, name: &str) -> Option<&'v Value>
-    ensures { option_map (λ v. view v.now) result ≡ get_member name.now (members_view object.now.entries) }
+    ensures { option_map (λ v. view v.now) result
+        ≡ get_member name.now (members_view object.now.entries) }
 {
     object.get(name)
 }
 
 /// What the member of that name is read as.
 pub fn field<T: Wire>(alloc: Global, object: &Map<String, Value>, name: &str) -> Result<T, Misfit>
-    ensures read { IfOk result (λ x. read_member required (read T.shape) (get_member name.now (members_view object.now.entries)) ≡ Some (T.shown x)) }
-    ensures unfit { IsErrOf result Misfit.Unfit → read_member required (read T.shape) (get_member name.now (members_view object.now.entries)) ≡ None }
+    ensures read { IfOk result
+        (λ x. read_member required (read T.shape)
+        (get_member name.now (members_view object.now.entries)) ≡ Some (T.shown x)) }
+    ensures unfit { IsErrOf result Misfit.Unfit
+        → read_member required (read T.shape)
+        (get_member name.now (members_view object.now.entries)) ≡ None }
 {
     match find(object, name) {
         Some(value) => T::from_value(alloc, value),
@@ -40,8 +45,13 @@ pub fn optional<T: Wire>(
     object: &Map<String, Value>,
     name: &str,
 ) -> Result<Option<T>, Misfit>
-    ensures read { IfOk result (λ o. read_member omitted (read T.shape) (get_member name.now (members_view object.now.entries)) ≡ Some (maybe_of (option_map T.shown o))) }
-    ensures unfit { IsErrOf result Misfit.Unfit → read_member omitted (read T.shape) (get_member name.now (members_view object.now.entries)) ≡ None }
+    ensures read { IfOk result
+        (λ o. read_member omitted (read T.shape)
+        (get_member name.now (members_view object.now.entries))
+        ≡ Some (maybe_of (option_map T.shown o))) }
+    ensures unfit { IsErrOf result Misfit.Unfit
+        → read_member omitted (read T.shape) (get_member name.now (members_view object.now.entries))
+        ≡ None }
 {
     match find(object, name) {
         Some(value) => Option::<T>::from_value(alloc, value),
@@ -55,8 +65,12 @@ pub fn supported<T: Wire>(
     object: &Map<String, Value>,
     name: &str,
 ) -> Result<Option<T>, Misfit>
-    ensures read { IfOk result (λ o. read_supported (read T.shape) (get_member name.now (members_view object.now.entries)) ≡ Some (maybe_of (option_map T.shown o))) }
-    ensures unfit { IsErrOf result Misfit.Unfit → read_supported (read T.shape) (get_member name.now (members_view object.now.entries)) ≡ None }
+    ensures read { IfOk result
+        (λ o. read_supported (read T.shape) (get_member name.now (members_view object.now.entries))
+        ≡ Some (maybe_of (option_map T.shown o))) }
+    ensures unfit { IsErrOf result Misfit.Unfit
+        → read_supported (read T.shape) (get_member name.now (members_view object.now.entries))
+        ≡ None }
 {
     match find(object, name) {
         None => Ok(None),
@@ -86,8 +100,12 @@ pub fn list_or_empty<T: Wire>(
     object: &Map<String, Value>,
     name: &str,
 ) -> Result<Vec<T>, Misfit>
-    ensures read { IfOk result (λ x. read_member or_empty (read (list T.shape)) (get_member name.now (members_view object.now.entries)) ≡ Some (show_list T.shown x)) }
-    ensures unfit { IsErrOf result Misfit.Unfit → read_member or_empty (read (list T.shape)) (get_member name.now (members_view object.now.entries)) ≡ None }
+    ensures read { IfOk result
+        (λ x. read_member or_empty (read (list T.shape))
+        (get_member name.now (members_view object.now.entries)) ≡ Some (show_list T.shown x)) }
+    ensures unfit { IsErrOf result Misfit.Unfit
+        → read_member or_empty (read (list T.shape))
+        (get_member name.now (members_view object.now.entries)) ≡ None }
 {
     match find(object, name) {
         Some(value) => Vec::<T>::from_value(alloc, value),
@@ -101,8 +119,12 @@ pub fn truth_or_false(
     object: &Map<String, Value>,
     name: &str,
 ) -> Result<bool, Misfit>
-    ensures read { IfOk result (λ b. read_member or_false (read truth) (get_member name.now (members_view object.now.entries)) ≡ Some (show_bool b)) }
-    ensures unfit { IsErrOf result Misfit.Unfit → read_member or_false (read truth) (get_member name.now (members_view object.now.entries)) ≡ None }
+    ensures read { IfOk result
+        (λ b. read_member or_false (read truth)
+        (get_member name.now (members_view object.now.entries)) ≡ Some (show_bool b)) }
+    ensures unfit { IsErrOf result Misfit.Unfit
+        → read_member or_false (read truth) (get_member name.now (members_view object.now.entries))
+        ≡ None }
 {
     match find(object, name) {
         Some(value) => bool::from_value(alloc, value),
@@ -117,7 +139,9 @@ pub fn put_value(
     name: &str,
     value: Value,
 ) -> Result<(), NoMemory>
-    ensures ok { OnOk result (members_view object.new.entries ≡ with_member name.now (view value) (members_view object.old.entries)) }
+    ensures ok { OnOk result
+        (members_view object.new.entries
+        ≡ with_member name.now (view value) (members_view object.old.entries)) }
     ensures err { OnErr result (object.new.entries ≡ object.old.entries) }
 {
     Ok(serde_json::put(object, alloc, name, value)?)
@@ -130,7 +154,10 @@ pub fn put<T: Wire>(
     name: &str,
     value: &T,
 ) -> Result<(), NoMemory>
-    ensures ok { OnOk result (members_view object.new.entries ≡ with_member name.now (write T.shape (T.shown value.now)) (members_view object.old.entries)) }
+    ensures ok { OnOk result
+        (members_view object.new.entries
+        ≡ with_member name.now (write T.shape (T.shown value.now))
+        (members_view object.old.entries)) }
     ensures of_shape { OnOk result (is_of T.shape (T.shown value.now) ≡ true) }
     ensures err { OnErr result (object.new.entries ≡ object.old.entries) }
 {
@@ -145,8 +172,12 @@ pub fn put_optional<T: Wire>(
     name: &str,
     value: &Option<T>,
 ) -> Result<(), NoMemory>
-    ensures ok { OnOk result (members_view object.new.entries ≡ put_present name.now (write T.shape) (maybe_of (option_map T.shown value.now)) (members_view object.old.entries)) }
-    ensures of_shape { OnOk result (is_maybe (is_of T.shape) (maybe_of (option_map T.shown value.now)) ≡ true) }
+    ensures ok { OnOk result
+        (members_view object.new.entries
+        ≡ put_present name.now (write T.shape) (maybe_of (option_map T.shown value.now))
+        (members_view object.old.entries)) }
+    ensures of_shape { OnOk result
+        (is_maybe (is_of T.shape) (maybe_of (option_map T.shown value.now)) ≡ true) }
     ensures err { OnErr result (object.new.entries ≡ object.old.entries) }
 {
     match value {
@@ -162,8 +193,13 @@ pub fn put_nullable<T: Wire>(
     name: &str,
     value: &Option<T>,
 ) -> Result<(), NoMemory>
-    ensures ok { OnOk result (members_view object.new.entries ≡ with_member name.now (write_maybe (write T.shape) (maybe_of (option_map T.shown value.now))) (members_view object.old.entries)) }
-    ensures of_shape { OnOk result (is_maybe (is_of T.shape) (maybe_of (option_map T.shown value.now)) ≡ true) }
+    ensures ok { OnOk result
+        (members_view object.new.entries
+        ≡ with_member name.now
+        (write_maybe (write T.shape) (maybe_of (option_map T.shown value.now)))
+        (members_view object.old.entries)) }
+    ensures of_shape { OnOk result
+        (is_maybe (is_of T.shape) (maybe_of (option_map T.shown value.now)) ≡ true) }
     ensures err { OnErr result (object.new.entries ≡ object.old.entries) }
 {
     let member = value.to_value(alloc)?;
@@ -177,7 +213,10 @@ pub fn put_unless_empty<T: Wire>(
     name: &str,
     value: &Vec<T>,
 ) -> Result<(), NoMemory>
-    ensures ok { OnOk result (members_view object.new.entries ≡ write_member name.now unless_empty (write (list T.shape)) (show_list T.shown value.now) (members_view object.old.entries)) }
+    ensures ok { OnOk result
+        (members_view object.new.entries
+        ≡ write_member name.now unless_empty (write (list T.shape)) (show_list T.shown value.now)
+        (members_view object.old.entries)) }
     ensures of_shape { OnOk result (is_of (list T.shape) (show_list T.shown value.now) ≡ true) }
     ensures err { OnErr result (object.new.entries ≡ object.old.entries) }
 {
@@ -195,7 +234,10 @@ pub fn put_unless_false(
     name: &str,
     value: bool,
 ) -> Result<(), NoMemory>
-    ensures ok { OnOk result (members_view object.new.entries ≡ write_member name.now unless_false (write truth) (show_bool value) (members_view object.old.entries)) }
+    ensures ok { OnOk result
+        (members_view object.new.entries
+        ≡ write_member name.now unless_false (write truth) (show_bool value)
+        (members_view object.old.entries)) }
     ensures err { OnErr result (object.new.entries ≡ object.old.entries) }
 {
     if value {

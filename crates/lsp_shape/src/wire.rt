@@ -68,8 +68,10 @@ pub trait Wire: Drop {
         ensures of_shape { OnOk result (is_of shape (shown self.now) ≡ true) };
 
     /// What is read of a value with no float holds none.
-    ghost reads_no_float: { (d : Data) (p : Plain) → has_float d ≡ false → read shape d ≡ Some p → plain_has_float p ≡ false } = { read_floatless shape };
+    ghost reads_no_float: { (d : Data) (p : Plain) → has_float d ≡ false → read shape d ≡ Some p
+        → plain_has_float p ≡ false } = { read_floatless shape };
 
     /// What is written of a value that holds no float has none.
-    ghost writes_no_float: { (p : Plain) → plain_has_float p ≡ false → has_float (write shape p) ≡ false } = { write_floatless shape };
+    ghost writes_no_float: { (p : Plain) → plain_has_float p ≡ false
+        → has_float (write shape p) ≡ false } = { write_floatless shape };
 }

@@ -7,8 +7,6 @@ mod cuts;
 mod host;
 mod parts;
 mod path;
-#[cfg(test)]
-mod tests;
 mod uri;
 
 pub use no_memory::NoMemory;

@@ -117,7 +117,10 @@ fn is_relative_part(authority: Option<&str>, path: &str) -> bool
 
 #[tactic(auto, unfolding(crate::specs::Grammar::is_by_parts))]
 fn is_by_parts(parts: Parts<'_>) -> bool
-    ensures { result ≡ is_by_parts (option_map (λ s. s.now) parts.entry.scheme) (option_map (λ s. s.now) parts.entry.authority) parts.entry.path.now (option_map (λ s. s.now) parts.entry.query) (option_map (λ s. s.now) parts.entry.fragment) }
+    ensures { result
+        ≡ is_by_parts (option_map (λ s. s.now) parts.entry.scheme)
+        (option_map (λ s. s.now) parts.entry.authority) parts.entry.path.now
+        (option_map (λ s. s.now) parts.entry.query) (option_map (λ s. s.now) parts.entry.fragment) }
 {
     let starts = match parts.scheme {
         Some(_) => is_hier_part(parts.authority, parts.path),

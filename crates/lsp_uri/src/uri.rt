@@ -87,7 +87,8 @@ impl Uri {
     pub fn as_str(&self) -> &str
         ensures text { result.now ≡ uri_text self.now }
         ensures fits { is_uri_reference (uri_text self.now) ≡ true }
-        ensures whole { let s = uri_text self.now in recomposed (scheme_of s) (authority_of s) (path_of s) (query_of s) (fragment_of s) ≡ s }
+        ensures whole { let s = uri_text self.now in recomposed (scheme_of s) (authority_of s)
+            (path_of s) (query_of s) (fragment_of s) ≡ s }
     {
         self.text.as_str()
     }

@@ -186,7 +186,10 @@ pub struct DidChangeWorkspaceFoldersParams {
 
 impl DidChangeWorkspaceFoldersParams {
     /// No folders added or removed.
-    pub fn default(alloc: Global) -> DidChangeWorkspaceFoldersParams {
+    pub fn default(alloc: Global) -> DidChangeWorkspaceFoldersParams
+        ensures added { result.event.added.items ≡ [] }
+        ensures removed { result.event.removed.items ≡ [] }
+    {
         DidChangeWorkspaceFoldersParams {
             event: WorkspaceFoldersChangeEvent::default(alloc),
         }
@@ -275,6 +278,7 @@ impl ExecuteCommandParams {
     pub fn default(alloc: Global) -> ExecuteCommandParams
         ensures command { string_bytes result.command ≡ [] }
         ensures arguments { result.arguments.items ≡ [] }
+        ensures token { result.work_done_progress_params.work_done_token ≡ None }
     {
         ExecuteCommandParams {
             command: String::new(alloc),
