@@ -1,0 +1,14 @@
+pub mod CodeAction
+pub mod Completion
+pub mod Folding
+pub mod Hover
+pub mod Inline
+pub mod Link
+pub mod Publish
+pub mod Rename
+pub mod Selection
+pub mod SignatureHelp
+pub mod Symbols
+pub mod Sync
+pub mod TextDocument
+pub mod Tokens
