@@ -1,0 +1,5 @@
+pub mod CodeAction
+pub mod Completion
+pub mod InlayHint
+pub mod InlineValue
+pub mod Rename

@@ -1,0 +1,4 @@
+pub mod Errors
+pub mod Room
+pub mod Tagged
+pub mod Unrolled

@@ -1,0 +1,76 @@
+// An entry of a dump.
+ghost use Rattle.lsp_lsif.specs.Entry.{entry_row, element_row};
+
+use crate::edge::Edge;
+use crate::vertex::Vertex;
+use lsp_base::NumberOrString;
+use lsp_shape::{Misfit, NoMemory, Reader, Wire, Writer, put_tag, tag};
+use serde_json::Value;
+use std::alloc::Global;
+
+/// The id of a vertex or an edge, an integer or a string, by which other entries of the same dump refer to it (LSIF
+/// 0.6).
+pub type Id = NumberOrString;
+
+/// One vertex or edge of an index dump, as a JSON object. A dump is a sequence of them, and each vertex stands before
+/// the edges that refer to it (LSIF 0.6).
+#[derive(Debug, Drop)]
+pub struct Entry {
+    /// The id of the vertex or edge, unique in the dump.
+    pub id: Id,
+    /// The vertex or edge. Its members are those of the same JSON object as the id.
+    pub payload: Element,
+}
+
+#[tactic(auto, unfolding(crate::specs::Entry::entry_row))]
+impl Wire for Entry {
+    ghost shape = { entry_row.shape };
+
+    ghost shown = { entry_row.shown };
+
+    fn from_value(alloc: Global, value: &Value) -> Result<Entry, Misfit> {
+        let object = Reader::new(alloc, value)?;
+        Ok(Entry {
+            id: object.field("id")?,
+            payload: Element::from_value(alloc, value)?,
+        })
+    }
+
+    fn to_value(&self, alloc: Global) -> Result<Value, NoMemory> {
+        let mut object = Writer::new(alloc);
+        object.field("id", &self.id)?;
+        object.flat(&self.payload)?;
+        Ok(object.end())
+    }
+}
+
+/// A vertex or an edge of the graph that a dump describes. In JSON, the member `type` distinguishes them (LSIF 0.6).
+#[derive(Debug, Drop)]
+pub enum Element {
+    /// A node, such as a document, a range or the result of a request. Its `type` is `vertex`.
+    Vertex(Vertex),
+    /// A directed link between vertices. Its `type` is `edge`.
+    Edge(Edge),
+}
+
+#[tactic(auto, using(crate::proofs::Room::room_in_element), unfolding(crate::specs::Entry::element_row))]
+impl Wire for Element {
+    ghost shape = { element_row.shape };
+
+    ghost shown = { element_row.shown };
+
+    fn from_value(alloc: Global, value: &Value) -> Result<Element, Misfit> {
+        match tag(value, "type") {
+            Some("vertex") => Ok(Element::Vertex(Vertex::from_value(alloc, value)?)),
+            Some("edge") => Ok(Element::Edge(Edge::from_value(alloc, value)?)),
+            _ => Err(Misfit::Unfit),
+        }
+    }
+
+    fn to_value(&self, alloc: Global) -> Result<Value, NoMemory> {
+        match self {
+            Element::Vertex(vertex) => put_tag(alloc, "type", "vertex", vertex),
+            Element::Edge(edge) => put_tag(alloc, "type", "edge", edge),
+        }
+    }
+}

@@ -1,0 +1,2 @@
+pub mod TokenList
+pub mod Unrolled

@@ -1,0 +1,9 @@
+use Rattle.serde_json.specs.View.{view}
+use Rattle.lsp_tokens.proofs.Unrolled.{read-level}
+use Rattle.lsp_tokens.proofs.selection_range.SelectionRangeWire.from_value.Goals as goal
+
+pub returns-clause-read : goal.returns-clause-read
+returns-clause-read c = rw (read-level (view c.args.value.now)) c.read_selection.ensures.read
+
+pub returns-clause-unfit : goal.returns-clause-unfit
+returns-clause-unfit c = rw (read-level (view c.args.value.now)) c.read_selection.ensures.unfit
