@@ -98,6 +98,8 @@ const SEMANTIC_TOKENS_OPTIONS: &str = r#"
 ! {"workDoneProgress":true}
 # clangd 14.0.6
 {"full":{"delta":true},"legend":{"tokenModifiers":["declaration","deprecated","deduced","readonly","static","abstract","virtual","dependentName","defaultLibrary","usedAsMutableReference","functionScope","classScope","fileScope","globalScope"],"tokenTypes":["variable","variable","parameter","function","method","function","property","variable","class","interface","enum","enumMember","type","type","unknown","namespace","typeParameter","concept","type","macro","comment"]},"range":false}
+# Members of other types that read alike
+{"full":true,"legend":{"tokenModifiers":["tokenModifiers"],"tokenTypes":["tokenTypes"]},"workDoneProgress":true} :: SemanticTokensOptions { work_done_progress_options: WorkDoneProgressOptions { work_done_progress: Some(true) }, legend: SemanticTokensLegend { token_types: [SemanticTokenType("tokenTypes")], token_modifiers: [SemanticTokenModifier("tokenModifiers")] }, range: None, full: Some(Bool(true)) }
 "#;
 
 const SEMANTIC_TOKENS_REGISTRATION_OPTIONS: &str = r#"

@@ -35,6 +35,8 @@ const TEXT_DOCUMENT_SYNC_OPTIONS: &str = r#"
 {"change":2,"openClose":true,"save":{"includeText":false},"willSave":false,"willSaveWaitUntil":false}
 # pylsp 1.7.1
 {"change":2,"openClose":true,"save":{"includeText":true}}
+# Members of other types that read alike
+{"save":true,"willSaveWaitUntil":true} :: TextDocumentSyncOptions { open_close: None, change: None, will_save: None, will_save_wait_until: Some(true), save: Some(Supported(true)) }
 "#;
 
 const TEXT_DOCUMENT_SYNC_SAVE_OPTIONS: &str = r#"

@@ -1,0 +1,102 @@
+//! Tables of texts that tell what a type of the protocol is read from and what is written of it, for tests.
+//!
+//! A table has a line for each text:
+//!
+//!     TEXT            the text is read, and the same value is written
+//!     TEXT => TEXT    the first is read, and the second is written
+//!     TEXT :: SHOWN   the text is read and written, and Debug shows this of what it is read as
+//!     ! TEXT          the text does not fit
+//!     # SOURCE        who sent the text of the next line
+#![tactic(auto)]
+
+mod error;
+
+ghost use Rattle.std.specs.Prelude.{◌≡◌, Some, None, false, IfOk, OnOk, string_bytes};
+ghost use Rattle.serde_json.specs.Data.{Data};
+ghost use Rattle.serde_json.specs.Read as json_text;
+ghost use Rattle.serde_json.specs.View.{view};
+ghost use Rattle.serde_json.specs.Written.{compact_text, has_float};
+ghost use Rattle.lsp_shape.specs.Read.{read};
+ghost use Rattle.lsp_shape.specs.Write.{write};
+
+pub use error::RowError;
+use error::{compare, untrue};
+use lsp_shape::{NoMemory, Wire, attempt};
+use serde_json::Value;
+use std::alloc::Global;
+use std::fmt;
+
+/// What is written for the value.
+pub fn text_of<T: Wire>(alloc: Global, value: &T) -> Result<String, NoMemory>
+    ensures { let written = write T.shape (T.shown value.now) in
+        IfOk result (λ s. has_float written ≡ false → string_bytes s ≡ compact_text written) }
+{
+    Ok(value.to_value(alloc)?.to_string(alloc)?)
+}
+
+// The value of a text of that line.
+fn json(alloc: Global, line: &str, text: &str) -> Result<Value, RowError>
+    ensures { IfOk result (λ v. json_text.read text.now ≡ Some (view v)) }
+{
+    match Value::from_str(alloc, text) {
+        Ok(value) => Ok(value),
+        Err(error) if error.is_memory() => Err(RowError::NoMemory),
+        Err(_) => Err(untrue(alloc, line, "a JSON text", text)?),
+    }
+}
+
+// The text of that line does not fit.
+fn is_refused<T: Wire + fmt::Debug>(alloc: Global, line: &str, text: &str) -> Result<(), RowError>
+    ensures { OnOk result
+        ((d : Data) × (json_text.read text.now ≡ Some d) × (read T.shape d ≡ None)) }
+{
+    match attempt::<T>(alloc, &json(alloc, line, text)?)? {
+        None => Ok(()),
+        Some(value) => {
+            let shown = format!(in alloc; "{value:?}")?;
+            Err(untrue(alloc, line, "a text that does not fit", shown.as_str())?)
+        }
+    }
+}
+
+// The value that the text of that line is read as.
+fn read_as<T: Wire>(alloc: Global, line: &str, text: &str) -> Result<T, RowError>
+    ensures { IfOk result
+        (λ x. (d : Data) × (json_text.read text.now ≡ Some d)
+        × (read T.shape d ≡ Some (T.shown x))) }
+{
+    match attempt(alloc, &json(alloc, line, text)?)? {
+        Some(value) => Ok(value),
+        None => Err(untrue(alloc, line, "a text that fits", text)?),
+    }
+}
+
+fn line_holds<T: Wire + fmt::Debug>(alloc: Global, line: &str) -> Result<(), RowError> {
+    if let Some(text) = line.strip_prefix("! ") {
+        return is_refused::<T>(alloc, line, text);
+    }
+    let (text, shown) = line.split_once(" :: ").unwrap_or((line, ""));
+    let (text, written) = text.split_once(" => ").unwrap_or((text, text));
+    let value: T = read_as(alloc, line, text)?;
+    if !shown.is_empty() {
+        let found = format!(in alloc; "{value:?}")?;
+        compare(alloc, line, shown, found.as_str())?;
+    }
+    let expected = json(alloc, line, written)?.to_string(alloc)?;
+    compare(
+        alloc,
+        line,
+        expected.as_str(),
+        text_of(alloc, &value)?.as_str(),
+    )
+}
+
+/// Tries each line of the table on the type. The error has the first that is not true of it.
+pub fn holds<T: Wire + fmt::Debug>(alloc: Global, rows: &str) -> Result<(), RowError> {
+    for line in rows.lines() {
+        if !line.is_empty() && !line.starts_with("#") {
+            line_holds::<T>(alloc, line)?;
+        }
+    }
+    Ok(())
+}
