@@ -1,0 +1,16 @@
+//! Tries messages, frames, keyed lists and desks: the crates below a session.
+//!
+//! Only what no clause says: that memory isn't wanting where it is ample, texts of `Debug` and of errors, and rows that show
+//! that the definitions say what is meant.
+#![tactic(auto)]
+
+#[cfg(test)]
+mod desk;
+#[cfg(test)]
+mod frame;
+#[cfg(test)]
+mod keyed;
+#[cfg(test)]
+mod rpc;
+#[cfg(test)]
+mod shared;

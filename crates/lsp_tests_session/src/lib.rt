@@ -1,0 +1,18 @@
+//! Tries sessions, the serving of them, and the proxy.
+//!
+//! Only what no clause says: that memory isn't wanting where it is ample, that a reader or a writer of std is called once a
+//! call, texts of errors, and rows that show that the definitions say what is meant.
+#![tactic(auto)]
+
+#[cfg(test)]
+mod proxy;
+#[cfg(test)]
+mod read_write;
+#[cfg(test)]
+mod relay;
+#[cfg(test)]
+mod server;
+#[cfg(test)]
+mod session;
+#[cfg(test)]
+mod small;

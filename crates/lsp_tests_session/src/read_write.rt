@@ -1,0 +1,117 @@
+// One call of a reader or a writer of std for each call of a source or a sink.
+use lsp_server::{Failed, ReadSource, Refused, Sink, Source, WriteSink, write_all};
+use std::io;
+use std::io::{ErrorKind, Read, Write};
+use std::test::Fail;
+
+// A writer that counts its calls. Each write takes so many bytes at most, or each call fails.
+#[derive(Drop)]
+struct Counted<'a> {
+    most: Option<usize>,
+    writes: &'a mut u32,
+    flushes: &'a mut u32,
+}
+
+impl Write for Counted<'_> {
+    fn write(&mut self, piece: &[u8]) -> io::Result<usize> {
+        *self.writes = self.writes.saturating_add(1);
+        match self.most {
+            Some(most) => Ok(most.min(piece.len())),
+            None => Err(io::Error::from(ErrorKind::BrokenPipe)),
+        }
+    }
+
+    fn flush(&mut self) -> io::Result<()> {
+        *self.flushes = self.flushes.saturating_add(1);
+        match self.most {
+            Some(_) => Ok(()),
+            None => Err(io::Error::from(ErrorKind::BrokenPipe)),
+        }
+    }
+}
+
+// A reader that counts its calls. Each read gives so many bytes at most, or fails.
+#[derive(Drop)]
+struct CountedReader<'a> {
+    most: Option<usize>,
+    reads: &'a mut u32,
+}
+
+impl Read for CountedReader<'_> {
+    fn read(&mut self, piece: &mut [u8]) -> io::Result<usize> {
+        *self.reads = self.reads.saturating_add(1);
+        match self.most {
+            Some(most) => Ok(most.min(piece.len())),
+            None => Err(io::Error::from(ErrorKind::BrokenPipe)),
+        }
+    }
+}
+
+#[test]
+fn one_call_of_the_reader_for_each_read(rt: HostRuntime) -> Result<(), Fail> {
+    for (most, read) in [
+        (Some(9), Ok(5)),
+        (Some(2), Ok(2)),
+        (Some(0), Ok(0)),
+        (None, Err(Failed)),
+    ] {
+        let mut reads = 0;
+        let mut source = ReadSource::new(CountedReader {
+            most,
+            reads: &mut reads,
+        });
+        let mut piece = [0; 5];
+        assert_eq!(rt; source.read(&mut piece), read, "at most {most:?}");
+        assert_eq!(rt; reads, 1, "at most {most:?}");
+    }
+    Ok(())
+}
+
+#[test]
+fn one_call_of_the_writer_for_each_call(rt: HostRuntime) -> Result<(), Fail> {
+    let failed = Refused::Failed;
+    for (most, written, flushed) in [
+        (Some(9), Ok(5), Ok(())),
+        (Some(5), Ok(5), Ok(())),
+        (Some(2), Ok(2), Ok(())),
+        (Some(0), Err(failed), Ok(())),
+        (None, Err(failed), Err(failed)),
+    ] {
+        let (mut writes, mut flushes) = (0, 0);
+        let mut sink = WriteSink::new(Counted {
+            most,
+            writes: &mut writes,
+            flushes: &mut flushes,
+        });
+        assert_eq!(rt; sink.write(b"bytes"), written, "at most {most:?}");
+        assert_eq!(rt; (writes, flushes), (1, 0), "at most {most:?}");
+        let mut sink = WriteSink::new(Counted {
+            most,
+            writes: &mut writes,
+            flushes: &mut flushes,
+        });
+        assert_eq!(rt; sink.flush(), flushed, "at most {most:?}");
+        assert_eq!(rt; (writes, flushes), (1, 1), "at most {most:?}");
+    }
+    Ok(())
+}
+
+#[test]
+fn all_bytes_in_as_many_writes_as_it_takes(rt: HostRuntime) -> Result<(), Fail> {
+    for (most, answer, expected) in [
+        (Some(9), Ok(()), 1),
+        (Some(2), Ok(()), 3),
+        (Some(0), Err(Refused::Failed), 1),
+        (None, Err(Refused::Failed), 1),
+    ] {
+        let (mut writes, mut flushes) = (0, 0);
+        let mut sink = WriteSink::new(Counted {
+            most,
+            writes: &mut writes,
+            flushes: &mut flushes,
+        });
+        assert_eq!(rt; write_all(&mut sink, b"bytes"), answer, "at most {most:?}");
+        assert_eq!(rt; (writes, flushes), (expected, 0), "at most {most:?}");
+    }
+    Ok(())
+}

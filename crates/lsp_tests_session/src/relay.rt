@@ -1,0 +1,175 @@
+//! What a relay writes, byte for byte.
+use lsp_relay::{Relayed, Status, relay, run_proxy};
+use lsp_server::{MemorySink, MemorySource, NeverSink, NeverSource, ServeError};
+use std::alloc::Global;
+use std::test::Fail;
+
+// The frames of the texts, one after the other.
+fn framed(alloc: Global, texts: &[&str]) -> Result<Vec<u8>, Fail> {
+    let mut bytes = Vec::new(alloc);
+    for text in texts {
+        let head = format!(in alloc; "Content-Length: {}\r\n\r\n", text.len())?;
+        bytes.extend_from_slice(head.as_bytes())?;
+        bytes.extend_from_slice(text.as_bytes())?;
+    }
+    Ok(bytes)
+}
+
+const ASKED: &[&str] = &[
+    r#"{"jsonrpc":"2.0","method":"proxy/in","params":{"message":{"jsonrpc":"2.0","method":"x","id":7},"side":1}}"#,
+    r#"{"jsonrpc":"2.0","method":"proxy/in","params":{"message":{"jsonrpc":"2.0","method":"x","id":7},"side":2}}"#,
+    r#"{"jsonrpc":"2.0","method":"proxy/in","params":{"message":{"jsonrpc":"2.0","result":"b","id":1},"side":0}}"#,
+    r#"{"jsonrpc":"2.0","method":"proxy/in","params":{"message":{"jsonrpc":"2.0","result":"a","id":0},"side":0}}"#,
+];
+
+const SENT: &[&str] = &[
+    r#"{"jsonrpc":"2.0","method":"proxy/out","params":{"message":{"id":0,"jsonrpc":"2.0","method":"x"},"side":0}}"#,
+    r#"{"jsonrpc":"2.0","method":"proxy/out","params":{"message":{"id":1,"jsonrpc":"2.0","method":"x"},"side":0}}"#,
+    r#"{"jsonrpc":"2.0","method":"proxy/out","params":{"message":{"id":7,"jsonrpc":"2.0","result":"b"},"side":2}}"#,
+    r#"{"jsonrpc":"2.0","method":"proxy/out","params":{"message":{"id":7,"jsonrpc":"2.0","result":"a"},"side":1}}"#,
+];
+
+fn words_of(alloc: Global, words: &[&str]) -> Result<Vec<String>, Fail> {
+    let mut all = Vec::new(alloc);
+    for word in words {
+        all.push(String::from_str(alloc, word)?)?;
+    }
+    Ok(all)
+}
+
+#[test]
+fn two_editors_with_one_id(rt: HostRuntime) -> Result<(), Fail> {
+    let alloc = rt.alloc();
+    for piece in [1, 50, 4096] {
+        let mut source = NeverSource::new(framed(alloc, ASKED)?, piece);
+        let mut sink = NeverSink::new(alloc);
+        let words = words_of(alloc, &["2"])?;
+        assert_eq!(rt;
+            run_proxy(alloc, &words, &mut source, &mut sink),
+            Status::Done as u8
+        );
+        assert!(rt; sink.bytes() == framed(alloc, SENT)?.as_slice(), "{piece}");
+    }
+    Ok(())
+}
+
+// None of these is one number from 1 to 64.
+const NO_NUMBERS: &[&[&str]] = &[
+    &[],
+    &["0"],
+    &["65"],
+    &["+2"],
+    &["2 "],
+    &[""],
+    &["-1"],
+    &["18446744073709551618"],
+    &["2", "2"],
+];
+
+#[test]
+fn other_words(rt: HostRuntime) -> Result<(), Fail> {
+    let alloc = rt.alloc();
+    for words in NO_NUMBERS {
+        let mut source = NeverSource::new(framed(alloc, ASKED)?, 4096);
+        let mut sink = NeverSink::new(alloc);
+        let words = words_of(alloc, words)?;
+        let status = run_proxy(alloc, &words, &mut source, &mut sink);
+        assert_eq!(rt; status, Status::Usage as u8);
+        assert!(rt; sink.bytes().is_empty());
+    }
+    for word in ["1", "64", "064"] {
+        let mut source = NeverSource::new(Vec::new(alloc), 4096);
+        let mut sink = NeverSink::new(alloc);
+        let words = words_of(alloc, &[word])?;
+        let status = run_proxy(alloc, &words, &mut source, &mut sink);
+        assert_eq!(rt; status, Status::Done as u8, "{word}");
+    }
+    Ok(())
+}
+
+// Each of these tells no message of two editors.
+const OTHERS: &[&str] = &[
+    "",
+    "{",
+    r#"{"jsonrpc":"2.0","method":"proxy/in"}"#,
+    r#"{"jsonrpc":"2.0","method":"proxy/in","params":{"message":{"jsonrpc":"2.0","method":"x"},"side":0},"id":1}"#,
+    r#"{"jsonrpc":"2.0","method":"proxy/in","params":{"message":{"jsonrpc":"2.0","method":"x"},"side":0},"id":null}"#,
+    r#"{"jsonrpc":"2.0","method":"proxy/in","params":[{"jsonrpc":"2.0","method":"x"},0]}"#,
+    r#"{"jsonrpc":"2.0","method":"proxy/in","params":{"message":{"jsonrpc":"2.0","method":"x"}}}"#,
+    r#"{"jsonrpc":"2.0","method":"proxy/in","params":{"message":{"jsonrpc":"2.0","method":"x"},"side":0,"more":1}}"#,
+    r#"{"jsonrpc":"2.0","method":"proxy/in","params":{"message":{"jsonrpc":"2.0","method":"x"},"side":3}}"#,
+    r#"{"jsonrpc":"2.0","method":"proxy/in","params":{"message":{"jsonrpc":"2.0","method":"x"},"side":-1}}"#,
+    r#"{"jsonrpc":"2.0","method":"proxy/in","params":{"message":{"jsonrpc":"2.0","method":"x"},"side":"0"}}"#,
+    r#"{"jsonrpc":"2.0","method":"proxy/in","params":{"message":{"method":"x"},"side":0}}"#,
+    r#"{"jsonrpc":"2.0","method":"proxy/out","params":{"message":{"jsonrpc":"2.0","method":"x"},"side":0}}"#,
+    r#"{"jsonrpc":"2.0","result":{"message":{"jsonrpc":"2.0","method":"x"},"side":0},"id":1}"#,
+];
+
+#[test]
+fn other_items(rt: HostRuntime) -> Result<(), Fail> {
+    let alloc = rt.alloc();
+    let mut bytes = framed(alloc, OTHERS)?;
+    bytes.extend_from_slice(framed(alloc, ASKED)?.as_slice())?;
+    // Input ends inside a frame.
+    bytes.extend_from_slice(b"Content-Length: 9\r\n\r\n{")?;
+    let mut source = NeverSource::new(bytes, 300);
+    let mut sink = NeverSink::new(alloc);
+    let relayed = relay(alloc, 2, &mut source, &mut sink, u64::MAX);
+    // An empty body tells no item.
+    let wanted = Relayed {
+        passed: 4,
+        dropped: 14,
+    };
+    assert!(rt; relayed == Ok(wanted), "{relayed:?}");
+    assert!(rt; sink.bytes() == framed(alloc, SENT)?.as_slice());
+    Ok(())
+}
+
+// A notification of the server goes to both editors; params and errors keep their values.
+#[test]
+fn values_pass(rt: HostRuntime) -> Result<(), Fail> {
+    let alloc = rt.alloc();
+    let came = [
+        r#"{"jsonrpc":"2.0","method":"proxy/in","params":{"side":1,"message":{"params":{"b":[1,null],"a":"\u00e9"},"method":"m","id":"s","jsonrpc":"2.0"}}}"#,
+        r#"{"jsonrpc":"2.0","method":"proxy/in","params":{"side":0,"message":{"id":0,"error":{"message":"no","data":[true],"code":-32601},"jsonrpc":"2.0"}}}"#,
+        r#"{"jsonrpc":"2.0","method":"proxy/in","params":{"side":0,"message":{"params":{"n":-5},"method":"n","jsonrpc":"2.0"}}}"#,
+    ];
+    let went = [
+        r#"{"jsonrpc":"2.0","method":"proxy/out","params":{"message":{"id":0,"jsonrpc":"2.0","method":"m","params":{"a":"é","b":[1,null]}},"side":0}}"#,
+        r#"{"jsonrpc":"2.0","method":"proxy/out","params":{"message":{"error":{"code":-32601,"data":[true],"message":"no"},"id":"s","jsonrpc":"2.0"},"side":1}}"#,
+        r#"{"jsonrpc":"2.0","method":"proxy/out","params":{"message":{"jsonrpc":"2.0","method":"n","params":{"n":-5}},"side":1}}"#,
+        r#"{"jsonrpc":"2.0","method":"proxy/out","params":{"message":{"jsonrpc":"2.0","method":"n","params":{"n":-5}},"side":2}}"#,
+    ];
+    let mut source = NeverSource::new(framed(alloc, &came)?, 4096);
+    let mut sink = NeverSink::new(alloc);
+    let relayed = relay(alloc, 2, &mut source, &mut sink, u64::MAX);
+    let wanted = Relayed {
+        passed: 3,
+        dropped: 0,
+    };
+    assert!(rt; relayed == Ok(wanted), "{relayed:?}");
+    assert!(rt; sink.bytes() == framed(alloc, &went)?.as_slice());
+    Ok(())
+}
+
+#[test]
+fn failures(rt: HostRuntime) -> Result<(), Fail> {
+    let alloc = rt.alloc();
+    // Reads, and writes with flushes, are numbered from 1. A first read of 200 bytes tells one message.
+    for (failing_read, failing_call, reads, written, error) in [
+        (2, 0, 9, 1, ServeError::ReadFault),
+        (0, 1, 9, 0, ServeError::WriteFault),
+        (0, 2, 9, 1, ServeError::WriteFault),
+        (0, 0, 1, 1, ServeError::ReadsSpent),
+    ] {
+        let sent = framed(alloc, ASKED)?;
+        let mut source = MemorySource::new(sent, 200, vec![in alloc; failing_read]?);
+        let mut sink = MemorySink::new(alloc, vec![in alloc; failing_call]?);
+        let answer = relay(alloc, 2, &mut source, &mut sink, reads);
+        assert!(rt; answer == Err(error), "{error:?}");
+        assert!(rt; written <= SENT.len());
+        let wanted = framed(alloc, &SENT[..written])?;
+        assert!(rt; sink.bytes() == wanted.as_slice(), "{error:?}");
+    }
+    Ok(())
+}

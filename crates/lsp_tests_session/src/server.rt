@@ -1,0 +1,222 @@
+// Sessions of a small server: each public call once, with the bytes that it writes.
+ghost use Rattle.std.specs.Prelude.{◌<◌};
+ghost use Rattle.lsp_desk.specs.Meaning.{IsOpening};
+ghost use Rattle.lsp_desk.specs.Plain.{plain_meaning};
+ghost use Rattle.lsp_server.specs.ServerView.{server_desk};
+
+use crate::small::make_server;
+use lsp_desk::{ClientSocket, PlainDesk};
+use lsp_frame::Limits;
+use lsp_rpc::{Id, Message, Request};
+use lsp_server::{MemorySink, MemorySource, NeverSink, NeverSource, ServeError, Server};
+use lsp_session::{InOrder, Item, Life, Rotate, Session};
+use std::alloc::{AllocError, Global};
+use std::process::Abort;
+use std::test::Fail;
+
+const INITIALIZE: &str = "{\"jsonrpc\":\"2.0\",\"method\":\"initialize\",\"id\":1}";
+
+const SHUTDOWN: &str = "{\"jsonrpc\":\"2.0\",\"method\":\"shutdown\",\"id\":2}";
+
+const WAIT: &str = "{\"jsonrpc\":\"2.0\",\"method\":\"wait\",\"params\":2,\"id\":3}";
+
+const EXIT: &str = "{\"jsonrpc\":\"2.0\",\"method\":\"exit\"}";
+
+const ANSWER_1: &str = "Content-Length: 38\r\n\r\n{\"jsonrpc\":\"2.0\",\"result\":null,\"id\":1}";
+
+const ANSWERS_1_2: &str =
+    "Content-Length: 38\r\n\r\n{\"jsonrpc\":\"2.0\",\"result\":null,\"id\":1}Content-Length: 38\r\n\r\n{\"jsonrpc\":\"2.0\",\"result\":null,\"id\":2}";
+
+const ANSWERS_1_3: &str =
+    "Content-Length: 38\r\n\r\n{\"jsonrpc\":\"2.0\",\"result\":null,\"id\":1}Content-Length: 38\r\n\r\n{\"jsonrpc\":\"2.0\",\"result\":null,\"id\":3}";
+
+const PARSE_ERROR: &str =
+    "Content-Length: 75\r\n\r\n{\"jsonrpc\":\"2.0\",\"error\":{\"code\":-32700,\"message\":\"Parse error\"},\"id\":null}";
+
+fn new_server(alloc: Global) -> Server<PlainDesk>
+    ensures { IsOpening plain_meaning (server_desk result) }
+{
+    Server::new(ClientSocket::new(PlainDesk::new(alloc)))
+}
+
+fn framed(alloc: Global, bodies: &[&str]) -> Result<Vec<u8>, AllocError> {
+    let mut frames = Vec::new(alloc);
+    for body in bodies {
+        let length = body.len();
+        let head = format!(in alloc; "Content-Length: {length}\r\n\r\n")?;
+        frames.extend_from_slice(head.as_str().as_bytes())?;
+        frames.extend_from_slice(body.as_bytes())?;
+    }
+    Ok(frames)
+}
+
+// What is sent, with the limit of a body and the rounds of a step, and what comes of it: the bytes that are written, the
+// life at `exit`, and how many requests are left.
+struct Row {
+    name: &'static str,
+    sent: &'static [&'static str],
+    body: u64,
+    rounds: u64,
+    answers: &'static str,
+    exited: Option<Life>,
+    unanswered: usize,
+}
+
+const ROWS: [Row; 5] = [
+    Row {
+        name: "exit",
+        sent: &[INITIALIZE, SHUTDOWN, EXIT],
+        body: 99,
+        rounds: 1,
+        answers: ANSWERS_1_2,
+        exited: Some(Life::ShutDown),
+        unanswered: 0,
+    },
+    Row {
+        name: "end of input",
+        sent: &[INITIALIZE],
+        body: 99,
+        rounds: 1,
+        answers: ANSWER_1,
+        exited: None,
+        unanswered: 0,
+    },
+    Row {
+        name: "polled three times",
+        sent: &[INITIALIZE, WAIT],
+        body: 99,
+        rounds: 3,
+        answers: ANSWERS_1_3,
+        exited: None,
+        unanswered: 0,
+    },
+    Row {
+        name: "polled twice",
+        sent: &[INITIALIZE, WAIT],
+        body: 99,
+        rounds: 1,
+        answers: ANSWER_1,
+        exited: None,
+        unanswered: 1,
+    },
+    Row {
+        name: "a body over the limit",
+        sent: &[INITIALIZE],
+        body: 45,
+        rounds: 1,
+        answers: PARSE_ERROR,
+        exited: None,
+        unanswered: 0,
+    },
+];
+
+// Serves the row, by at most `piece` bytes a read.
+fn check_row(rt: &impl Abort, alloc: Global, row: &Row, piece: usize) -> Result<(), Fail>
+    requires { 0 < piece }
+{
+    if row.body == 0 || row.rounds == 0 {
+        return Err(Fail::new(row.name));
+    }
+    let limits = Limits {
+        head: 30,
+        body: row.body,
+    };
+    let server = new_server(alloc)
+        .concurrency_level(1)
+        .waiting_limit(0)
+        .limits(limits);
+    let mut source = NeverSource::new(framed(alloc, row.sent)?, piece);
+    let mut sink = NeverSink::new(alloc);
+    match server.serve(
+        alloc,
+        &mut source,
+        &mut sink,
+        make_server(alloc)?,
+        &mut Rotate::new(7),
+        1000,
+        row.rounds,
+    ) {
+        Ok(served) => {
+            assert_eq!(rt; served.exited, row.exited, "{}", row.name);
+            assert_eq!(rt; served.unanswered.len(), row.unanswered, "{}", row.name);
+        }
+        Err(_) => assert!(rt; false, "{}", row.name),
+    }
+    assert!(rt; sink.bytes() == row.answers.as_bytes(), "{}", row.name);
+    Ok(())
+}
+
+#[test]
+fn sessions_to_their_end(rt: HostRuntime) -> Result<(), Fail> {
+    for row in &ROWS {
+        check_row(&rt, rt.alloc(), row, 1)?;
+        check_row(&rt, rt.alloc(), row, 4096)?;
+    }
+    Ok(())
+}
+
+#[test]
+fn sessions_that_stop(rt: HostRuntime) -> Result<(), Fail> {
+    let alloc = rt.alloc();
+    for (failing_read, failing_call, reads, answers, error) in [
+        (2, 0, 9, ANSWER_1, ServeError::ReadFault),
+        (0, 1, 9, "", ServeError::WriteFault),
+        (0, 2, 9, ANSWER_1, ServeError::WriteFault),
+        (0, 0, 1, ANSWER_1, ServeError::ReadsSpent),
+    ] {
+        let sent = framed(alloc, &[INITIALIZE])?;
+        let mut source = MemorySource::new(sent, 4096, vec![in alloc; failing_read]?);
+        let mut sink = MemorySink::new(alloc, vec![in alloc; failing_call]?);
+        let service = make_server(alloc)?;
+        match new_server(alloc).serve(
+            alloc,
+            &mut source,
+            &mut sink,
+            service,
+            &mut InOrder,
+            reads,
+            1,
+        ) {
+            Ok(_) => assert!(rt; false, "{error}"),
+            Err(stopped) => assert_eq!(rt; stopped.error, error),
+        }
+        assert!(rt; sink.bytes() == answers.as_bytes(), "{error}");
+    }
+    Ok(())
+}
+
+#[test]
+fn one_step_and_a_tick(rt: HostRuntime) -> Result<(), Fail> {
+    let alloc = rt.alloc();
+    let mut session = Session::new(alloc, make_server(alloc)?, PlainDesk::new(alloc), 4);
+    let mut sink = MemorySink::new(alloc, Vec::new(alloc));
+    let request = Request::build(String::from_str(alloc, "initialize")?)
+        .id(Id::Number(1))
+        .finish();
+    let item = Item::Message(Message::Request(request));
+    let answer = Server::<PlainDesk>::step(alloc, &mut sink, &mut session, item, &mut InOrder, 1);
+    assert_eq!(rt; answer, Ok(()));
+    assert!(rt; sink.bytes() == ANSWER_1.as_bytes());
+
+    // A tick admits nothing, and a session that has begun nothing puts nothing out.
+    let mut session = Session::new(alloc, make_server(alloc)?, PlainDesk::new(alloc), 4);
+    let answer = Server::<PlainDesk>::idle(alloc, &mut sink, &mut session, &mut InOrder, 1);
+    assert_eq!(rt; answer, Ok(()));
+    assert!(rt; sink.bytes() == ANSWER_1.as_bytes());
+    Ok(())
+}
+
+#[test]
+fn texts_of_errors(rt: HostRuntime) -> Result<(), Fail> {
+    for (error, want) in [
+        (ServeError::ReadFault, "read failed"),
+        (ServeError::WriteFault, "write failed"),
+        (ServeError::ReadsSpent, "reads spent"),
+        (ServeError::DeskSpent(7), "desk spent"),
+        (ServeError::NoMemory, "out of memory"),
+    ] {
+        let text = format!(in rt.alloc(); "{error}")?;
+        assert_eq!(rt; text.as_str(), want);
+    }
+    Ok(())
+}

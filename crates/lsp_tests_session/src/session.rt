@@ -1,0 +1,308 @@
+// Rows over a session with a small server.
+ghost use Rattle.std.specs.Prelude.{◌≡◌, false, IfOk};
+ghost use Rattle.lsp_session.specs.Item.{show_item, item_has_float};
+
+use crate::small::{Small, make_server};
+use lsp_desk::{Caller, ClientCall, ClientReply, Desk, PlainDesk, ServerCall, ServerReply};
+use lsp_rpc::{Id, Message, Request, Response};
+use lsp_session::{InOrder, Item, Life, Pending, Pick, Poll, Rotate, Session, step};
+use serde_json::Value;
+use std::alloc::Global;
+use std::test::Fail;
+
+fn item(alloc: Global, text: &str) -> Result<Item, Fail>
+    ensures { IfOk result (λ i. item_has_float (show_item i) ≡ false) }
+{
+    if text == "tick" {
+        return Ok(Item::Tick);
+    }
+    Ok(Item::Message(Message::Request(Request::from_text(alloc, text)?)))
+}
+
+// Makes the step of an item, and writes who is answered, and how.
+fn make_step(
+    alloc: Global,
+    session: &mut Session<Small, PlainDesk>,
+    text: &str,
+    rounds: u64,
+    out: &mut String,
+) -> Result<(), Fail> {
+    if session.is_stopped() {
+        return Err(Fail::new("stopped"));
+    }
+    if session.life() == Life::Exited {
+        out.push_str("exited;")?;
+        return Ok(());
+    }
+    if let Err(fault) = step(session, item(alloc, text)?, &mut InOrder, rounds) {
+        return Err(Fail::from(fault));
+    }
+    for message in session.take_out() {
+        if let Message::Response(response) = message {
+            write_answer(alloc, &response, out)?;
+        }
+    }
+    Ok(())
+}
+
+fn write_answer(alloc: Global, response: &Response, out: &mut String) -> Result<(), Fail> {
+    let id = response.id();
+    let line = match response.error() {
+        Some(error) => format!(in alloc; "{} {};", id, error.code)?,
+        None => format!(in alloc; "{} ok;", id)?,
+    };
+    out.push_str(line.as_str())?;
+    Ok(())
+}
+
+/// What comes, and what comes of it: who is answered, and how, and which ids are left.
+struct Row {
+    name: &'static str,
+    max: usize,
+    wait: usize,
+    rounds: u64,
+    items: &'static [&'static str],
+    out: &'static str,
+    left: &'static str,
+}
+
+const I: &str = "{\"jsonrpc\":\"2.0\",\"method\":\"initialize\",\"params\":0,\"id\":1}";
+
+const SLOW: &str = "{\"jsonrpc\":\"2.0\",\"method\":\"initialize\",\"params\":1,\"id\":1}";
+
+const FAILS: &str = "{\"jsonrpc\":\"2.0\",\"method\":\"initialize\",\"params\":-1,\"id\":1}";
+
+const WAIT: &str = "{\"jsonrpc\":\"2.0\",\"method\":\"wait\",\"params\":1000,\"id\":2}";
+
+const ECHO: &str = "{\"jsonrpc\":\"2.0\",\"method\":\"wait\",\"params\":0,\"id\":3}";
+
+const EXIT: &str = "{\"jsonrpc\":\"2.0\",\"method\":\"exit\"}";
+
+const ROWS: [Row; 9] = [
+    Row {
+        name: "an unknown name that begins with `$/` is answered",
+        max: 4,
+        wait: 1024,
+        rounds: 8,
+        items: &["{\"jsonrpc\":\"2.0\",\"method\":\"$/foo\",\"id\":0}"],
+        out: "0 -32601;",
+        left: "",
+    },
+    Row {
+        name: "a second `initialize` while the first goes on",
+        max: 4,
+        wait: 1024,
+        rounds: 1,
+        items: &[
+            SLOW,
+            "{\"jsonrpc\":\"2.0\",\"method\":\"initialize\",\"params\":0,\"id\":2}",
+            "tick",
+        ],
+        out: "2 -32600;1 ok;",
+        left: "",
+    },
+    Row {
+        name: "an `initialize` that is cancelled, and another",
+        max: 4,
+        wait: 1024,
+        rounds: 1,
+        items: &[
+            SLOW,
+            "{\"jsonrpc\":\"2.0\",\"method\":\"$/cancelRequest\",\"params\":{\"id\":1}}",
+            "{\"jsonrpc\":\"2.0\",\"method\":\"initialize\",\"params\":1,\"id\":3}",
+            "tick",
+        ],
+        out: "1 -32800;3 ok;",
+        left: "",
+    },
+    Row {
+        name: "an `initialize` that fails, and another",
+        max: 4,
+        wait: 1024,
+        rounds: 8,
+        items: &[
+            FAILS,
+            WAIT,
+            "{\"jsonrpc\":\"2.0\",\"method\":\"initialize\",\"params\":0,\"id\":3}",
+        ],
+        out: "1 -32603;2 -32002;3 ok;",
+        left: "",
+    },
+    Row {
+        name: "a request where as many wait as may",
+        max: 1,
+        wait: 1,
+        rounds: 1,
+        items: &[
+            I,
+            WAIT,
+            ECHO,
+            "{\"jsonrpc\":\"2.0\",\"method\":\"wait\",\"params\":0,\"id\":4}",
+        ],
+        out: "1 ok;4 -32803;",
+        left: "2;3;",
+    },
+    Row {
+        name: "a notification where as many wait as may",
+        max: 1,
+        wait: 1,
+        rounds: 1,
+        items: &[
+            I,
+            WAIT,
+            ECHO,
+            "{\"jsonrpc\":\"2.0\",\"method\":\"initialized\",\"params\":{}}",
+        ],
+        out: "1 ok;",
+        left: "2;3;",
+    },
+    Row {
+        name: "a call that waits is polled in the round that frees its slot",
+        max: 1,
+        wait: 1024,
+        rounds: 1,
+        items: &[
+            I,
+            "{\"jsonrpc\":\"2.0\",\"method\":\"wait\",\"params\":2,\"id\":2}",
+            ECHO,
+            "tick",
+        ],
+        out: "1 ok;2 ok;3 ok;",
+        left: "",
+    },
+    Row {
+        name: "a live id, a cancel, and one that comes too late",
+        max: 4,
+        wait: 1024,
+        rounds: 8,
+        items: &[
+            I,
+            WAIT,
+            WAIT,
+            "{\"jsonrpc\":\"2.0\",\"method\":\"$/cancelRequest\",\"params\":{\"id\":2}}",
+            "{\"jsonrpc\":\"2.0\",\"method\":\"$/cancelRequest\",\"params\":{\"id\":2}}",
+        ],
+        out: "1 ok;2 -32600;2 -32800;",
+        left: "",
+    },
+    Row {
+        name: "an exit answers all in order",
+        max: 1,
+        wait: 1024,
+        rounds: 2,
+        items: &[
+            I,
+            WAIT,
+            "{\"jsonrpc\":\"2.0\",\"method\":\"wait\",\"params\":1000,\"id\":5}",
+            EXIT,
+            EXIT,
+        ],
+        out: "1 ok;2 -32800;5 -32800;exited;",
+        left: "",
+    },
+];
+
+fn check_row(alloc: Global, row: &Row) -> Result<(), Fail> {
+    if row.max == 0 {
+        return Err(Fail::new(row.name));
+    }
+    let session = Session::new(alloc, make_server(alloc)?, PlainDesk::new(alloc), row.max);
+    let mut session = session.waiting_limit(row.wait);
+    let mut out = String::new(alloc);
+    for text in row.items {
+        make_step(alloc, &mut session, text, row.rounds, &mut out)?;
+    }
+    let mut left = String::new(alloc);
+    for id in session.unanswered()? {
+        left.push_str(format!(in alloc; "{};", id)?.as_str())?;
+    }
+    if out.as_str() != row.out || left.as_str() != row.left {
+        return Err(Fail::new(row.name));
+    }
+    Ok(())
+}
+
+#[test]
+fn rows(rt: HostRuntime) -> Result<(), Fail> {
+    for row in &ROWS {
+        check_row(rt.alloc(), row)?;
+    }
+    Ok(())
+}
+
+// The first three numbers of a pick.
+fn three<P: Pick + Drop>(mut pick: P) -> (u64, u64, u64) {
+    (pick.next(4), pick.next(4), pick.next(4))
+}
+
+#[test]
+fn picks_tables_and_ids(rt: HostRuntime) -> Result<(), Fail> {
+    let alloc = rt.alloc();
+    expect(three(Rotate::new(u64::MAX)) == (u64::MAX, 0, 1))?;
+    expect(three(InOrder) == (0, 0, 0))?;
+    let mut live = Pending::new(alloc);
+    expect(live.execute(Id::Number(7))?)?;
+    expect(!live.execute(Id::Number(7))?)?;
+    expect(live.execute(Id::Null)?)?;
+    expect(live.cancel(&Id::Null) && !live.finish(&Id::Null))?;
+    expect(live.cancel_all().len() == 1 && !live.is_live(&Id::Number(7)))?;
+    let small = make_server(alloc)?;
+    let session = Session::new(alloc, small, PlainDesk::new(alloc), 1);
+    expect(session.poll_ready() == Poll::Ready(Ok(())) && session.exited().is_none())?;
+    let (small, _) = session.into_parts();
+    expect(small.table.find("wait").is_some() && small.table.find("foo").is_none())
+}
+
+fn expect(holds: bool) -> Result<(), Fail> {
+    if holds {
+        Ok(())
+    } else {
+        Err(Fail::new("another answer"))
+    }
+}
+
+const MANY: i64 = 400_000;
+
+// So many live ids and waiting calls take about as long each as a few: a walk over all that is held at each of
+// them would not end within a test's time.
+#[test]
+fn many_live(rt: HostRuntime) -> Result<(), Fail> {
+    let alloc = rt.alloc();
+    let mut live = Pending::new(alloc);
+    for n in 0..MANY {
+        expect(live.execute(Id::Number(n + 1))?)?;
+    }
+    for n in 0..MANY {
+        expect(!live.execute(Id::Number(n + 1))?)?;
+    }
+    let ids = live.cancel_all();
+    expect(ids.len() == MANY as usize)?;
+    let mut next = 1;
+    for id in &ids {
+        expect(*id == Id::Number(next))?;
+        next = next.wrapping_add(1);
+    }
+    many_waiting(alloc)
+}
+
+fn many_waiting(alloc: Global) -> Result<(), Fail> {
+    let mut desk = PlainDesk::new(alloc);
+    for n in 0..MANY {
+        let method = String::from_str(alloc, "m")?;
+        let request = Request::build(method).id(Id::Number(n + 1)).finish();
+        expect(is_ticket(&desk.client(ClientCall::Raw(request))?))?;
+    }
+    for n in 0..MANY {
+        let answer = Response::from_ok(Id::Number(MANY + n + 1), Value::Null);
+        expect(is_ignored(&desk.server(ServerCall::Answer(answer))?))?;
+    }
+    Ok(())
+}
+
+fn is_ticket(reply: &ClientReply) -> bool {
+    matches!(reply, ClientReply::Ticket(_, _))
+}
+
+fn is_ignored(reply: &ServerReply) -> bool {
+    matches!(reply, ServerReply::Ignored)
+}
