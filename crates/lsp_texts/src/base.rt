@@ -1,5 +1,4 @@
 // The rows of lsp_base.
-use crate::rows::{holds, text_of};
 use lsp_base::{
     AnnotatedTextEdit, CancelParams, ChangeAnnotation, CodeDescription, Command, CreateFile,
     CreateFileOptions, DeleteFile, DeleteFileOptions, Diagnostic, DiagnosticRelatedInformation,
@@ -11,6 +10,7 @@ use lsp_base::{
     TextDocumentPositionParams, TextDocumentRegistrationOptions, TextEdit,
     VersionedTextDocumentIdentifier, WorkDoneProgressParams, WorkspaceEdit, WorkspaceFolder,
 };
+use lsp_rows::{holds, text_of};
 use std::test::Fail;
 
 const NUMBER_OR_STRING: &str = r#"
@@ -217,76 +217,70 @@ const SYMBOL_KIND_CAPABILITY: &str = r#"
 
 #[test]
 fn rows_1(rt: HostRuntime) -> Result<(), Fail> {
-    let rt = &rt;
     let alloc = rt.alloc();
-    holds::<NumberOrString>(rt, alloc, NUMBER_OR_STRING)?;
-    holds::<CancelParams>(rt, alloc, CANCEL_PARAMS)?;
-    holds::<Position>(rt, alloc, POSITION)?;
-    holds::<Range>(rt, alloc, RANGE)?;
-    holds::<Location>(rt, alloc, LOCATION)?;
-    holds::<LocationLink>(rt, alloc, LOCATION_LINK)?;
-    holds::<Command>(rt, alloc, COMMAND)?;
-    holds::<CodeDescription>(rt, alloc, CODE_DESCRIPTION)?;
-    holds::<DiagnosticRelatedInformation>(rt, alloc, DIAGNOSTIC_RELATED_INFORMATION)?;
-    holds::<Diagnostic>(rt, alloc, DIAGNOSTIC)?;
-    holds::<TextEdit>(rt, alloc, TEXT_EDIT)?;
-    holds::<AnnotatedTextEdit>(rt, alloc, ANNOTATED_TEXT_EDIT)?;
+    holds::<NumberOrString>(alloc, NUMBER_OR_STRING)?;
+    holds::<CancelParams>(alloc, CANCEL_PARAMS)?;
+    holds::<Position>(alloc, POSITION)?;
+    holds::<Range>(alloc, RANGE)?;
+    holds::<Location>(alloc, LOCATION)?;
+    holds::<LocationLink>(alloc, LOCATION_LINK)?;
+    holds::<Command>(alloc, COMMAND)?;
+    holds::<CodeDescription>(alloc, CODE_DESCRIPTION)?;
+    holds::<DiagnosticRelatedInformation>(alloc, DIAGNOSTIC_RELATED_INFORMATION)?;
+    holds::<Diagnostic>(alloc, DIAGNOSTIC)?;
+    holds::<TextEdit>(alloc, TEXT_EDIT)?;
+    holds::<AnnotatedTextEdit>(alloc, ANNOTATED_TEXT_EDIT)?;
     Ok(())
 }
 
 #[test]
 fn rows_2(rt: HostRuntime) -> Result<(), Fail> {
-    let rt = &rt;
     let alloc = rt.alloc();
-    holds::<TextDocumentEdit>(rt, alloc, TEXT_DOCUMENT_EDIT)?;
-    holds::<ChangeAnnotation>(rt, alloc, CHANGE_ANNOTATION)?;
-    holds::<CreateFileOptions>(rt, alloc, CREATE_FILE_OPTIONS)?;
-    holds::<CreateFile>(rt, alloc, CREATE_FILE)?;
-    holds::<RenameFileOptions>(rt, alloc, RENAME_FILE_OPTIONS)?;
-    holds::<RenameFile>(rt, alloc, RENAME_FILE)?;
-    holds::<DeleteFileOptions>(rt, alloc, DELETE_FILE_OPTIONS)?;
-    holds::<DeleteFile>(rt, alloc, DELETE_FILE)?;
-    holds::<ResourceOp>(rt, alloc, RESOURCE_OP)?;
-    holds::<WorkspaceEdit>(rt, alloc, WORKSPACE_EDIT)?;
-    holds::<DocumentChanges>(rt, alloc, DOCUMENT_CHANGES)?;
-    holds::<DocumentChangeOperation>(rt, alloc, DOCUMENT_CHANGE_OPERATION)?;
+    holds::<TextDocumentEdit>(alloc, TEXT_DOCUMENT_EDIT)?;
+    holds::<ChangeAnnotation>(alloc, CHANGE_ANNOTATION)?;
+    holds::<CreateFileOptions>(alloc, CREATE_FILE_OPTIONS)?;
+    holds::<CreateFile>(alloc, CREATE_FILE)?;
+    holds::<RenameFileOptions>(alloc, RENAME_FILE_OPTIONS)?;
+    holds::<RenameFile>(alloc, RENAME_FILE)?;
+    holds::<DeleteFileOptions>(alloc, DELETE_FILE_OPTIONS)?;
+    holds::<DeleteFile>(alloc, DELETE_FILE)?;
+    holds::<ResourceOp>(alloc, RESOURCE_OP)?;
+    holds::<WorkspaceEdit>(alloc, WORKSPACE_EDIT)?;
+    holds::<DocumentChanges>(alloc, DOCUMENT_CHANGES)?;
+    holds::<DocumentChangeOperation>(alloc, DOCUMENT_CHANGE_OPERATION)?;
     Ok(())
 }
 
 #[test]
 fn rows_3(rt: HostRuntime) -> Result<(), Fail> {
-    let rt = &rt;
     let alloc = rt.alloc();
-    holds::<TextDocumentIdentifier>(rt, alloc, TEXT_DOCUMENT_IDENTIFIER)?;
-    holds::<TextDocumentItem>(rt, alloc, TEXT_DOCUMENT_ITEM)?;
-    holds::<VersionedTextDocumentIdentifier>(rt, alloc, VERSIONED_TEXT_DOCUMENT_IDENTIFIER)?;
+    holds::<TextDocumentIdentifier>(alloc, TEXT_DOCUMENT_IDENTIFIER)?;
+    holds::<TextDocumentItem>(alloc, TEXT_DOCUMENT_ITEM)?;
+    holds::<VersionedTextDocumentIdentifier>(alloc, VERSIONED_TEXT_DOCUMENT_IDENTIFIER)?;
     holds::<OptionalVersionedTextDocumentIdentifier>(
-        rt,
         alloc,
         OPTIONAL_VERSIONED_TEXT_DOCUMENT_IDENTIFIER,
     )?;
-    holds::<TextDocumentPositionParams>(rt, alloc, TEXT_DOCUMENT_POSITION_PARAMS)?;
-    holds::<DocumentFilter>(rt, alloc, DOCUMENT_FILTER)?;
-    holds::<TextDocumentContentChangeEvent>(rt, alloc, TEXT_DOCUMENT_CONTENT_CHANGE_EVENT)?;
-    holds::<PartialResultParams>(rt, alloc, PARTIAL_RESULT_PARAMS)?;
-    holds::<WorkDoneProgressParams>(rt, alloc, WORK_DONE_PROGRESS_PARAMS)?;
-    holds::<WorkspaceFolder>(rt, alloc, WORKSPACE_FOLDER)?;
+    holds::<TextDocumentPositionParams>(alloc, TEXT_DOCUMENT_POSITION_PARAMS)?;
+    holds::<DocumentFilter>(alloc, DOCUMENT_FILTER)?;
+    holds::<TextDocumentContentChangeEvent>(alloc, TEXT_DOCUMENT_CONTENT_CHANGE_EVENT)?;
+    holds::<PartialResultParams>(alloc, PARTIAL_RESULT_PARAMS)?;
+    holds::<WorkDoneProgressParams>(alloc, WORK_DONE_PROGRESS_PARAMS)?;
+    holds::<WorkspaceFolder>(alloc, WORKSPACE_FOLDER)?;
     holds::<DynamicRegistrationClientCapabilities>(
-        rt,
         alloc,
         DYNAMIC_REGISTRATION_CLIENT_CAPABILITIES,
     )?;
-    holds::<GotoCapability>(rt, alloc, GOTO_CAPABILITY)?;
+    holds::<GotoCapability>(alloc, GOTO_CAPABILITY)?;
     Ok(())
 }
 
 #[test]
 fn rows_4(rt: HostRuntime) -> Result<(), Fail> {
-    let rt = &rt;
     let alloc = rt.alloc();
-    holds::<TextDocumentRegistrationOptions>(rt, alloc, TEXT_DOCUMENT_REGISTRATION_OPTIONS)?;
-    holds::<StaticRegistrationOptions>(rt, alloc, STATIC_REGISTRATION_OPTIONS)?;
-    holds::<SymbolKindCapability>(rt, alloc, SYMBOL_KIND_CAPABILITY)?;
+    holds::<TextDocumentRegistrationOptions>(alloc, TEXT_DOCUMENT_REGISTRATION_OPTIONS)?;
+    holds::<StaticRegistrationOptions>(alloc, STATIC_REGISTRATION_OPTIONS)?;
+    holds::<SymbolKindCapability>(alloc, SYMBOL_KIND_CAPABILITY)?;
     Ok(())
 }
 

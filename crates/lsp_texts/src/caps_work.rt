@@ -1,5 +1,4 @@
 // The rows of lsp_caps_work.
-use crate::rows::{holds, text_of};
 use lsp_caps_work::{
     ChangeAnnotationWorkspaceEditClientCapabilities, ClientInfo,
     CodeLensWorkspaceClientCapabilities, DiagnosticWorkspaceClientCapabilities,
@@ -14,6 +13,7 @@ use lsp_caps_work::{
     WorkspaceEditClientCapabilities, WorkspaceFileOperationsClientCapabilities,
     WorkspaceSymbolClientCapabilities, WorkspaceSymbolResolveSupportCapability,
 };
+use lsp_rows::{holds, text_of};
 use std::test::Fail;
 
 const WORKSPACE_EDIT_CLIENT_CAPABILITIES: &str = r#"
@@ -224,49 +224,34 @@ const INITIALIZED_PARAMS: &str = r#"
 
 #[test]
 fn rows_1(rt: HostRuntime) -> Result<(), Fail> {
-    let rt = &rt;
     let alloc = rt.alloc();
-    holds::<WorkspaceEditClientCapabilities>(rt, alloc, WORKSPACE_EDIT_CLIENT_CAPABILITIES)?;
+    holds::<WorkspaceEditClientCapabilities>(alloc, WORKSPACE_EDIT_CLIENT_CAPABILITIES)?;
     holds::<ChangeAnnotationWorkspaceEditClientCapabilities>(
-        rt,
         alloc,
         CHANGE_ANNOTATION_WORKSPACE_EDIT_CLIENT_CAPABILITIES,
     )?;
-    holds::<ResourceOperationKind>(rt, alloc, RESOURCE_OPERATION_KIND)?;
-    holds::<FailureHandlingKind>(rt, alloc, FAILURE_HANDLING_KIND)?;
+    holds::<ResourceOperationKind>(alloc, RESOURCE_OPERATION_KIND)?;
+    holds::<FailureHandlingKind>(alloc, FAILURE_HANDLING_KIND)?;
     holds::<DidChangeWatchedFilesClientCapabilities>(
-        rt,
         alloc,
         DID_CHANGE_WATCHED_FILES_CLIENT_CAPABILITIES,
     )?;
     holds::<WorkspaceFileOperationsClientCapabilities>(
-        rt,
         alloc,
         WORKSPACE_FILE_OPERATIONS_CLIENT_CAPABILITIES,
     )?;
-    holds::<WorkspaceSymbolClientCapabilities>(rt, alloc, WORKSPACE_SYMBOL_CLIENT_CAPABILITIES)?;
+    holds::<WorkspaceSymbolClientCapabilities>(alloc, WORKSPACE_SYMBOL_CLIENT_CAPABILITIES)?;
     holds::<WorkspaceSymbolResolveSupportCapability>(
-        rt,
         alloc,
         WORKSPACE_SYMBOL_RESOLVE_SUPPORT_CAPABILITY,
     )?;
-    holds::<CodeLensWorkspaceClientCapabilities>(
-        rt,
-        alloc,
-        CODE_LENS_WORKSPACE_CLIENT_CAPABILITIES,
-    )?;
+    holds::<CodeLensWorkspaceClientCapabilities>(alloc, CODE_LENS_WORKSPACE_CLIENT_CAPABILITIES)?;
     holds::<SemanticTokensWorkspaceClientCapabilities>(
-        rt,
         alloc,
         SEMANTIC_TOKENS_WORKSPACE_CLIENT_CAPABILITIES,
     )?;
-    holds::<InlayHintWorkspaceClientCapabilities>(
-        rt,
-        alloc,
-        INLAY_HINT_WORKSPACE_CLIENT_CAPABILITIES,
-    )?;
+    holds::<InlayHintWorkspaceClientCapabilities>(alloc, INLAY_HINT_WORKSPACE_CLIENT_CAPABILITIES)?;
     holds::<InlineValueWorkspaceClientCapabilities>(
-        rt,
         alloc,
         INLINE_VALUE_WORKSPACE_CLIENT_CAPABILITIES,
     )?;
@@ -275,37 +260,25 @@ fn rows_1(rt: HostRuntime) -> Result<(), Fail> {
 
 #[test]
 fn rows_2(rt: HostRuntime) -> Result<(), Fail> {
-    let rt = &rt;
     let alloc = rt.alloc();
     holds::<DiagnosticWorkspaceClientCapabilities>(
-        rt,
         alloc,
         DIAGNOSTIC_WORKSPACE_CLIENT_CAPABILITIES,
     )?;
-    holds::<WorkspaceClientCapabilities>(rt, alloc, WORKSPACE_CLIENT_CAPABILITIES)?;
-    holds::<WindowClientCapabilities>(rt, alloc, WINDOW_CLIENT_CAPABILITIES)?;
-    holds::<ShowMessageRequestClientCapabilities>(
-        rt,
-        alloc,
-        SHOW_MESSAGE_REQUEST_CLIENT_CAPABILITIES,
-    )?;
-    holds::<MessageActionItemCapabilities>(rt, alloc, MESSAGE_ACTION_ITEM_CAPABILITIES)?;
-    holds::<ShowDocumentClientCapabilities>(rt, alloc, SHOW_DOCUMENT_CLIENT_CAPABILITIES)?;
-    holds::<GeneralClientCapabilities>(rt, alloc, GENERAL_CLIENT_CAPABILITIES)?;
+    holds::<WorkspaceClientCapabilities>(alloc, WORKSPACE_CLIENT_CAPABILITIES)?;
+    holds::<WindowClientCapabilities>(alloc, WINDOW_CLIENT_CAPABILITIES)?;
+    holds::<ShowMessageRequestClientCapabilities>(alloc, SHOW_MESSAGE_REQUEST_CLIENT_CAPABILITIES)?;
+    holds::<MessageActionItemCapabilities>(alloc, MESSAGE_ACTION_ITEM_CAPABILITIES)?;
+    holds::<ShowDocumentClientCapabilities>(alloc, SHOW_DOCUMENT_CLIENT_CAPABILITIES)?;
+    holds::<GeneralClientCapabilities>(alloc, GENERAL_CLIENT_CAPABILITIES)?;
     holds::<StaleRequestSupportClientCapabilities>(
-        rt,
         alloc,
         STALE_REQUEST_SUPPORT_CLIENT_CAPABILITIES,
     )?;
-    holds::<RegularExpressionsClientCapabilities>(
-        rt,
-        alloc,
-        REGULAR_EXPRESSIONS_CLIENT_CAPABILITIES,
-    )?;
-    holds::<MarkdownClientCapabilities>(rt, alloc, MARKDOWN_CLIENT_CAPABILITIES)?;
-    holds::<NotebookDocumentClientCapabilities>(rt, alloc, NOTEBOOK_DOCUMENT_CLIENT_CAPABILITIES)?;
+    holds::<RegularExpressionsClientCapabilities>(alloc, REGULAR_EXPRESSIONS_CLIENT_CAPABILITIES)?;
+    holds::<MarkdownClientCapabilities>(alloc, MARKDOWN_CLIENT_CAPABILITIES)?;
+    holds::<NotebookDocumentClientCapabilities>(alloc, NOTEBOOK_DOCUMENT_CLIENT_CAPABILITIES)?;
     holds::<NotebookDocumentSyncClientCapabilities>(
-        rt,
         alloc,
         NOTEBOOK_DOCUMENT_SYNC_CLIENT_CAPABILITIES,
     )?;
@@ -314,10 +287,9 @@ fn rows_2(rt: HostRuntime) -> Result<(), Fail> {
 
 #[test]
 fn rows_3(rt: HostRuntime) -> Result<(), Fail> {
-    let rt = &rt;
     let alloc = rt.alloc();
-    holds::<ClientInfo>(rt, alloc, CLIENT_INFO)?;
-    holds::<InitializedParams>(rt, alloc, INITIALIZED_PARAMS)?;
+    holds::<ClientInfo>(alloc, CLIENT_INFO)?;
+    holds::<InitializedParams>(alloc, INITIALIZED_PARAMS)?;
     Ok(())
 }
 

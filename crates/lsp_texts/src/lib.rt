@@ -19,5 +19,3 @@ mod names_texts;
 mod offer_lang;
 #[cfg(test)]
 mod offer_text;
-#[cfg(test)]
-mod rows;

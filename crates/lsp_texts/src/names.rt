@@ -1,9 +1,9 @@
 // The rows of lsp_names.
-use crate::rows::{holds, text_of};
 use lsp_names::{
     Documentation, LanguageString, MarkedString, MarkupContent, SemanticTokensFullOptions,
     WorkDoneProgressOptions,
 };
+use lsp_rows::{holds, text_of};
 use std::test::Fail;
 
 const MARKUP_CONTENT: &str = r#"
@@ -41,14 +41,13 @@ true :: Bool(true)
 
 #[test]
 fn rows_1(rt: HostRuntime) -> Result<(), Fail> {
-    let rt = &rt;
     let alloc = rt.alloc();
-    holds::<MarkupContent>(rt, alloc, MARKUP_CONTENT)?;
-    holds::<LanguageString>(rt, alloc, LANGUAGE_STRING)?;
-    holds::<MarkedString>(rt, alloc, MARKED_STRING)?;
-    holds::<Documentation>(rt, alloc, DOCUMENTATION)?;
-    holds::<WorkDoneProgressOptions>(rt, alloc, WORK_DONE_PROGRESS_OPTIONS)?;
-    holds::<SemanticTokensFullOptions>(rt, alloc, SEMANTIC_TOKENS_FULL_OPTIONS)?;
+    holds::<MarkupContent>(alloc, MARKUP_CONTENT)?;
+    holds::<LanguageString>(alloc, LANGUAGE_STRING)?;
+    holds::<MarkedString>(alloc, MARKED_STRING)?;
+    holds::<Documentation>(alloc, DOCUMENTATION)?;
+    holds::<WorkDoneProgressOptions>(alloc, WORK_DONE_PROGRESS_OPTIONS)?;
+    holds::<SemanticTokensFullOptions>(alloc, SEMANTIC_TOKENS_FULL_OPTIONS)?;
     Ok(())
 }
 

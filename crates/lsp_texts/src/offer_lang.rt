@@ -1,5 +1,4 @@
 // The rows of lsp_offer_lang.
-use crate::rows::{holds, text_of};
 use lsp_offer_lang::{
     CallHierarchyOptions, CallHierarchyServerCapability, ColorProviderCapability,
     ColorProviderOptions, DiagnosticOptions, DiagnosticRegistrationOptions,
@@ -12,6 +11,7 @@ use lsp_offer_lang::{
     SemanticTokensRegistrationOptions, SemanticTokensServerCapabilities,
     StaticTextDocumentColorProviderOptions, TypeHierarchyOptions, TypeHierarchyRegistrationOptions,
 };
+use lsp_rows::{holds, text_of};
 use std::test::Fail;
 
 const CALL_HIERARCHY_SERVER_CAPABILITY: &str = r#"
@@ -191,29 +191,22 @@ const DIAGNOSTIC_REGISTRATION_OPTIONS: &str = r#"
 
 #[test]
 fn rows_1(rt: HostRuntime) -> Result<(), Fail> {
-    let rt = &rt;
     let alloc = rt.alloc();
-    holds::<CallHierarchyServerCapability>(rt, alloc, CALL_HIERARCHY_SERVER_CAPABILITY)?;
-    holds::<CallHierarchyOptions>(rt, alloc, CALL_HIERARCHY_OPTIONS)?;
-    holds::<TypeHierarchyOptions>(rt, alloc, TYPE_HIERARCHY_OPTIONS)?;
-    holds::<TypeHierarchyRegistrationOptions>(rt, alloc, TYPE_HIERARCHY_REGISTRATION_OPTIONS)?;
-    holds::<ColorProviderCapability>(rt, alloc, COLOR_PROVIDER_CAPABILITY)?;
-    holds::<ColorProviderOptions>(rt, alloc, COLOR_PROVIDER_OPTIONS)?;
+    holds::<CallHierarchyServerCapability>(alloc, CALL_HIERARCHY_SERVER_CAPABILITY)?;
+    holds::<CallHierarchyOptions>(alloc, CALL_HIERARCHY_OPTIONS)?;
+    holds::<TypeHierarchyOptions>(alloc, TYPE_HIERARCHY_OPTIONS)?;
+    holds::<TypeHierarchyRegistrationOptions>(alloc, TYPE_HIERARCHY_REGISTRATION_OPTIONS)?;
+    holds::<ColorProviderCapability>(alloc, COLOR_PROVIDER_CAPABILITY)?;
+    holds::<ColorProviderOptions>(alloc, COLOR_PROVIDER_OPTIONS)?;
     holds::<StaticTextDocumentColorProviderOptions>(
-        rt,
         alloc,
         STATIC_TEXT_DOCUMENT_COLOR_PROVIDER_OPTIONS,
     )?;
-    holds::<FoldingRangeProviderCapability>(rt, alloc, FOLDING_RANGE_PROVIDER_CAPABILITY)?;
-    holds::<FoldingProviderOptions>(rt, alloc, FOLDING_PROVIDER_OPTIONS)?;
-    holds::<LinkedEditingRangeServerCapabilities>(
-        rt,
-        alloc,
-        LINKED_EDITING_RANGE_SERVER_CAPABILITIES,
-    )?;
-    holds::<LinkedEditingRangeOptions>(rt, alloc, LINKED_EDITING_RANGE_OPTIONS)?;
+    holds::<FoldingRangeProviderCapability>(alloc, FOLDING_RANGE_PROVIDER_CAPABILITY)?;
+    holds::<FoldingProviderOptions>(alloc, FOLDING_PROVIDER_OPTIONS)?;
+    holds::<LinkedEditingRangeServerCapabilities>(alloc, LINKED_EDITING_RANGE_SERVER_CAPABILITIES)?;
+    holds::<LinkedEditingRangeOptions>(alloc, LINKED_EDITING_RANGE_OPTIONS)?;
     holds::<LinkedEditingRangeRegistrationOptions>(
-        rt,
         alloc,
         LINKED_EDITING_RANGE_REGISTRATION_OPTIONS,
     )?;
@@ -222,31 +215,29 @@ fn rows_1(rt: HostRuntime) -> Result<(), Fail> {
 
 #[test]
 fn rows_2(rt: HostRuntime) -> Result<(), Fail> {
-    let rt = &rt;
     let alloc = rt.alloc();
-    holds::<SemanticTokensServerCapabilities>(rt, alloc, SEMANTIC_TOKENS_SERVER_CAPABILITIES)?;
-    holds::<SemanticTokensOptions>(rt, alloc, SEMANTIC_TOKENS_OPTIONS)?;
-    holds::<SemanticTokensRegistrationOptions>(rt, alloc, SEMANTIC_TOKENS_REGISTRATION_OPTIONS)?;
-    holds::<SemanticTokensLegend>(rt, alloc, SEMANTIC_TOKENS_LEGEND)?;
-    holds::<MonikerServerCapabilities>(rt, alloc, MONIKER_SERVER_CAPABILITIES)?;
-    holds::<MonikerOptions>(rt, alloc, MONIKER_OPTIONS)?;
-    holds::<MonikerRegistrationOptions>(rt, alloc, MONIKER_REGISTRATION_OPTIONS)?;
-    holds::<InlayHintServerCapabilities>(rt, alloc, INLAY_HINT_SERVER_CAPABILITIES)?;
-    holds::<InlayHintOptions>(rt, alloc, INLAY_HINT_OPTIONS)?;
-    holds::<InlayHintRegistrationOptions>(rt, alloc, INLAY_HINT_REGISTRATION_OPTIONS)?;
-    holds::<InlineValueServerCapabilities>(rt, alloc, INLINE_VALUE_SERVER_CAPABILITIES)?;
-    holds::<InlineValueOptions>(rt, alloc, INLINE_VALUE_OPTIONS)?;
+    holds::<SemanticTokensServerCapabilities>(alloc, SEMANTIC_TOKENS_SERVER_CAPABILITIES)?;
+    holds::<SemanticTokensOptions>(alloc, SEMANTIC_TOKENS_OPTIONS)?;
+    holds::<SemanticTokensRegistrationOptions>(alloc, SEMANTIC_TOKENS_REGISTRATION_OPTIONS)?;
+    holds::<SemanticTokensLegend>(alloc, SEMANTIC_TOKENS_LEGEND)?;
+    holds::<MonikerServerCapabilities>(alloc, MONIKER_SERVER_CAPABILITIES)?;
+    holds::<MonikerOptions>(alloc, MONIKER_OPTIONS)?;
+    holds::<MonikerRegistrationOptions>(alloc, MONIKER_REGISTRATION_OPTIONS)?;
+    holds::<InlayHintServerCapabilities>(alloc, INLAY_HINT_SERVER_CAPABILITIES)?;
+    holds::<InlayHintOptions>(alloc, INLAY_HINT_OPTIONS)?;
+    holds::<InlayHintRegistrationOptions>(alloc, INLAY_HINT_REGISTRATION_OPTIONS)?;
+    holds::<InlineValueServerCapabilities>(alloc, INLINE_VALUE_SERVER_CAPABILITIES)?;
+    holds::<InlineValueOptions>(alloc, INLINE_VALUE_OPTIONS)?;
     Ok(())
 }
 
 #[test]
 fn rows_3(rt: HostRuntime) -> Result<(), Fail> {
-    let rt = &rt;
     let alloc = rt.alloc();
-    holds::<InlineValueRegistrationOptions>(rt, alloc, INLINE_VALUE_REGISTRATION_OPTIONS)?;
-    holds::<DiagnosticServerCapabilities>(rt, alloc, DIAGNOSTIC_SERVER_CAPABILITIES)?;
-    holds::<DiagnosticOptions>(rt, alloc, DIAGNOSTIC_OPTIONS)?;
-    holds::<DiagnosticRegistrationOptions>(rt, alloc, DIAGNOSTIC_REGISTRATION_OPTIONS)?;
+    holds::<InlineValueRegistrationOptions>(alloc, INLINE_VALUE_REGISTRATION_OPTIONS)?;
+    holds::<DiagnosticServerCapabilities>(alloc, DIAGNOSTIC_SERVER_CAPABILITIES)?;
+    holds::<DiagnosticOptions>(alloc, DIAGNOSTIC_OPTIONS)?;
+    holds::<DiagnosticRegistrationOptions>(alloc, DIAGNOSTIC_REGISTRATION_OPTIONS)?;
     Ok(())
 }
 

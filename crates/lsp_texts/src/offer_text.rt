@@ -1,5 +1,4 @@
 // The rows of lsp_offer_text.
-use crate::rows::{holds, text_of};
 use lsp_offer_text::{
     CodeActionOptions, CodeActionProviderCapability, CodeLensOptions, CompletionOptions,
     CompletionOptionsCompletionItem, CompletionRegistrationOptions, DeclarationCapability,
@@ -15,6 +14,7 @@ use lsp_offer_text::{
     TextDocumentSyncCapability, TextDocumentSyncOptions, TextDocumentSyncSaveOptions,
     TypeDefinitionProviderCapability, WorkspaceSymbolOptions,
 };
+use lsp_rows::{holds, text_of};
 use std::test::Fail;
 
 const TEXT_DOCUMENT_SYNC_CAPABILITY: &str = r#"
@@ -296,84 +296,73 @@ const RENAME_OPTIONS: &str = r#"
 
 #[test]
 fn rows_1(rt: HostRuntime) -> Result<(), Fail> {
-    let rt = &rt;
     let alloc = rt.alloc();
-    holds::<TextDocumentSyncCapability>(rt, alloc, TEXT_DOCUMENT_SYNC_CAPABILITY)?;
-    holds::<TextDocumentSyncOptions>(rt, alloc, TEXT_DOCUMENT_SYNC_OPTIONS)?;
-    holds::<TextDocumentSyncSaveOptions>(rt, alloc, TEXT_DOCUMENT_SYNC_SAVE_OPTIONS)?;
-    holds::<SaveOptions>(rt, alloc, SAVE_OPTIONS)?;
+    holds::<TextDocumentSyncCapability>(alloc, TEXT_DOCUMENT_SYNC_CAPABILITY)?;
+    holds::<TextDocumentSyncOptions>(alloc, TEXT_DOCUMENT_SYNC_OPTIONS)?;
+    holds::<TextDocumentSyncSaveOptions>(alloc, TEXT_DOCUMENT_SYNC_SAVE_OPTIONS)?;
+    holds::<SaveOptions>(alloc, SAVE_OPTIONS)?;
     holds::<TextDocumentChangeRegistrationOptions>(
-        rt,
         alloc,
         TEXT_DOCUMENT_CHANGE_REGISTRATION_OPTIONS,
     )?;
-    holds::<TextDocumentSaveRegistrationOptions>(
-        rt,
-        alloc,
-        TEXT_DOCUMENT_SAVE_REGISTRATION_OPTIONS,
-    )?;
-    holds::<CompletionOptions>(rt, alloc, COMPLETION_OPTIONS)?;
-    holds::<CompletionOptionsCompletionItem>(rt, alloc, COMPLETION_OPTIONS_COMPLETION_ITEM)?;
-    holds::<CompletionRegistrationOptions>(rt, alloc, COMPLETION_REGISTRATION_OPTIONS)?;
-    holds::<HoverProviderCapability>(rt, alloc, HOVER_PROVIDER_CAPABILITY)?;
-    holds::<HoverOptions>(rt, alloc, HOVER_OPTIONS)?;
-    holds::<HoverRegistrationOptions>(rt, alloc, HOVER_REGISTRATION_OPTIONS)?;
+    holds::<TextDocumentSaveRegistrationOptions>(alloc, TEXT_DOCUMENT_SAVE_REGISTRATION_OPTIONS)?;
+    holds::<CompletionOptions>(alloc, COMPLETION_OPTIONS)?;
+    holds::<CompletionOptionsCompletionItem>(alloc, COMPLETION_OPTIONS_COMPLETION_ITEM)?;
+    holds::<CompletionRegistrationOptions>(alloc, COMPLETION_REGISTRATION_OPTIONS)?;
+    holds::<HoverProviderCapability>(alloc, HOVER_PROVIDER_CAPABILITY)?;
+    holds::<HoverOptions>(alloc, HOVER_OPTIONS)?;
+    holds::<HoverRegistrationOptions>(alloc, HOVER_REGISTRATION_OPTIONS)?;
     Ok(())
 }
 
 #[test]
 fn rows_2(rt: HostRuntime) -> Result<(), Fail> {
-    let rt = &rt;
     let alloc = rt.alloc();
-    holds::<SignatureHelpOptions>(rt, alloc, SIGNATURE_HELP_OPTIONS)?;
-    holds::<SignatureHelpRegistrationOptions>(rt, alloc, SIGNATURE_HELP_REGISTRATION_OPTIONS)?;
+    holds::<SignatureHelpOptions>(alloc, SIGNATURE_HELP_OPTIONS)?;
+    holds::<SignatureHelpRegistrationOptions>(alloc, SIGNATURE_HELP_REGISTRATION_OPTIONS)?;
     holds::<StaticTextDocumentRegistrationOptions>(
-        rt,
         alloc,
         STATIC_TEXT_DOCUMENT_REGISTRATION_OPTIONS,
     )?;
-    holds::<ImplementationProviderCapability>(rt, alloc, IMPLEMENTATION_PROVIDER_CAPABILITY)?;
-    holds::<TypeDefinitionProviderCapability>(rt, alloc, TYPE_DEFINITION_PROVIDER_CAPABILITY)?;
-    holds::<DeclarationCapability>(rt, alloc, DECLARATION_CAPABILITY)?;
-    holds::<DeclarationRegistrationOptions>(rt, alloc, DECLARATION_REGISTRATION_OPTIONS)?;
-    holds::<DeclarationOptions>(rt, alloc, DECLARATION_OPTIONS)?;
-    holds::<DefinitionOptions>(rt, alloc, DEFINITION_OPTIONS)?;
-    holds::<ReferencesOptions>(rt, alloc, REFERENCES_OPTIONS)?;
-    holds::<DocumentHighlightOptions>(rt, alloc, DOCUMENT_HIGHLIGHT_OPTIONS)?;
-    holds::<GenericRegistrationOptions>(rt, alloc, GENERIC_REGISTRATION_OPTIONS)?;
+    holds::<ImplementationProviderCapability>(alloc, IMPLEMENTATION_PROVIDER_CAPABILITY)?;
+    holds::<TypeDefinitionProviderCapability>(alloc, TYPE_DEFINITION_PROVIDER_CAPABILITY)?;
+    holds::<DeclarationCapability>(alloc, DECLARATION_CAPABILITY)?;
+    holds::<DeclarationRegistrationOptions>(alloc, DECLARATION_REGISTRATION_OPTIONS)?;
+    holds::<DeclarationOptions>(alloc, DECLARATION_OPTIONS)?;
+    holds::<DefinitionOptions>(alloc, DEFINITION_OPTIONS)?;
+    holds::<ReferencesOptions>(alloc, REFERENCES_OPTIONS)?;
+    holds::<DocumentHighlightOptions>(alloc, DOCUMENT_HIGHLIGHT_OPTIONS)?;
+    holds::<GenericRegistrationOptions>(alloc, GENERIC_REGISTRATION_OPTIONS)?;
     Ok(())
 }
 
 #[test]
 fn rows_3(rt: HostRuntime) -> Result<(), Fail> {
-    let rt = &rt;
     let alloc = rt.alloc();
-    holds::<GenericOptions>(rt, alloc, GENERIC_OPTIONS)?;
-    holds::<DocumentSymbolOptions>(rt, alloc, DOCUMENT_SYMBOL_OPTIONS)?;
-    holds::<WorkspaceSymbolOptions>(rt, alloc, WORKSPACE_SYMBOL_OPTIONS)?;
-    holds::<CodeActionProviderCapability>(rt, alloc, CODE_ACTION_PROVIDER_CAPABILITY)?;
-    holds::<CodeActionOptions>(rt, alloc, CODE_ACTION_OPTIONS)?;
-    holds::<CodeLensOptions>(rt, alloc, CODE_LENS_OPTIONS)?;
-    holds::<DocumentLinkOptions>(rt, alloc, DOCUMENT_LINK_OPTIONS)?;
-    holds::<SelectionRangeProviderCapability>(rt, alloc, SELECTION_RANGE_PROVIDER_CAPABILITY)?;
-    holds::<SelectionRangeOptions>(rt, alloc, SELECTION_RANGE_OPTIONS)?;
-    holds::<SelectionRangeRegistrationOptions>(rt, alloc, SELECTION_RANGE_REGISTRATION_OPTIONS)?;
-    holds::<DocumentFormattingOptions>(rt, alloc, DOCUMENT_FORMATTING_OPTIONS)?;
-    holds::<DocumentRangeFormattingOptions>(rt, alloc, DOCUMENT_RANGE_FORMATTING_OPTIONS)?;
+    holds::<GenericOptions>(alloc, GENERIC_OPTIONS)?;
+    holds::<DocumentSymbolOptions>(alloc, DOCUMENT_SYMBOL_OPTIONS)?;
+    holds::<WorkspaceSymbolOptions>(alloc, WORKSPACE_SYMBOL_OPTIONS)?;
+    holds::<CodeActionProviderCapability>(alloc, CODE_ACTION_PROVIDER_CAPABILITY)?;
+    holds::<CodeActionOptions>(alloc, CODE_ACTION_OPTIONS)?;
+    holds::<CodeLensOptions>(alloc, CODE_LENS_OPTIONS)?;
+    holds::<DocumentLinkOptions>(alloc, DOCUMENT_LINK_OPTIONS)?;
+    holds::<SelectionRangeProviderCapability>(alloc, SELECTION_RANGE_PROVIDER_CAPABILITY)?;
+    holds::<SelectionRangeOptions>(alloc, SELECTION_RANGE_OPTIONS)?;
+    holds::<SelectionRangeRegistrationOptions>(alloc, SELECTION_RANGE_REGISTRATION_OPTIONS)?;
+    holds::<DocumentFormattingOptions>(alloc, DOCUMENT_FORMATTING_OPTIONS)?;
+    holds::<DocumentRangeFormattingOptions>(alloc, DOCUMENT_RANGE_FORMATTING_OPTIONS)?;
     Ok(())
 }
 
 #[test]
 fn rows_4(rt: HostRuntime) -> Result<(), Fail> {
-    let rt = &rt;
     let alloc = rt.alloc();
-    holds::<DocumentOnTypeFormattingOptions>(rt, alloc, DOCUMENT_ON_TYPE_FORMATTING_OPTIONS)?;
+    holds::<DocumentOnTypeFormattingOptions>(alloc, DOCUMENT_ON_TYPE_FORMATTING_OPTIONS)?;
     holds::<DocumentOnTypeFormattingRegistrationOptions>(
-        rt,
         alloc,
         DOCUMENT_ON_TYPE_FORMATTING_REGISTRATION_OPTIONS,
     )?;
-    holds::<RenameOptions>(rt, alloc, RENAME_OPTIONS)?;
+    holds::<RenameOptions>(alloc, RENAME_OPTIONS)?;
     Ok(())
 }
 

@@ -1,5 +1,4 @@
 // The rows of lsp_caps_text.
-use crate::rows::{holds, text_of};
 use lsp_caps_text::{
     CodeActionCapabilityResolveSupport, CodeActionClientCapabilities, CodeActionKindLiteralSupport,
     CodeActionLiteralSupport, CompletionClientCapabilities, CompletionItemCapability,
@@ -13,6 +12,7 @@ use lsp_caps_text::{
     SignatureInformationSettings, TextDocumentClientCapabilities,
     TextDocumentSyncClientCapabilities,
 };
+use lsp_rows::{holds, text_of};
 use lsp_shape::Wire;
 use std::alloc::Global;
 use std::process::Abort;
@@ -270,47 +270,40 @@ const TEXT_DOCUMENT_CLIENT_CAPABILITIES: &str = r#"
 
 #[test]
 fn rows_1(rt: HostRuntime) -> Result<(), Fail> {
-    let rt = &rt;
     let alloc = rt.alloc();
-    holds::<TextDocumentSyncClientCapabilities>(rt, alloc, TEXT_DOCUMENT_SYNC_CLIENT_CAPABILITIES)?;
-    holds::<CompletionClientCapabilities>(rt, alloc, COMPLETION_CLIENT_CAPABILITIES)?;
-    holds::<CompletionItemCapability>(rt, alloc, COMPLETION_ITEM_CAPABILITY)?;
+    holds::<TextDocumentSyncClientCapabilities>(alloc, TEXT_DOCUMENT_SYNC_CLIENT_CAPABILITIES)?;
+    holds::<CompletionClientCapabilities>(alloc, COMPLETION_CLIENT_CAPABILITIES)?;
+    holds::<CompletionItemCapability>(alloc, COMPLETION_ITEM_CAPABILITY)?;
     holds::<CompletionItemCapabilityResolveSupport>(
-        rt,
         alloc,
         COMPLETION_ITEM_CAPABILITY_RESOLVE_SUPPORT,
     )?;
-    holds::<InsertTextModeSupport>(rt, alloc, INSERT_TEXT_MODE_SUPPORT)?;
-    holds::<CompletionItemKindCapability>(rt, alloc, COMPLETION_ITEM_KIND_CAPABILITY)?;
-    holds::<CompletionListCapability>(rt, alloc, COMPLETION_LIST_CAPABILITY)?;
-    holds::<HoverClientCapabilities>(rt, alloc, HOVER_CLIENT_CAPABILITIES)?;
-    holds::<SignatureHelpClientCapabilities>(rt, alloc, SIGNATURE_HELP_CLIENT_CAPABILITIES)?;
-    holds::<SignatureInformationSettings>(rt, alloc, SIGNATURE_INFORMATION_SETTINGS)?;
-    holds::<ParameterInformationSettings>(rt, alloc, PARAMETER_INFORMATION_SETTINGS)?;
-    holds::<DocumentSymbolClientCapabilities>(rt, alloc, DOCUMENT_SYMBOL_CLIENT_CAPABILITIES)?;
+    holds::<InsertTextModeSupport>(alloc, INSERT_TEXT_MODE_SUPPORT)?;
+    holds::<CompletionItemKindCapability>(alloc, COMPLETION_ITEM_KIND_CAPABILITY)?;
+    holds::<CompletionListCapability>(alloc, COMPLETION_LIST_CAPABILITY)?;
+    holds::<HoverClientCapabilities>(alloc, HOVER_CLIENT_CAPABILITIES)?;
+    holds::<SignatureHelpClientCapabilities>(alloc, SIGNATURE_HELP_CLIENT_CAPABILITIES)?;
+    holds::<SignatureInformationSettings>(alloc, SIGNATURE_INFORMATION_SETTINGS)?;
+    holds::<ParameterInformationSettings>(alloc, PARAMETER_INFORMATION_SETTINGS)?;
+    holds::<DocumentSymbolClientCapabilities>(alloc, DOCUMENT_SYMBOL_CLIENT_CAPABILITIES)?;
     Ok(())
 }
 
 #[test]
 fn rows_2(rt: HostRuntime) -> Result<(), Fail> {
-    let rt = &rt;
     let alloc = rt.alloc();
-    holds::<CodeActionClientCapabilities>(rt, alloc, CODE_ACTION_CLIENT_CAPABILITIES)?;
-    holds::<CodeActionCapabilityResolveSupport>(rt, alloc, CODE_ACTION_CAPABILITY_RESOLVE_SUPPORT)?;
-    holds::<CodeActionLiteralSupport>(rt, alloc, CODE_ACTION_LITERAL_SUPPORT)?;
-    holds::<CodeActionKindLiteralSupport>(rt, alloc, CODE_ACTION_KIND_LITERAL_SUPPORT)?;
-    holds::<DocumentLinkClientCapabilities>(rt, alloc, DOCUMENT_LINK_CLIENT_CAPABILITIES)?;
-    holds::<RenameClientCapabilities>(rt, alloc, RENAME_CLIENT_CAPABILITIES)?;
-    holds::<PublishDiagnosticsClientCapabilities>(
-        rt,
-        alloc,
-        PUBLISH_DIAGNOSTICS_CLIENT_CAPABILITIES,
-    )?;
-    holds::<DiagnosticClientCapabilities>(rt, alloc, DIAGNOSTIC_CLIENT_CAPABILITIES)?;
-    holds::<FoldingRangeClientCapabilities>(rt, alloc, FOLDING_RANGE_CLIENT_CAPABILITIES)?;
-    holds::<FoldingRangeKindCapability>(rt, alloc, FOLDING_RANGE_KIND_CAPABILITY)?;
-    holds::<FoldingRangeCapability>(rt, alloc, FOLDING_RANGE_CAPABILITY)?;
-    holds::<SelectionRangeClientCapabilities>(rt, alloc, SELECTION_RANGE_CLIENT_CAPABILITIES)?;
+    holds::<CodeActionClientCapabilities>(alloc, CODE_ACTION_CLIENT_CAPABILITIES)?;
+    holds::<CodeActionCapabilityResolveSupport>(alloc, CODE_ACTION_CAPABILITY_RESOLVE_SUPPORT)?;
+    holds::<CodeActionLiteralSupport>(alloc, CODE_ACTION_LITERAL_SUPPORT)?;
+    holds::<CodeActionKindLiteralSupport>(alloc, CODE_ACTION_KIND_LITERAL_SUPPORT)?;
+    holds::<DocumentLinkClientCapabilities>(alloc, DOCUMENT_LINK_CLIENT_CAPABILITIES)?;
+    holds::<RenameClientCapabilities>(alloc, RENAME_CLIENT_CAPABILITIES)?;
+    holds::<PublishDiagnosticsClientCapabilities>(alloc, PUBLISH_DIAGNOSTICS_CLIENT_CAPABILITIES)?;
+    holds::<DiagnosticClientCapabilities>(alloc, DIAGNOSTIC_CLIENT_CAPABILITIES)?;
+    holds::<FoldingRangeClientCapabilities>(alloc, FOLDING_RANGE_CLIENT_CAPABILITIES)?;
+    holds::<FoldingRangeKindCapability>(alloc, FOLDING_RANGE_KIND_CAPABILITY)?;
+    holds::<FoldingRangeCapability>(alloc, FOLDING_RANGE_CAPABILITY)?;
+    holds::<SelectionRangeClientCapabilities>(alloc, SELECTION_RANGE_CLIENT_CAPABILITIES)?;
     Ok(())
 }
 
@@ -318,15 +311,14 @@ fn rows_2(rt: HostRuntime) -> Result<(), Fail> {
 fn rows_3(rt: HostRuntime) -> Result<(), Fail> {
     let rt = &rt;
     let alloc = rt.alloc();
-    holds::<SemanticTokensClientCapabilities>(rt, alloc, SEMANTIC_TOKENS_CLIENT_CAPABILITIES)?;
+    holds::<SemanticTokensClientCapabilities>(alloc, SEMANTIC_TOKENS_CLIENT_CAPABILITIES)?;
     holds::<SemanticTokensClientCapabilitiesRequests>(
-        rt,
         alloc,
         SEMANTIC_TOKENS_CLIENT_CAPABILITIES_REQUESTS,
     )?;
-    holds::<InlayHintClientCapabilities>(rt, alloc, INLAY_HINT_CLIENT_CAPABILITIES)?;
-    holds::<InlayHintResolveClientCapabilities>(rt, alloc, INLAY_HINT_RESOLVE_CLIENT_CAPABILITIES)?;
-    holds::<TextDocumentClientCapabilities>(rt, alloc, TEXT_DOCUMENT_CLIENT_CAPABILITIES)?;
+    holds::<InlayHintClientCapabilities>(alloc, INLAY_HINT_CLIENT_CAPABILITIES)?;
+    holds::<InlayHintResolveClientCapabilities>(alloc, INLAY_HINT_RESOLVE_CLIENT_CAPABILITIES)?;
+    holds::<TextDocumentClientCapabilities>(alloc, TEXT_DOCUMENT_CLIENT_CAPABILITIES)?;
     Ok(())
 }
 

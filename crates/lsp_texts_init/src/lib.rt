@@ -11,5 +11,3 @@ mod caps_text;
 mod methods;
 #[cfg(test)]
 mod offer_work;
-#[cfg(test)]
-mod rows;

@@ -1,6 +1,6 @@
 // The rows of lsp_methods.
-use crate::rows::{holds, text_of};
 use lsp_methods::{ClientCapabilities, InitializeParams, InitializeResult, ServerCapabilities};
+use lsp_rows::{holds, text_of};
 use std::test::Fail;
 
 const CLIENT_CAPABILITIES: &str = r#"
@@ -55,12 +55,11 @@ const INITIALIZE_RESULT: &str = r##"
 
 #[test]
 fn rows_1(rt: HostRuntime) -> Result<(), Fail> {
-    let rt = &rt;
     let alloc = rt.alloc();
-    holds::<ClientCapabilities>(rt, alloc, CLIENT_CAPABILITIES)?;
-    holds::<InitializeParams>(rt, alloc, INITIALIZE_PARAMS)?;
-    holds::<ServerCapabilities>(rt, alloc, SERVER_CAPABILITIES)?;
-    holds::<InitializeResult>(rt, alloc, INITIALIZE_RESULT)?;
+    holds::<ClientCapabilities>(alloc, CLIENT_CAPABILITIES)?;
+    holds::<InitializeParams>(alloc, INITIALIZE_PARAMS)?;
+    holds::<ServerCapabilities>(alloc, SERVER_CAPABILITIES)?;
+    holds::<InitializeResult>(alloc, INITIALIZE_RESULT)?;
     Ok(())
 }
 

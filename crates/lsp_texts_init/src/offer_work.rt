@@ -1,5 +1,4 @@
 // The rows of lsp_offer_work.
-use crate::rows::{holds, text_of};
 use lsp_offer_work::{
     DidChangeWatchedFilesRegistrationOptions, ExecuteCommandOptions,
     ExecuteCommandRegistrationOptions, FileOperationFilter, FileOperationPattern,
@@ -11,6 +10,7 @@ use lsp_offer_work::{
     WorkspaceFileOperationsServerCapabilities, WorkspaceFoldersServerCapabilities,
     WorkspaceServerCapabilities,
 };
+use lsp_rows::{holds, text_of};
 use std::test::Fail;
 
 const REGISTRATION: &str = r#"
@@ -205,25 +205,22 @@ const INITIALIZE_ERROR: &str = r#"
 
 #[test]
 fn rows_1(rt: HostRuntime) -> Result<(), Fail> {
-    let rt = &rt;
     let alloc = rt.alloc();
-    holds::<Registration>(rt, alloc, REGISTRATION)?;
-    holds::<RegistrationParams>(rt, alloc, REGISTRATION_PARAMS)?;
-    holds::<Unregistration>(rt, alloc, UNREGISTRATION)?;
-    holds::<UnregistrationParams>(rt, alloc, UNREGISTRATION_PARAMS)?;
-    holds::<ExecuteCommandOptions>(rt, alloc, EXECUTE_COMMAND_OPTIONS)?;
-    holds::<ExecuteCommandRegistrationOptions>(rt, alloc, EXECUTE_COMMAND_REGISTRATION_OPTIONS)?;
+    holds::<Registration>(alloc, REGISTRATION)?;
+    holds::<RegistrationParams>(alloc, REGISTRATION_PARAMS)?;
+    holds::<Unregistration>(alloc, UNREGISTRATION)?;
+    holds::<UnregistrationParams>(alloc, UNREGISTRATION_PARAMS)?;
+    holds::<ExecuteCommandOptions>(alloc, EXECUTE_COMMAND_OPTIONS)?;
+    holds::<ExecuteCommandRegistrationOptions>(alloc, EXECUTE_COMMAND_REGISTRATION_OPTIONS)?;
     holds::<DidChangeWatchedFilesRegistrationOptions>(
-        rt,
         alloc,
         DID_CHANGE_WATCHED_FILES_REGISTRATION_OPTIONS,
     )?;
-    holds::<FileSystemWatcher>(rt, alloc, FILE_SYSTEM_WATCHER)?;
-    holds::<GlobPattern>(rt, alloc, GLOB_PATTERN)?;
-    holds::<RelativePattern>(rt, alloc, RELATIVE_PATTERN)?;
-    holds::<WatchKind>(rt, alloc, WATCH_KIND)?;
+    holds::<FileSystemWatcher>(alloc, FILE_SYSTEM_WATCHER)?;
+    holds::<GlobPattern>(alloc, GLOB_PATTERN)?;
+    holds::<RelativePattern>(alloc, RELATIVE_PATTERN)?;
+    holds::<WatchKind>(alloc, WATCH_KIND)?;
     holds::<WorkspaceFileOperationsServerCapabilities>(
-        rt,
         alloc,
         WORKSPACE_FILE_OPERATIONS_SERVER_CAPABILITIES,
     )?;
@@ -232,35 +229,32 @@ fn rows_1(rt: HostRuntime) -> Result<(), Fail> {
 
 #[test]
 fn rows_2(rt: HostRuntime) -> Result<(), Fail> {
-    let rt = &rt;
     let alloc = rt.alloc();
-    holds::<FileOperationRegistrationOptions>(rt, alloc, FILE_OPERATION_REGISTRATION_OPTIONS)?;
-    holds::<FileOperationFilter>(rt, alloc, FILE_OPERATION_FILTER)?;
-    holds::<FileOperationPatternKind>(rt, alloc, FILE_OPERATION_PATTERN_KIND)?;
-    holds::<FileOperationPatternOptions>(rt, alloc, FILE_OPERATION_PATTERN_OPTIONS)?;
-    holds::<FileOperationPattern>(rt, alloc, FILE_OPERATION_PATTERN)?;
-    holds::<WorkspaceServerCapabilities>(rt, alloc, WORKSPACE_SERVER_CAPABILITIES)?;
-    holds::<WorkspaceFoldersServerCapabilities>(rt, alloc, WORKSPACE_FOLDERS_SERVER_CAPABILITIES)?;
-    holds::<NotebookDocumentSyncOptions>(rt, alloc, NOTEBOOK_DOCUMENT_SYNC_OPTIONS)?;
+    holds::<FileOperationRegistrationOptions>(alloc, FILE_OPERATION_REGISTRATION_OPTIONS)?;
+    holds::<FileOperationFilter>(alloc, FILE_OPERATION_FILTER)?;
+    holds::<FileOperationPatternKind>(alloc, FILE_OPERATION_PATTERN_KIND)?;
+    holds::<FileOperationPatternOptions>(alloc, FILE_OPERATION_PATTERN_OPTIONS)?;
+    holds::<FileOperationPattern>(alloc, FILE_OPERATION_PATTERN)?;
+    holds::<WorkspaceServerCapabilities>(alloc, WORKSPACE_SERVER_CAPABILITIES)?;
+    holds::<WorkspaceFoldersServerCapabilities>(alloc, WORKSPACE_FOLDERS_SERVER_CAPABILITIES)?;
+    holds::<NotebookDocumentSyncOptions>(alloc, NOTEBOOK_DOCUMENT_SYNC_OPTIONS)?;
     holds::<NotebookDocumentSyncRegistrationOptions>(
-        rt,
         alloc,
         NOTEBOOK_DOCUMENT_SYNC_REGISTRATION_OPTIONS,
     )?;
-    holds::<NotebookCellTextDocumentFilter>(rt, alloc, NOTEBOOK_CELL_TEXT_DOCUMENT_FILTER)?;
-    holds::<NotebookSelector>(rt, alloc, NOTEBOOK_SELECTOR)?;
-    holds::<NotebookCellSelector>(rt, alloc, NOTEBOOK_CELL_SELECTOR)?;
+    holds::<NotebookCellTextDocumentFilter>(alloc, NOTEBOOK_CELL_TEXT_DOCUMENT_FILTER)?;
+    holds::<NotebookSelector>(alloc, NOTEBOOK_SELECTOR)?;
+    holds::<NotebookCellSelector>(alloc, NOTEBOOK_CELL_SELECTOR)?;
     Ok(())
 }
 
 #[test]
 fn rows_3(rt: HostRuntime) -> Result<(), Fail> {
-    let rt = &rt;
     let alloc = rt.alloc();
-    holds::<Notebook>(rt, alloc, NOTEBOOK)?;
-    holds::<NotebookDocumentFilter>(rt, alloc, NOTEBOOK_DOCUMENT_FILTER)?;
-    holds::<ServerInfo>(rt, alloc, SERVER_INFO)?;
-    holds::<InitializeError>(rt, alloc, INITIALIZE_ERROR)?;
+    holds::<Notebook>(alloc, NOTEBOOK)?;
+    holds::<NotebookDocumentFilter>(alloc, NOTEBOOK_DOCUMENT_FILTER)?;
+    holds::<ServerInfo>(alloc, SERVER_INFO)?;
+    holds::<InitializeError>(alloc, INITIALIZE_ERROR)?;
     Ok(())
 }
 

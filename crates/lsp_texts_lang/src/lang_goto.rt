@@ -1,5 +1,4 @@
 // The rows of lsp_lang_goto.
-use crate::rows::{holds, text_of};
 use lsp_lang_goto::{
     CallHierarchyIncomingCall, CallHierarchyIncomingCallsParams, CallHierarchyItem,
     CallHierarchyOutgoingCall, CallHierarchyOutgoingCallsParams, CallHierarchyPrepareParams,
@@ -10,6 +9,7 @@ use lsp_lang_goto::{
     TypeHierarchyPrepareParams, TypeHierarchySubtypesParams, TypeHierarchySupertypesParams,
     WorkspaceLocation, WorkspaceSymbol, WorkspaceSymbolParams, WorkspaceSymbolResponse,
 };
+use lsp_rows::{holds, text_of};
 use std::test::Fail;
 
 const GOTO_DEFINITION_PARAMS: &str = r#"
@@ -238,55 +238,52 @@ const GENERIC_PARAMS: &str = r#"
 
 #[test]
 fn rows_1(rt: HostRuntime) -> Result<(), Fail> {
-    let rt = &rt;
     let alloc = rt.alloc();
-    holds::<GotoDefinitionParams>(rt, alloc, GOTO_DEFINITION_PARAMS)?;
-    holds::<GotoDefinitionResponse>(rt, alloc, GOTO_DEFINITION_RESPONSE)?;
-    holds::<ReferenceParams>(rt, alloc, REFERENCE_PARAMS)?;
-    holds::<ReferenceContext>(rt, alloc, REFERENCE_CONTEXT)?;
-    holds::<DocumentHighlightParams>(rt, alloc, DOCUMENT_HIGHLIGHT_PARAMS)?;
-    holds::<DocumentHighlight>(rt, alloc, DOCUMENT_HIGHLIGHT)?;
-    holds::<CallHierarchyPrepareParams>(rt, alloc, CALL_HIERARCHY_PREPARE_PARAMS)?;
-    holds::<CallHierarchyItem>(rt, alloc, CALL_HIERARCHY_ITEM)?;
-    holds::<CallHierarchyIncomingCallsParams>(rt, alloc, CALL_HIERARCHY_INCOMING_CALLS_PARAMS)?;
-    holds::<CallHierarchyIncomingCall>(rt, alloc, CALL_HIERARCHY_INCOMING_CALL)?;
-    holds::<CallHierarchyOutgoingCallsParams>(rt, alloc, CALL_HIERARCHY_OUTGOING_CALLS_PARAMS)?;
-    holds::<CallHierarchyOutgoingCall>(rt, alloc, CALL_HIERARCHY_OUTGOING_CALL)?;
+    holds::<GotoDefinitionParams>(alloc, GOTO_DEFINITION_PARAMS)?;
+    holds::<GotoDefinitionResponse>(alloc, GOTO_DEFINITION_RESPONSE)?;
+    holds::<ReferenceParams>(alloc, REFERENCE_PARAMS)?;
+    holds::<ReferenceContext>(alloc, REFERENCE_CONTEXT)?;
+    holds::<DocumentHighlightParams>(alloc, DOCUMENT_HIGHLIGHT_PARAMS)?;
+    holds::<DocumentHighlight>(alloc, DOCUMENT_HIGHLIGHT)?;
+    holds::<CallHierarchyPrepareParams>(alloc, CALL_HIERARCHY_PREPARE_PARAMS)?;
+    holds::<CallHierarchyItem>(alloc, CALL_HIERARCHY_ITEM)?;
+    holds::<CallHierarchyIncomingCallsParams>(alloc, CALL_HIERARCHY_INCOMING_CALLS_PARAMS)?;
+    holds::<CallHierarchyIncomingCall>(alloc, CALL_HIERARCHY_INCOMING_CALL)?;
+    holds::<CallHierarchyOutgoingCallsParams>(alloc, CALL_HIERARCHY_OUTGOING_CALLS_PARAMS)?;
+    holds::<CallHierarchyOutgoingCall>(alloc, CALL_HIERARCHY_OUTGOING_CALL)?;
     Ok(())
 }
 
 #[test]
 fn rows_2(rt: HostRuntime) -> Result<(), Fail> {
-    let rt = &rt;
     let alloc = rt.alloc();
-    holds::<TypeHierarchyPrepareParams>(rt, alloc, TYPE_HIERARCHY_PREPARE_PARAMS)?;
-    holds::<TypeHierarchySupertypesParams>(rt, alloc, TYPE_HIERARCHY_SUPERTYPES_PARAMS)?;
-    holds::<TypeHierarchySubtypesParams>(rt, alloc, TYPE_HIERARCHY_SUBTYPES_PARAMS)?;
-    holds::<TypeHierarchyItem>(rt, alloc, TYPE_HIERARCHY_ITEM)?;
-    holds::<DocumentSymbolParams>(rt, alloc, DOCUMENT_SYMBOL_PARAMS)?;
-    holds::<DocumentSymbolResponse>(rt, alloc, DOCUMENT_SYMBOL_RESPONSE)?;
-    holds::<SymbolInformation>(rt, alloc, SYMBOL_INFORMATION)?;
-    holds::<WorkspaceSymbolParams>(rt, alloc, WORKSPACE_SYMBOL_PARAMS)?;
-    holds::<WorkspaceSymbolResponse>(rt, alloc, WORKSPACE_SYMBOL_RESPONSE)?;
-    holds::<WorkspaceSymbol>(rt, alloc, WORKSPACE_SYMBOL)?;
-    holds::<WorkspaceLocation>(rt, alloc, WORKSPACE_LOCATION)?;
-    holds::<DocumentSymbol>(rt, alloc, DOCUMENT_SYMBOL)?;
+    holds::<TypeHierarchyPrepareParams>(alloc, TYPE_HIERARCHY_PREPARE_PARAMS)?;
+    holds::<TypeHierarchySupertypesParams>(alloc, TYPE_HIERARCHY_SUPERTYPES_PARAMS)?;
+    holds::<TypeHierarchySubtypesParams>(alloc, TYPE_HIERARCHY_SUBTYPES_PARAMS)?;
+    holds::<TypeHierarchyItem>(alloc, TYPE_HIERARCHY_ITEM)?;
+    holds::<DocumentSymbolParams>(alloc, DOCUMENT_SYMBOL_PARAMS)?;
+    holds::<DocumentSymbolResponse>(alloc, DOCUMENT_SYMBOL_RESPONSE)?;
+    holds::<SymbolInformation>(alloc, SYMBOL_INFORMATION)?;
+    holds::<WorkspaceSymbolParams>(alloc, WORKSPACE_SYMBOL_PARAMS)?;
+    holds::<WorkspaceSymbolResponse>(alloc, WORKSPACE_SYMBOL_RESPONSE)?;
+    holds::<WorkspaceSymbol>(alloc, WORKSPACE_SYMBOL)?;
+    holds::<WorkspaceLocation>(alloc, WORKSPACE_LOCATION)?;
+    holds::<DocumentSymbol>(alloc, DOCUMENT_SYMBOL)?;
     Ok(())
 }
 
 #[test]
 fn rows_3(rt: HostRuntime) -> Result<(), Fail> {
-    let rt = &rt;
     let alloc = rt.alloc();
-    holds::<DocumentLinkParams>(rt, alloc, DOCUMENT_LINK_PARAMS)?;
-    holds::<DocumentLink>(rt, alloc, DOCUMENT_LINK)?;
-    holds::<HoverParams>(rt, alloc, HOVER_PARAMS)?;
-    holds::<Hover>(rt, alloc, HOVER)?;
-    holds::<HoverContents>(rt, alloc, HOVER_CONTENTS)?;
-    holds::<CodeLensParams>(rt, alloc, CODE_LENS_PARAMS)?;
-    holds::<CodeLens>(rt, alloc, CODE_LENS)?;
-    holds::<DocumentColorParams>(rt, alloc, DOCUMENT_COLOR_PARAMS)?;
-    holds::<GenericParams>(rt, alloc, GENERIC_PARAMS)?;
+    holds::<DocumentLinkParams>(alloc, DOCUMENT_LINK_PARAMS)?;
+    holds::<DocumentLink>(alloc, DOCUMENT_LINK)?;
+    holds::<HoverParams>(alloc, HOVER_PARAMS)?;
+    holds::<Hover>(alloc, HOVER)?;
+    holds::<HoverContents>(alloc, HOVER_CONTENTS)?;
+    holds::<CodeLensParams>(alloc, CODE_LENS_PARAMS)?;
+    holds::<CodeLens>(alloc, CODE_LENS)?;
+    holds::<DocumentColorParams>(alloc, DOCUMENT_COLOR_PARAMS)?;
+    holds::<GenericParams>(alloc, GENERIC_PARAMS)?;
     Ok(())
 }
 

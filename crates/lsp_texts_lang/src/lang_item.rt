@@ -1,5 +1,4 @@
 // The rows of lsp_lang_item.
-use crate::rows::{holds, text_of};
 use lsp_lang_item::{
     CodeAction, CodeActionContext, CodeActionDisabled, CodeActionOrCommand, CodeActionParams,
     CompletionContext, CompletionItem, CompletionItemLabelDetails, CompletionList,
@@ -8,6 +7,7 @@ use lsp_lang_item::{
     InlineValueContext, InlineValueEvaluatableExpression, InlineValueParams, InlineValueText,
     InlineValueVariableLookup, InsertReplaceEdit, PrepareRenameResponse, RenameParams,
 };
+use lsp_rows::{holds, text_of};
 use std::test::Fail;
 
 const COMPLETION_PARAMS: &str = r#"
@@ -187,49 +187,46 @@ const PREPARE_RENAME_RESPONSE: &str = r#"
 
 #[test]
 fn rows_1(rt: HostRuntime) -> Result<(), Fail> {
-    let rt = &rt;
     let alloc = rt.alloc();
-    holds::<CompletionParams>(rt, alloc, COMPLETION_PARAMS)?;
-    holds::<CompletionContext>(rt, alloc, COMPLETION_CONTEXT)?;
-    holds::<CompletionResponse>(rt, alloc, COMPLETION_RESPONSE)?;
-    holds::<CompletionList>(rt, alloc, COMPLETION_LIST)?;
-    holds::<CompletionItem>(rt, alloc, COMPLETION_ITEM)?;
-    holds::<CompletionItemLabelDetails>(rt, alloc, COMPLETION_ITEM_LABEL_DETAILS)?;
-    holds::<CompletionTextEdit>(rt, alloc, COMPLETION_TEXT_EDIT)?;
-    holds::<InsertReplaceEdit>(rt, alloc, INSERT_REPLACE_EDIT)?;
-    holds::<CodeActionParams>(rt, alloc, CODE_ACTION_PARAMS)?;
-    holds::<CodeActionContext>(rt, alloc, CODE_ACTION_CONTEXT)?;
-    holds::<CodeActionOrCommand>(rt, alloc, CODE_ACTION_OR_COMMAND)?;
-    holds::<CodeAction>(rt, alloc, CODE_ACTION)?;
+    holds::<CompletionParams>(alloc, COMPLETION_PARAMS)?;
+    holds::<CompletionContext>(alloc, COMPLETION_CONTEXT)?;
+    holds::<CompletionResponse>(alloc, COMPLETION_RESPONSE)?;
+    holds::<CompletionList>(alloc, COMPLETION_LIST)?;
+    holds::<CompletionItem>(alloc, COMPLETION_ITEM)?;
+    holds::<CompletionItemLabelDetails>(alloc, COMPLETION_ITEM_LABEL_DETAILS)?;
+    holds::<CompletionTextEdit>(alloc, COMPLETION_TEXT_EDIT)?;
+    holds::<InsertReplaceEdit>(alloc, INSERT_REPLACE_EDIT)?;
+    holds::<CodeActionParams>(alloc, CODE_ACTION_PARAMS)?;
+    holds::<CodeActionContext>(alloc, CODE_ACTION_CONTEXT)?;
+    holds::<CodeActionOrCommand>(alloc, CODE_ACTION_OR_COMMAND)?;
+    holds::<CodeAction>(alloc, CODE_ACTION)?;
     Ok(())
 }
 
 #[test]
 fn rows_2(rt: HostRuntime) -> Result<(), Fail> {
-    let rt = &rt;
     let alloc = rt.alloc();
-    holds::<CodeActionDisabled>(rt, alloc, CODE_ACTION_DISABLED)?;
-    holds::<InlayHintParams>(rt, alloc, INLAY_HINT_PARAMS)?;
-    holds::<InlayHint>(rt, alloc, INLAY_HINT)?;
-    holds::<InlayHintLabel>(rt, alloc, INLAY_HINT_LABEL)?;
-    holds::<InlayHintTooltip>(rt, alloc, INLAY_HINT_TOOLTIP)?;
-    holds::<InlayHintLabelPart>(rt, alloc, INLAY_HINT_LABEL_PART)?;
-    holds::<InlayHintLabelPartTooltip>(rt, alloc, INLAY_HINT_LABEL_PART_TOOLTIP)?;
-    holds::<InlineValueParams>(rt, alloc, INLINE_VALUE_PARAMS)?;
-    holds::<InlineValueContext>(rt, alloc, INLINE_VALUE_CONTEXT)?;
-    holds::<InlineValue>(rt, alloc, INLINE_VALUE)?;
-    holds::<InlineValueText>(rt, alloc, INLINE_VALUE_TEXT)?;
-    holds::<InlineValueVariableLookup>(rt, alloc, INLINE_VALUE_VARIABLE_LOOKUP)?;
+    holds::<CodeActionDisabled>(alloc, CODE_ACTION_DISABLED)?;
+    holds::<InlayHintParams>(alloc, INLAY_HINT_PARAMS)?;
+    holds::<InlayHint>(alloc, INLAY_HINT)?;
+    holds::<InlayHintLabel>(alloc, INLAY_HINT_LABEL)?;
+    holds::<InlayHintTooltip>(alloc, INLAY_HINT_TOOLTIP)?;
+    holds::<InlayHintLabelPart>(alloc, INLAY_HINT_LABEL_PART)?;
+    holds::<InlayHintLabelPartTooltip>(alloc, INLAY_HINT_LABEL_PART_TOOLTIP)?;
+    holds::<InlineValueParams>(alloc, INLINE_VALUE_PARAMS)?;
+    holds::<InlineValueContext>(alloc, INLINE_VALUE_CONTEXT)?;
+    holds::<InlineValue>(alloc, INLINE_VALUE)?;
+    holds::<InlineValueText>(alloc, INLINE_VALUE_TEXT)?;
+    holds::<InlineValueVariableLookup>(alloc, INLINE_VALUE_VARIABLE_LOOKUP)?;
     Ok(())
 }
 
 #[test]
 fn rows_3(rt: HostRuntime) -> Result<(), Fail> {
-    let rt = &rt;
     let alloc = rt.alloc();
-    holds::<InlineValueEvaluatableExpression>(rt, alloc, INLINE_VALUE_EVALUATABLE_EXPRESSION)?;
-    holds::<RenameParams>(rt, alloc, RENAME_PARAMS)?;
-    holds::<PrepareRenameResponse>(rt, alloc, PREPARE_RENAME_RESPONSE)?;
+    holds::<InlineValueEvaluatableExpression>(alloc, INLINE_VALUE_EVALUATABLE_EXPRESSION)?;
+    holds::<RenameParams>(alloc, RENAME_PARAMS)?;
+    holds::<PrepareRenameResponse>(alloc, PREPARE_RENAME_RESPONSE)?;
     Ok(())
 }
 

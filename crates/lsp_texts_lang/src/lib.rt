@@ -12,8 +12,6 @@ mod lang_item;
 #[cfg(test)]
 mod report;
 #[cfg(test)]
-mod rows;
-#[cfg(test)]
 mod tokens;
 #[cfg(test)]
 mod tree;

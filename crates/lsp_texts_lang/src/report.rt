@@ -1,5 +1,4 @@
 // The rows of lsp_report.
-use crate::rows::{holds, text_of};
 use lsp_report::{
     DiagnosticServerCancellationData, DidChangeNotebookDocumentParams,
     DidCloseNotebookDocumentParams, DidOpenNotebookDocumentParams, DidSaveNotebookDocumentParams,
@@ -14,6 +13,7 @@ use lsp_report::{
     WorkspaceDiagnosticReportResult, WorkspaceDocumentDiagnosticReport,
     WorkspaceFullDocumentDiagnosticReport, WorkspaceUnchangedDocumentDiagnosticReport,
 };
+use lsp_rows::{holds, text_of};
 use std::test::Fail;
 
 const DOCUMENT_DIAGNOSTIC_PARAMS: &str = r#"
@@ -187,86 +187,66 @@ const DID_CLOSE_NOTEBOOK_DOCUMENT_PARAMS: &str = r#"
 
 #[test]
 fn rows_1(rt: HostRuntime) -> Result<(), Fail> {
-    let rt = &rt;
     let alloc = rt.alloc();
-    holds::<DocumentDiagnosticParams>(rt, alloc, DOCUMENT_DIAGNOSTIC_PARAMS)?;
-    holds::<DocumentDiagnosticReportResult>(rt, alloc, DOCUMENT_DIAGNOSTIC_REPORT_RESULT)?;
-    holds::<DocumentDiagnosticReport>(rt, alloc, DOCUMENT_DIAGNOSTIC_REPORT)?;
-    holds::<DocumentDiagnosticReportKind>(rt, alloc, DOCUMENT_DIAGNOSTIC_REPORT_KIND)?;
-    holds::<RelatedFullDocumentDiagnosticReport>(
-        rt,
-        alloc,
-        RELATED_FULL_DOCUMENT_DIAGNOSTIC_REPORT,
-    )?;
+    holds::<DocumentDiagnosticParams>(alloc, DOCUMENT_DIAGNOSTIC_PARAMS)?;
+    holds::<DocumentDiagnosticReportResult>(alloc, DOCUMENT_DIAGNOSTIC_REPORT_RESULT)?;
+    holds::<DocumentDiagnosticReport>(alloc, DOCUMENT_DIAGNOSTIC_REPORT)?;
+    holds::<DocumentDiagnosticReportKind>(alloc, DOCUMENT_DIAGNOSTIC_REPORT_KIND)?;
+    holds::<RelatedFullDocumentDiagnosticReport>(alloc, RELATED_FULL_DOCUMENT_DIAGNOSTIC_REPORT)?;
     holds::<RelatedUnchangedDocumentDiagnosticReport>(
-        rt,
         alloc,
         RELATED_UNCHANGED_DOCUMENT_DIAGNOSTIC_REPORT,
     )?;
-    holds::<FullDocumentDiagnosticReport>(rt, alloc, FULL_DOCUMENT_DIAGNOSTIC_REPORT)?;
-    holds::<UnchangedDocumentDiagnosticReport>(rt, alloc, UNCHANGED_DOCUMENT_DIAGNOSTIC_REPORT)?;
+    holds::<FullDocumentDiagnosticReport>(alloc, FULL_DOCUMENT_DIAGNOSTIC_REPORT)?;
+    holds::<UnchangedDocumentDiagnosticReport>(alloc, UNCHANGED_DOCUMENT_DIAGNOSTIC_REPORT)?;
     holds::<DocumentDiagnosticReportPartialResult>(
-        rt,
         alloc,
         DOCUMENT_DIAGNOSTIC_REPORT_PARTIAL_RESULT,
     )?;
-    holds::<WorkspaceDiagnosticParams>(rt, alloc, WORKSPACE_DIAGNOSTIC_PARAMS)?;
-    holds::<PreviousResultId>(rt, alloc, PREVIOUS_RESULT_ID)?;
-    holds::<WorkspaceDiagnosticReportResult>(rt, alloc, WORKSPACE_DIAGNOSTIC_REPORT_RESULT)?;
+    holds::<WorkspaceDiagnosticParams>(alloc, WORKSPACE_DIAGNOSTIC_PARAMS)?;
+    holds::<PreviousResultId>(alloc, PREVIOUS_RESULT_ID)?;
+    holds::<WorkspaceDiagnosticReportResult>(alloc, WORKSPACE_DIAGNOSTIC_REPORT_RESULT)?;
     Ok(())
 }
 
 #[test]
 fn rows_2(rt: HostRuntime) -> Result<(), Fail> {
-    let rt = &rt;
     let alloc = rt.alloc();
-    holds::<WorkspaceDiagnosticReport>(rt, alloc, WORKSPACE_DIAGNOSTIC_REPORT)?;
-    holds::<WorkspaceDocumentDiagnosticReport>(rt, alloc, WORKSPACE_DOCUMENT_DIAGNOSTIC_REPORT)?;
+    holds::<WorkspaceDiagnosticReport>(alloc, WORKSPACE_DIAGNOSTIC_REPORT)?;
+    holds::<WorkspaceDocumentDiagnosticReport>(alloc, WORKSPACE_DOCUMENT_DIAGNOSTIC_REPORT)?;
     holds::<WorkspaceFullDocumentDiagnosticReport>(
-        rt,
         alloc,
         WORKSPACE_FULL_DOCUMENT_DIAGNOSTIC_REPORT,
     )?;
     holds::<WorkspaceUnchangedDocumentDiagnosticReport>(
-        rt,
         alloc,
         WORKSPACE_UNCHANGED_DOCUMENT_DIAGNOSTIC_REPORT,
     )?;
     holds::<WorkspaceDiagnosticReportPartialResult>(
-        rt,
         alloc,
         WORKSPACE_DIAGNOSTIC_REPORT_PARTIAL_RESULT,
     )?;
-    holds::<DiagnosticServerCancellationData>(rt, alloc, DIAGNOSTIC_SERVER_CANCELLATION_DATA)?;
-    holds::<NotebookDocument>(rt, alloc, NOTEBOOK_DOCUMENT)?;
-    holds::<NotebookCell>(rt, alloc, NOTEBOOK_CELL)?;
-    holds::<ExecutionSummary>(rt, alloc, EXECUTION_SUMMARY)?;
-    holds::<DidOpenNotebookDocumentParams>(rt, alloc, DID_OPEN_NOTEBOOK_DOCUMENT_PARAMS)?;
-    holds::<DidChangeNotebookDocumentParams>(rt, alloc, DID_CHANGE_NOTEBOOK_DOCUMENT_PARAMS)?;
-    holds::<VersionedNotebookDocumentIdentifier>(
-        rt,
-        alloc,
-        VERSIONED_NOTEBOOK_DOCUMENT_IDENTIFIER,
-    )?;
+    holds::<DiagnosticServerCancellationData>(alloc, DIAGNOSTIC_SERVER_CANCELLATION_DATA)?;
+    holds::<NotebookDocument>(alloc, NOTEBOOK_DOCUMENT)?;
+    holds::<NotebookCell>(alloc, NOTEBOOK_CELL)?;
+    holds::<ExecutionSummary>(alloc, EXECUTION_SUMMARY)?;
+    holds::<DidOpenNotebookDocumentParams>(alloc, DID_OPEN_NOTEBOOK_DOCUMENT_PARAMS)?;
+    holds::<DidChangeNotebookDocumentParams>(alloc, DID_CHANGE_NOTEBOOK_DOCUMENT_PARAMS)?;
+    holds::<VersionedNotebookDocumentIdentifier>(alloc, VERSIONED_NOTEBOOK_DOCUMENT_IDENTIFIER)?;
     Ok(())
 }
 
 #[test]
 fn rows_3(rt: HostRuntime) -> Result<(), Fail> {
-    let rt = &rt;
     let alloc = rt.alloc();
-    holds::<NotebookDocumentChangeEvent>(rt, alloc, NOTEBOOK_DOCUMENT_CHANGE_EVENT)?;
-    holds::<NotebookDocumentCellChange>(rt, alloc, NOTEBOOK_DOCUMENT_CELL_CHANGE)?;
-    holds::<NotebookDocumentChangeTextContent>(rt, alloc, NOTEBOOK_DOCUMENT_CHANGE_TEXT_CONTENT)?;
-    holds::<NotebookDocumentCellChangeStructure>(
-        rt,
-        alloc,
-        NOTEBOOK_DOCUMENT_CELL_CHANGE_STRUCTURE,
-    )?;
-    holds::<NotebookCellArrayChange>(rt, alloc, NOTEBOOK_CELL_ARRAY_CHANGE)?;
-    holds::<DidSaveNotebookDocumentParams>(rt, alloc, DID_SAVE_NOTEBOOK_DOCUMENT_PARAMS)?;
-    holds::<NotebookDocumentIdentifier>(rt, alloc, NOTEBOOK_DOCUMENT_IDENTIFIER)?;
-    holds::<DidCloseNotebookDocumentParams>(rt, alloc, DID_CLOSE_NOTEBOOK_DOCUMENT_PARAMS)?;
+    holds::<NotebookDocumentChangeEvent>(alloc, NOTEBOOK_DOCUMENT_CHANGE_EVENT)?;
+    holds::<NotebookDocumentCellChange>(alloc, NOTEBOOK_DOCUMENT_CELL_CHANGE)?;
+    holds::<NotebookDocumentChangeTextContent>(alloc, NOTEBOOK_DOCUMENT_CHANGE_TEXT_CONTENT)?;
+    holds::<NotebookDocumentCellChangeStructure>(alloc, NOTEBOOK_DOCUMENT_CELL_CHANGE_STRUCTURE)?;
+    holds::<NotebookCellArrayChange>(alloc, NOTEBOOK_CELL_ARRAY_CHANGE)?;
+    holds::<DidSaveNotebookDocumentParams>(alloc, DID_SAVE_NOTEBOOK_DOCUMENT_PARAMS)?;
+    holds::<NotebookDocumentIdentifier>(alloc, NOTEBOOK_DOCUMENT_IDENTIFIER)?;
+    holds::<DidCloseNotebookDocumentParams>(alloc, DID_CLOSE_NOTEBOOK_DOCUMENT_PARAMS)?;
     Ok(())
 }
 

@@ -1,5 +1,5 @@
 // The rows of lsp_tokens.
-use crate::rows::{holds, text_of};
+use lsp_rows::{holds, text_of};
 use lsp_tokens::{
     DocumentFormattingParams, DocumentOnTypeFormattingParams, DocumentRangeFormattingParams,
     FoldingRange, FoldingRangeParams, FormattingOptions, FormattingProperty,
@@ -231,53 +231,50 @@ const DOCUMENT_ON_TYPE_FORMATTING_PARAMS: &str = r#"
 
 #[test]
 fn rows_1(rt: HostRuntime) -> Result<(), Fail> {
-    let rt = &rt;
     let alloc = rt.alloc();
-    holds::<SemanticTokens>(rt, alloc, SEMANTIC_TOKENS)?;
-    holds::<SemanticTokensPartialResult>(rt, alloc, SEMANTIC_TOKENS_PARTIAL_RESULT)?;
-    holds::<SemanticTokensEdit>(rt, alloc, SEMANTIC_TOKENS_EDIT)?;
-    holds::<SemanticTokensParams>(rt, alloc, SEMANTIC_TOKENS_PARAMS)?;
-    holds::<SemanticTokensDeltaParams>(rt, alloc, SEMANTIC_TOKENS_DELTA_PARAMS)?;
-    holds::<SemanticTokensRangeParams>(rt, alloc, SEMANTIC_TOKENS_RANGE_PARAMS)?;
-    holds::<SemanticTokensResult>(rt, alloc, SEMANTIC_TOKENS_RESULT)?;
-    holds::<SemanticTokensFullDeltaResult>(rt, alloc, SEMANTIC_TOKENS_FULL_DELTA_RESULT)?;
-    holds::<SemanticTokensDelta>(rt, alloc, SEMANTIC_TOKENS_DELTA)?;
-    holds::<SemanticTokensRangeResult>(rt, alloc, SEMANTIC_TOKENS_RANGE_RESULT)?;
-    holds::<FoldingRangeParams>(rt, alloc, FOLDING_RANGE_PARAMS)?;
-    holds::<FoldingRange>(rt, alloc, FOLDING_RANGE)?;
+    holds::<SemanticTokens>(alloc, SEMANTIC_TOKENS)?;
+    holds::<SemanticTokensPartialResult>(alloc, SEMANTIC_TOKENS_PARTIAL_RESULT)?;
+    holds::<SemanticTokensEdit>(alloc, SEMANTIC_TOKENS_EDIT)?;
+    holds::<SemanticTokensParams>(alloc, SEMANTIC_TOKENS_PARAMS)?;
+    holds::<SemanticTokensDeltaParams>(alloc, SEMANTIC_TOKENS_DELTA_PARAMS)?;
+    holds::<SemanticTokensRangeParams>(alloc, SEMANTIC_TOKENS_RANGE_PARAMS)?;
+    holds::<SemanticTokensResult>(alloc, SEMANTIC_TOKENS_RESULT)?;
+    holds::<SemanticTokensFullDeltaResult>(alloc, SEMANTIC_TOKENS_FULL_DELTA_RESULT)?;
+    holds::<SemanticTokensDelta>(alloc, SEMANTIC_TOKENS_DELTA)?;
+    holds::<SemanticTokensRangeResult>(alloc, SEMANTIC_TOKENS_RANGE_RESULT)?;
+    holds::<FoldingRangeParams>(alloc, FOLDING_RANGE_PARAMS)?;
+    holds::<FoldingRange>(alloc, FOLDING_RANGE)?;
     Ok(())
 }
 
 #[test]
 fn rows_2(rt: HostRuntime) -> Result<(), Fail> {
-    let rt = &rt;
     let alloc = rt.alloc();
-    holds::<SelectionRangeParams>(rt, alloc, SELECTION_RANGE_PARAMS)?;
-    holds::<LinkedEditingRangeParams>(rt, alloc, LINKED_EDITING_RANGE_PARAMS)?;
-    holds::<LinkedEditingRanges>(rt, alloc, LINKED_EDITING_RANGES)?;
-    holds::<SelectionRange>(rt, alloc, SELECTION_RANGE)?;
-    holds::<SignatureHelpParams>(rt, alloc, SIGNATURE_HELP_PARAMS)?;
-    holds::<SignatureHelpContext>(rt, alloc, SIGNATURE_HELP_CONTEXT)?;
-    holds::<SignatureHelp>(rt, alloc, SIGNATURE_HELP)?;
-    holds::<SignatureInformation>(rt, alloc, SIGNATURE_INFORMATION)?;
-    holds::<ParameterInformation>(rt, alloc, PARAMETER_INFORMATION)?;
-    holds::<ParameterLabel>(rt, alloc, PARAMETER_LABEL)?;
-    holds::<MonikerParams>(rt, alloc, MONIKER_PARAMS)?;
-    holds::<Moniker>(rt, alloc, MONIKER)?;
+    holds::<SelectionRangeParams>(alloc, SELECTION_RANGE_PARAMS)?;
+    holds::<LinkedEditingRangeParams>(alloc, LINKED_EDITING_RANGE_PARAMS)?;
+    holds::<LinkedEditingRanges>(alloc, LINKED_EDITING_RANGES)?;
+    holds::<SelectionRange>(alloc, SELECTION_RANGE)?;
+    holds::<SignatureHelpParams>(alloc, SIGNATURE_HELP_PARAMS)?;
+    holds::<SignatureHelpContext>(alloc, SIGNATURE_HELP_CONTEXT)?;
+    holds::<SignatureHelp>(alloc, SIGNATURE_HELP)?;
+    holds::<SignatureInformation>(alloc, SIGNATURE_INFORMATION)?;
+    holds::<ParameterInformation>(alloc, PARAMETER_INFORMATION)?;
+    holds::<ParameterLabel>(alloc, PARAMETER_LABEL)?;
+    holds::<MonikerParams>(alloc, MONIKER_PARAMS)?;
+    holds::<Moniker>(alloc, MONIKER)?;
     Ok(())
 }
 
 #[test]
 fn rows_3(rt: HostRuntime) -> Result<(), Fail> {
-    let rt = &rt;
     let alloc = rt.alloc();
-    holds::<UniquenessLevel>(rt, alloc, UNIQUENESS_LEVEL)?;
-    holds::<MonikerKind>(rt, alloc, MONIKER_KIND)?;
-    holds::<DocumentFormattingParams>(rt, alloc, DOCUMENT_FORMATTING_PARAMS)?;
-    holds::<FormattingOptions>(rt, alloc, FORMATTING_OPTIONS)?;
-    holds::<FormattingProperty>(rt, alloc, FORMATTING_PROPERTY)?;
-    holds::<DocumentRangeFormattingParams>(rt, alloc, DOCUMENT_RANGE_FORMATTING_PARAMS)?;
-    holds::<DocumentOnTypeFormattingParams>(rt, alloc, DOCUMENT_ON_TYPE_FORMATTING_PARAMS)?;
+    holds::<UniquenessLevel>(alloc, UNIQUENESS_LEVEL)?;
+    holds::<MonikerKind>(alloc, MONIKER_KIND)?;
+    holds::<DocumentFormattingParams>(alloc, DOCUMENT_FORMATTING_PARAMS)?;
+    holds::<FormattingOptions>(alloc, FORMATTING_OPTIONS)?;
+    holds::<FormattingProperty>(alloc, FORMATTING_PROPERTY)?;
+    holds::<DocumentRangeFormattingParams>(alloc, DOCUMENT_RANGE_FORMATTING_PARAMS)?;
+    holds::<DocumentOnTypeFormattingParams>(alloc, DOCUMENT_ON_TYPE_FORMATTING_PARAMS)?;
     Ok(())
 }
 

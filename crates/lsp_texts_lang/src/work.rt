@@ -1,5 +1,5 @@
 // The rows of lsp_work.
-use crate::rows::{holds, text_of};
+use lsp_rows::{holds, text_of};
 use lsp_work::{
     ApplyWorkspaceEditParams, ApplyWorkspaceEditResponse, ConfigurationItem, ConfigurationParams,
     CreateFilesParams, DeleteFilesParams, DidChangeConfigurationParams,
@@ -249,68 +249,64 @@ const WORK_DONE_PROGRESS_CANCEL_PARAMS: &str = r#"
 
 #[test]
 fn rows_1(rt: HostRuntime) -> Result<(), Fail> {
-    let rt = &rt;
     let alloc = rt.alloc();
-    holds::<DidOpenTextDocumentParams>(rt, alloc, DID_OPEN_TEXT_DOCUMENT_PARAMS)?;
-    holds::<DidChangeTextDocumentParams>(rt, alloc, DID_CHANGE_TEXT_DOCUMENT_PARAMS)?;
-    holds::<WillSaveTextDocumentParams>(rt, alloc, WILL_SAVE_TEXT_DOCUMENT_PARAMS)?;
-    holds::<DidSaveTextDocumentParams>(rt, alloc, DID_SAVE_TEXT_DOCUMENT_PARAMS)?;
-    holds::<DidCloseTextDocumentParams>(rt, alloc, DID_CLOSE_TEXT_DOCUMENT_PARAMS)?;
-    holds::<PublishDiagnosticsParams>(rt, alloc, PUBLISH_DIAGNOSTICS_PARAMS)?;
-    holds::<DidChangeConfigurationParams>(rt, alloc, DID_CHANGE_CONFIGURATION_PARAMS)?;
-    holds::<ConfigurationParams>(rt, alloc, CONFIGURATION_PARAMS)?;
-    holds::<ConfigurationItem>(rt, alloc, CONFIGURATION_ITEM)?;
-    holds::<DidChangeWatchedFilesParams>(rt, alloc, DID_CHANGE_WATCHED_FILES_PARAMS)?;
-    holds::<FileEvent>(rt, alloc, FILE_EVENT)?;
-    holds::<DidChangeWorkspaceFoldersParams>(rt, alloc, DID_CHANGE_WORKSPACE_FOLDERS_PARAMS)?;
+    holds::<DidOpenTextDocumentParams>(alloc, DID_OPEN_TEXT_DOCUMENT_PARAMS)?;
+    holds::<DidChangeTextDocumentParams>(alloc, DID_CHANGE_TEXT_DOCUMENT_PARAMS)?;
+    holds::<WillSaveTextDocumentParams>(alloc, WILL_SAVE_TEXT_DOCUMENT_PARAMS)?;
+    holds::<DidSaveTextDocumentParams>(alloc, DID_SAVE_TEXT_DOCUMENT_PARAMS)?;
+    holds::<DidCloseTextDocumentParams>(alloc, DID_CLOSE_TEXT_DOCUMENT_PARAMS)?;
+    holds::<PublishDiagnosticsParams>(alloc, PUBLISH_DIAGNOSTICS_PARAMS)?;
+    holds::<DidChangeConfigurationParams>(alloc, DID_CHANGE_CONFIGURATION_PARAMS)?;
+    holds::<ConfigurationParams>(alloc, CONFIGURATION_PARAMS)?;
+    holds::<ConfigurationItem>(alloc, CONFIGURATION_ITEM)?;
+    holds::<DidChangeWatchedFilesParams>(alloc, DID_CHANGE_WATCHED_FILES_PARAMS)?;
+    holds::<FileEvent>(alloc, FILE_EVENT)?;
+    holds::<DidChangeWorkspaceFoldersParams>(alloc, DID_CHANGE_WORKSPACE_FOLDERS_PARAMS)?;
     Ok(())
 }
 
 #[test]
 fn rows_2(rt: HostRuntime) -> Result<(), Fail> {
-    let rt = &rt;
     let alloc = rt.alloc();
-    holds::<WorkspaceFoldersChangeEvent>(rt, alloc, WORKSPACE_FOLDERS_CHANGE_EVENT)?;
-    holds::<ExecuteCommandParams>(rt, alloc, EXECUTE_COMMAND_PARAMS)?;
-    holds::<ApplyWorkspaceEditParams>(rt, alloc, APPLY_WORKSPACE_EDIT_PARAMS)?;
-    holds::<ApplyWorkspaceEditResponse>(rt, alloc, APPLY_WORKSPACE_EDIT_RESPONSE)?;
-    holds::<CreateFilesParams>(rt, alloc, CREATE_FILES_PARAMS)?;
-    holds::<FileCreate>(rt, alloc, FILE_CREATE)?;
-    holds::<RenameFilesParams>(rt, alloc, RENAME_FILES_PARAMS)?;
-    holds::<FileRename>(rt, alloc, FILE_RENAME)?;
-    holds::<DeleteFilesParams>(rt, alloc, DELETE_FILES_PARAMS)?;
-    holds::<FileDelete>(rt, alloc, FILE_DELETE)?;
-    holds::<ShowMessageParams>(rt, alloc, SHOW_MESSAGE_PARAMS)?;
-    holds::<ShowMessageRequestParams>(rt, alloc, SHOW_MESSAGE_REQUEST_PARAMS)?;
+    holds::<WorkspaceFoldersChangeEvent>(alloc, WORKSPACE_FOLDERS_CHANGE_EVENT)?;
+    holds::<ExecuteCommandParams>(alloc, EXECUTE_COMMAND_PARAMS)?;
+    holds::<ApplyWorkspaceEditParams>(alloc, APPLY_WORKSPACE_EDIT_PARAMS)?;
+    holds::<ApplyWorkspaceEditResponse>(alloc, APPLY_WORKSPACE_EDIT_RESPONSE)?;
+    holds::<CreateFilesParams>(alloc, CREATE_FILES_PARAMS)?;
+    holds::<FileCreate>(alloc, FILE_CREATE)?;
+    holds::<RenameFilesParams>(alloc, RENAME_FILES_PARAMS)?;
+    holds::<FileRename>(alloc, FILE_RENAME)?;
+    holds::<DeleteFilesParams>(alloc, DELETE_FILES_PARAMS)?;
+    holds::<FileDelete>(alloc, FILE_DELETE)?;
+    holds::<ShowMessageParams>(alloc, SHOW_MESSAGE_PARAMS)?;
+    holds::<ShowMessageRequestParams>(alloc, SHOW_MESSAGE_REQUEST_PARAMS)?;
     Ok(())
 }
 
 #[test]
 fn rows_3(rt: HostRuntime) -> Result<(), Fail> {
-    let rt = &rt;
     let alloc = rt.alloc();
-    holds::<MessageActionItem>(rt, alloc, MESSAGE_ACTION_ITEM)?;
-    holds::<MessageActionItemProperty>(rt, alloc, MESSAGE_ACTION_ITEM_PROPERTY)?;
-    holds::<LogMessageParams>(rt, alloc, LOG_MESSAGE_PARAMS)?;
-    holds::<ShowDocumentParams>(rt, alloc, SHOW_DOCUMENT_PARAMS)?;
-    holds::<ShowDocumentResult>(rt, alloc, SHOW_DOCUMENT_RESULT)?;
-    holds::<SetTraceParams>(rt, alloc, SET_TRACE_PARAMS)?;
-    holds::<LogTraceParams>(rt, alloc, LOG_TRACE_PARAMS)?;
-    holds::<ProgressParams>(rt, alloc, PROGRESS_PARAMS)?;
-    holds::<ProgressParamsValue>(rt, alloc, PROGRESS_PARAMS_VALUE)?;
-    holds::<WorkDoneProgress>(rt, alloc, WORK_DONE_PROGRESS)?;
-    holds::<WorkDoneProgressBegin>(rt, alloc, WORK_DONE_PROGRESS_BEGIN)?;
-    holds::<WorkDoneProgressReport>(rt, alloc, WORK_DONE_PROGRESS_REPORT)?;
+    holds::<MessageActionItem>(alloc, MESSAGE_ACTION_ITEM)?;
+    holds::<MessageActionItemProperty>(alloc, MESSAGE_ACTION_ITEM_PROPERTY)?;
+    holds::<LogMessageParams>(alloc, LOG_MESSAGE_PARAMS)?;
+    holds::<ShowDocumentParams>(alloc, SHOW_DOCUMENT_PARAMS)?;
+    holds::<ShowDocumentResult>(alloc, SHOW_DOCUMENT_RESULT)?;
+    holds::<SetTraceParams>(alloc, SET_TRACE_PARAMS)?;
+    holds::<LogTraceParams>(alloc, LOG_TRACE_PARAMS)?;
+    holds::<ProgressParams>(alloc, PROGRESS_PARAMS)?;
+    holds::<ProgressParamsValue>(alloc, PROGRESS_PARAMS_VALUE)?;
+    holds::<WorkDoneProgress>(alloc, WORK_DONE_PROGRESS)?;
+    holds::<WorkDoneProgressBegin>(alloc, WORK_DONE_PROGRESS_BEGIN)?;
+    holds::<WorkDoneProgressReport>(alloc, WORK_DONE_PROGRESS_REPORT)?;
     Ok(())
 }
 
 #[test]
 fn rows_4(rt: HostRuntime) -> Result<(), Fail> {
-    let rt = &rt;
     let alloc = rt.alloc();
-    holds::<WorkDoneProgressEnd>(rt, alloc, WORK_DONE_PROGRESS_END)?;
-    holds::<WorkDoneProgressCreateParams>(rt, alloc, WORK_DONE_PROGRESS_CREATE_PARAMS)?;
-    holds::<WorkDoneProgressCancelParams>(rt, alloc, WORK_DONE_PROGRESS_CANCEL_PARAMS)?;
+    holds::<WorkDoneProgressEnd>(alloc, WORK_DONE_PROGRESS_END)?;
+    holds::<WorkDoneProgressCreateParams>(alloc, WORK_DONE_PROGRESS_CREATE_PARAMS)?;
+    holds::<WorkDoneProgressCancelParams>(alloc, WORK_DONE_PROGRESS_CANCEL_PARAMS)?;
     Ok(())
 }
 
