@@ -3,11 +3,11 @@ use Rattle.std.specs.Prelude.{None, String}
 use Rattle.std.specs.declared.alloc.Global.{Global}
 use Rattle.lsp_shape.specs.Row.{Row, any, fields, i32, list, omitted, required, string, ◌&◌}
 use Rattle.lsp_uri.specs.Uri.{uri_row}
-use Rattle.lsp_base.specs.Basic.{location_row, number_or_string_row, range_row}
-use Rattle.lsp_base.specs.declared.basic.Range.{Range}
+use Rattle.lsp_base.specs.Position.{location_row, number_or_string_row, range_row}
 use Rattle.lsp_base.specs.declared.diagnostic.CodeDescription.{CodeDescription}
 use Rattle.lsp_base.specs.declared.diagnostic.Diagnostic.{Diagnostic}
 use Rattle.lsp_base.specs.declared.diagnostic.DiagnosticRelatedInformation.{DiagnosticRelatedInformation}
+use Rattle.lsp_base.specs.declared.position.Range.{Range}
 
 unfoldable pub code_description_row : Row CodeDescription
 code_description_row = fields (

@@ -1,7 +1,7 @@
 -- Rows of documents.
 use Rattle.lsp_shape.specs.Row.{Row, fields, i32, nullable, omitted, required, string, u32, ◌&◌}
 use Rattle.lsp_uri.specs.Uri.{uri_row}
-use Rattle.lsp_base.specs.Basic.{position_row, range_row}
+use Rattle.lsp_base.specs.Position.{position_row, range_row}
 use Rattle.lsp_base.specs.declared.document.DocumentFilter.{DocumentFilter}
 use Rattle.lsp_base.specs.declared.document.OptionalVersionedTextDocumentIdentifier.{OptionalVersionedTextDocumentIdentifier}
 use Rattle.lsp_base.specs.declared.document.TextDocumentContentChangeEvent.{TextDocumentContentChangeEvent}

@@ -1,8 +1,8 @@
 -- Rows of edits.
 use Rattle.lsp_shape.specs.Plain.{Plain, choice}
 use Rattle.lsp_shape.specs.Row.{Row, fields, flat, list, omitted, required, string, truth, union, variant, ◌&◌, ◌or◌}
-use Rattle.lsp_base.specs.Basic.{range_row}
 use Rattle.lsp_base.specs.Document.{optional_versioned_text_document_identifier_row}
+use Rattle.lsp_base.specs.Position.{range_row}
 use Rattle.lsp_base.specs.declared.edit.AnnotatedTextEdit.{AnnotatedTextEdit}
 use Rattle.lsp_base.specs.declared.edit.ChangeAnnotation.{ChangeAnnotation}
 use Rattle.lsp_base.specs.declared.edit.OneOf.{OneOf}

@@ -1,4 +1,4 @@
-pub mod Basic
+pub mod Position
 pub mod Command
 pub mod Diagnostic
 pub mod Document

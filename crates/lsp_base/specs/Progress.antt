@@ -1,6 +1,6 @@
 -- Rows of tokens of progress.
 use Rattle.lsp_shape.specs.Row.{Row, fields, omitted}
-use Rattle.lsp_base.specs.Basic.{number_or_string_row}
+use Rattle.lsp_base.specs.Position.{number_or_string_row}
 use Rattle.lsp_base.specs.declared.progress.PartialResultParams.{PartialResultParams}
 use Rattle.lsp_base.specs.declared.progress.WorkDoneProgressParams.{WorkDoneProgressParams}
 

@@ -1,9 +1,9 @@
 // Diagnostics of a document.
 ghost use Rattle.std.specs.Prelude.{◌≡◌, [], string_bytes};
 ghost use Rattle.lsp_base.specs.Diagnostic.{simple_diagnostic, code_description_row, diagnostic_related_information_row, diagnostic_row};
-ghost use Rattle.lsp_base.specs.Basic.{first_range};
+ghost use Rattle.lsp_base.specs.Position.{first_range};
 
-use crate::basic::{Location, NumberOrString, Position, Range};
+use crate::position::{Location, NumberOrString, Position, Range};
 use lsp_kinds::{DiagnosticSeverity, DiagnosticTag};
 use lsp_shape::{Misfit, NoMemory, Reader, Wire, Writer};
 use lsp_uri::Uri;

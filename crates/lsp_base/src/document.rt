@@ -2,7 +2,7 @@
 ghost use Rattle.std.specs.Prelude.{◌≡◌};
 ghost use Rattle.lsp_base.specs.Document.{text_document_identifier_row, text_document_item_row, versioned_text_document_identifier_row, optional_versioned_text_document_identifier_row, text_document_position_params_row, document_filter_row, text_document_content_change_event_row, workspace_folder_row};
 
-use crate::basic::{Position, Range};
+use crate::position::{Position, Range};
 use lsp_shape::{Misfit, NoMemory, Reader, Wire, Writer};
 use lsp_uri::Uri;
 use serde_json::Value;

@@ -1,11 +1,11 @@
 // Edits of a document.
 ghost use Rattle.std.specs.Prelude.{◌≡◌, [], string_bytes};
 ghost use Rattle.lsp_shape.specs.Row.{row_of};
-ghost use Rattle.lsp_base.specs.Basic.{first_range};
 ghost use Rattle.lsp_base.specs.Edit.{one_of_row, text_edit_row, annotated_text_edit_row, text_document_edit_row, change_annotation_row};
+ghost use Rattle.lsp_base.specs.Position.{first_range};
 
-use crate::basic::{Position, Range};
 use crate::document::OptionalVersionedTextDocumentIdentifier;
+use crate::position::{Position, Range};
 use lsp_shape::{Misfit, NoMemory, Reader, Wire, Writer, attempt};
 use serde_json::Value;
 use std::alloc::Global;

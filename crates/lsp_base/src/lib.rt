@@ -1,22 +1,18 @@
 //! The types that most others of LSP 3.17 are made of: positions, documents, edits and diagnostics.
 #![tactic(auto)]
 
-mod basic;
 mod capability;
 mod command;
 mod diagnostic;
 mod document;
 mod edit;
 pub mod error_codes;
+mod position;
 mod progress;
 mod registration;
 mod resource;
 mod workspace_edit;
 
-pub use basic::{
-    CancelParams, LSPAny, LSPArray, LSPObject, Location, LocationLink, NumberOrString, Position,
-    Range,
-};
 pub use capability::SymbolKindCapability;
 pub use command::Command;
 pub use diagnostic::{CodeDescription, Diagnostic, DiagnosticRelatedInformation};
@@ -28,6 +24,10 @@ pub use document::{
 pub use edit::{
     AnnotatedTextEdit, ChangeAnnotation, ChangeAnnotationIdentifier, OneOf, TextDocumentEdit,
     TextEdit,
+};
+pub use position::{
+    CancelParams, LSPAny, LSPArray, LSPObject, Location, LocationLink, NumberOrString, Position,
+    Range,
 };
 pub use progress::{PartialResultParams, ProgressToken, WorkDoneProgressParams};
 pub use registration::{

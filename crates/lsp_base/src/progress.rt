@@ -1,7 +1,7 @@
 // Tokens of progress.
 ghost use Rattle.lsp_base.specs.Progress.{partial_result_params_row, work_done_progress_params_row};
 
-use crate::basic::NumberOrString;
+use crate::position::NumberOrString;
 use lsp_shape::{Misfit, NoMemory, Reader, Wire, Writer};
 use serde_json::Value;
 use std::alloc::Global;

@@ -31,7 +31,7 @@ awaiting_found false found a h = h
 
 -- ---- messages
 
--- what a call puts in stands behind what it takes out
+-- what a call puts in stands after what it takes out
 abbrev Passes : DeskState → Call → Reply × DeskState → Type 0
 Passes d call s = d.outbox ++ put_in call s.0 ≡ taken_out s.0 ++ s.1.outbox
 

@@ -83,7 +83,7 @@ taken_out (replies.First None) = []
 taken_out (replies.First (Some r)) = r ∷ []
 taken_out (replies.Messages rs) = rs
 
--- want of memory neither puts in nor takes out
+-- a call that was out of memory neither puts in nor takes out
 abbrev pub put_by : Call → Option Reply → List RequestData
 put_by c None = []
 put_by c (Some reply) = put_in c reply

@@ -1,11 +1,11 @@
 -- A body that is here, whole, tells an item.
-use Rattle.std.proofs.Common.{◌≡◌, ◌≢◌, ℕ, ◌<◌, ◌≤◌, List, [], ◌∷◌, ◌++◌, length, take, drop, false, ◌==◌, nat_lt, cond, Some, None, refl, sym, ap, ◌∙◌, arith, append-nil}
-use Rattle.lsp_frame.specs.Transitions.{Item, Transition, unfinished, go, transition, body_item}
+use Rattle.std.proofs.Common.{◌≡◌, ◌≢◌, ℕ, ◌<◌, ◌≤◌, List, [], ◌∷◌, ◌++◌, length, take, drop, false, ◌==◌, nat_lt, cond, Some, None, sym, ap, ◌∙◌, arith, append-nil}
+use Rattle.lsp_frame.specs.Transitions.{Item, unfinished, go, body_item}
 use Rattle.lsp_frame.specs.Items.{all_from, items_after}
 use Rattle.lsp_frame.specs.Kept.{IsBodyHere}
 use Rattle.lsp_frame.specs.declared.limits.Limits.{Limits}
-use Rattle.lsp_frame.specs.declared.state.DecodeState.{DecodeState}
-use Rattle.lsp_frame.specs.declared.state.DecodeState.TheVariants.{Frame, Search, Body, Skip}
+use Rattle.lsp_frame.specs.declared.decode_state.DecodeState.{DecodeState}
+use Rattle.lsp_frame.specs.declared.decode_state.DecodeState.TheVariants.{Frame, Search, Body, Skip}
 use Rattle.lsp_frame.proofs.ItemsByTransition.{all_from-transition}
 
 there : (n : ℕ) (bs : List ℕ) → n ≤ length bs → nat_lt (length bs) n ≡ false

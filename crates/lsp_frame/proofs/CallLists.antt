@@ -2,7 +2,7 @@
 use Rattle.std.proofs.Common.{◌≡◌, ℕ, List, [], ◌∷◌, ◌++◌, Option, Some, None, refl, sym, ap, ◌∙◌, append_assoc, append-nil}
 use Rattle.lsp_frame.specs.Transitions.{Item}
 use Rattle.lsp_frame.specs.Items.{At, more, items_at, told_at, with_item, start}
-use Rattle.lsp_frame.specs.Calls.{Call, fed, gave, finished, encoded, failed, LeadsBy, Leads, bytes_fed, items_given}
+use Rattle.lsp_frame.specs.Calls.{Call, fed, gave, finished, encoded, failed, Leads, bytes_fed, items_given}
 use Rattle.lsp_frame.specs.Laws.{GivesAll}
 use Rattle.lsp_frame.specs.declared.limits.Limits.{Limits}
 

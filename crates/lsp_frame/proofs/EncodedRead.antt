@@ -1,5 +1,5 @@
 -- What a list of calls encoded is read as the messages that were encoded.
-use Rattle.std.proofs.Common.{◌≡◌, ℕ, List, [], ◌∷◌, ◌++◌, Option, Some, None}
+use Rattle.std.proofs.Common.{List, [], ◌∷◌}
 use Rattle.lsp_frame.specs.Items.{At}
 use Rattle.lsp_frame.specs.Calls.{Call, fed, gave, finished, encoded, failed, Leads, messages_encoded}
 use Rattle.lsp_frame.specs.Laws.{AreReadBack, AreReadable, EncodedRead}

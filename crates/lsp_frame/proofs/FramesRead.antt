@@ -18,7 +18,7 @@ use Rattle.lsp_frame.specs.Laws.{FramesRead, MessagesRead}
 use Rattle.lsp_frame.specs.Transitions.{Item, message, fault, go, transition, at_block, at_head, at_headers, body_item, of_value, of_message}
 use Rattle.lsp_frame.specs.Items.{items_after, all_from, items}
 use Rattle.lsp_frame.specs.declared.parse_error.ParseError.TheVariants.{Utf8, Rest, BodyTooLong}
-use Rattle.lsp_frame.specs.declared.state.DecodeState.TheVariants.{Frame, Body, Skip}
+use Rattle.lsp_frame.specs.declared.decode_state.DecodeState.TheVariants.{Frame, Body, Skip}
 use Rattle.lsp_frame.specs.declared.limits.Limits.{Limits}
 use Rattle.lsp_frame.proofs.TransitionSteady.{front_more}
 use Rattle.lsp_frame.proofs.Sections.{headers_of_section}

@@ -1,17 +1,17 @@
 -- How many bytes a codec that waits holds at most.
-use Rattle.std.proofs.Common.{◌≡◌, ℕ, ◌<◌, ◌≤◌, List, [], length, take, Bool, true, false, ◌==◌, nat_lt, cond, Option, Some, None, Result, Ok, Err, codes, refl, sym, ap, ◌∙◌, subst, arith, max}
+use Rattle.std.proofs.Common.{◌≡◌, ℕ, ◌<◌, ◌≤◌, List, length, take, Bool, true, false, ◌==◌, nat_lt, cond, Option, Some, None, Result, Ok, Err, codes, refl, subst, arith, max}
 use Rattle.std.specs.Prelude.{⊤}
 use Rattle.std.proofs.Math.Nat.{le-max_left, le-max_right}
 use Rattle.lsp_frame.specs.Blocks.{Header, block_len, headers_in}
 use Rattle.lsp_frame.specs.Headers.{content_length}
-use Rattle.lsp_frame.specs.Transitions.{Item, fault, Transition, stop, unfinished, go, transition, at_frame, at_block, at_head, at_headers, at_place, first_place, body_item}
-use Rattle.lsp_frame.specs.Items.{At, Stands, IsTrimmed, IsWaiting, most_held}
+use Rattle.lsp_frame.specs.Transitions.{Item, fault, Transition, stop, unfinished, go, transition, at_block, at_head, at_headers, at_place, first_place, body_item}
+use Rattle.lsp_frame.specs.Items.{Stands, IsTrimmed, most_held}
 use Rattle.lsp_frame.specs.Kept.{IsAllowed}
 use Rattle.lsp_frame.specs.declared.limits.Limits.{Limits}
 use Rattle.lsp_frame.specs.declared.parse_error.ParseError.{ParseError}
 use Rattle.lsp_frame.specs.declared.parse_error.ParseError.TheVariants.{HeadTooLong, BodyTooLong}
-use Rattle.lsp_frame.specs.declared.state.DecodeState.{DecodeState}
-use Rattle.lsp_frame.specs.declared.state.DecodeState.TheVariants.{Frame, Search, Body, Skip}
+use Rattle.lsp_frame.specs.declared.decode_state.DecodeState.{DecodeState}
+use Rattle.lsp_frame.specs.declared.decode_state.DecodeState.TheVariants.{Frame, Search, Body, Skip}
 
 abbrev GoesTo : Limits → Transition → Type 0
 GoesTo limits stop = ⊤

@@ -5,8 +5,8 @@ use Rattle.lsp_frame.specs.Transitions.{Item, Transition, stop, unfinished, go, 
 use Rattle.lsp_frame.specs.Items.{transitions_left, items_after, items_within, with_item, all_from}
 use Rattle.lsp_frame.specs.Laws.{ByTransitions}
 use Rattle.lsp_frame.specs.declared.limits.Limits.{Limits}
-use Rattle.lsp_frame.specs.declared.state.DecodeState.{DecodeState}
-use Rattle.lsp_frame.specs.declared.state.DecodeState.TheVariants.{Frame, Search, Body, Skip}
+use Rattle.lsp_frame.specs.declared.decode_state.DecodeState.{DecodeState}
+use Rattle.lsp_frame.specs.declared.decode_state.DecodeState.TheVariants.{Frame, Search, Body, Skip}
 use Rattle.lsp_frame.proofs.TransitionSteady.{IsSteady, steady}
 
 some_left : (k : DecodeState) (h : List ℕ) → 0 < transitions_left k h

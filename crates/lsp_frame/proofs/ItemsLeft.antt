@@ -8,7 +8,7 @@ use Rattle.lsp_frame.specs.Shown.{show_found}
 use Rattle.lsp_frame.specs.declared.limits.Limits.{Limits}
 use Rattle.lsp_frame.specs.declared.parse_error.ParseError.{ParseError}
 use Rattle.lsp_frame.specs.declared.parse_error.ParseError.TheVariants.{Rest}
-use Rattle.lsp_frame.specs.declared.state.DecodeState.{DecodeState}
+use Rattle.lsp_frame.specs.declared.decode_state.DecodeState.{DecodeState}
 
 abbrev Found : Type 0
 Found = Result Message ParseError

@@ -13,8 +13,8 @@ use Rattle.lsp_frame.specs.Laws.{ToldIsItems}
 use Rattle.lsp_frame.specs.declared.limits.Limits.{Limits}
 use Rattle.lsp_frame.specs.declared.parse_error.ParseError.{ParseError}
 use Rattle.lsp_frame.specs.declared.parse_error.ParseError.TheVariants.{InvalidContentType, Utf8, Rest, HeadTooLong, BodyTooLong}
-use Rattle.lsp_frame.specs.declared.state.DecodeState.{DecodeState}
-use Rattle.lsp_frame.specs.declared.state.DecodeState.TheVariants.{Frame, Search, Body, Skip}
+use Rattle.lsp_frame.specs.declared.decode_state.DecodeState.{DecodeState}
+use Rattle.lsp_frame.specs.declared.decode_state.DecodeState.TheVariants.{Frame, Search, Body, Skip}
 
 -- the item stays where the last `Rest` is taken away
 abbrev Stays : Item → Type 0

@@ -6,8 +6,8 @@ use Rattle.lsp_frame.specs.Laws.{ToldStays}
 use Rattle.lsp_frame.proofs.ItemsByTransition.{all_from-go}
 use Rattle.lsp_frame.specs.declared.limits.Limits.{Limits}
 use Rattle.lsp_frame.specs.declared.parse_error.ParseError.TheVariants.{Rest}
-use Rattle.lsp_frame.specs.declared.state.DecodeState.{DecodeState}
-use Rattle.lsp_frame.specs.declared.state.DecodeState.TheVariants.{Frame}
+use Rattle.lsp_frame.specs.declared.decode_state.DecodeState.{DecodeState}
+use Rattle.lsp_frame.specs.declared.decode_state.DecodeState.TheVariants.{Frame}
 
 -- ys begins with xs
 abbrev Begins : List Item → List Item → Type 0

@@ -6,8 +6,8 @@ use Rattle.lsp_frame.specs.Items.{transitions_left}
 use Rattle.lsp_frame.specs.Laws.{TransitionsMove, MayStay}
 use Rattle.lsp_frame.proofs.TransitionSteady.{IsSteady, steady}
 use Rattle.lsp_frame.specs.declared.limits.Limits.{Limits}
-use Rattle.lsp_frame.specs.declared.state.DecodeState.{DecodeState}
-use Rattle.lsp_frame.specs.declared.state.DecodeState.TheVariants.{Frame, Search, Body, Skip}
+use Rattle.lsp_frame.specs.declared.decode_state.DecodeState.{DecodeState}
+use Rattle.lsp_frame.specs.declared.decode_state.DecodeState.TheVariants.{Frame, Search, Body, Skip}
 
 abbrev Moves : DecodeState → List ℕ → Option Item → DecodeState → ℕ → Type 0
 Moves k bs x j n = (0 < n) ⊎ (MayStay k bs × (x ≡ None) × (j ≡ Frame))

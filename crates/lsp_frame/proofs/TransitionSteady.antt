@@ -13,8 +13,8 @@ use Rattle.lsp_frame.specs.declared.parse_error.ParseError.{ParseError}
 use Rattle.lsp_frame.specs.declared.parse_error.ParseError.TheVariants.{HeadTooLong, BodyTooLong}
 use Rattle.lsp_frame.specs.Transitions.{fault, Transition, stop, unfinished, go, transition, at_frame, at_block, at_head, at_headers, body_item, at_place, first_place}
 use Rattle.lsp_frame.specs.Items.{transitions_left}
-use Rattle.lsp_frame.specs.declared.state.DecodeState.{DecodeState}
-use Rattle.lsp_frame.specs.declared.state.DecodeState.TheVariants.{Frame, Search, Body, Skip}
+use Rattle.lsp_frame.specs.declared.decode_state.DecodeState.{DecodeState}
+use Rattle.lsp_frame.specs.declared.decode_state.DecodeState.TheVariants.{Frame, Search, Body, Skip}
 
 abbrev Is : Option ℕ → ℕ → Type 0
 Is o q = o ≡ Some q

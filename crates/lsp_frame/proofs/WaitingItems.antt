@@ -8,8 +8,8 @@ use Rattle.lsp_frame.specs.Kept.{unneeded, waiting}
 use Rattle.lsp_frame.proofs.TransitionSteady.{front_decided, found_fits}
 use Rattle.lsp_frame.proofs.ItemsByTransition.{all_from-transition, none_at_stop}
 use Rattle.lsp_frame.specs.declared.limits.Limits.{Limits}
-use Rattle.lsp_frame.specs.declared.state.DecodeState.{DecodeState}
-use Rattle.lsp_frame.specs.declared.state.DecodeState.TheVariants.{Frame, Search, Body, Skip}
+use Rattle.lsp_frame.specs.declared.decode_state.DecodeState.{DecodeState}
+use Rattle.lsp_frame.specs.declared.decode_state.DecodeState.TheVariants.{Frame, Search, Body, Skip}
 
 abbrev IsNowhere : Option ℕ → Type 0
 IsNowhere o = o ≡ None

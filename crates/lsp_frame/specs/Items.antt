@@ -1,10 +1,10 @@
 -- The items that decoding tells of a stream of bytes.
-use Rattle.std.specs.Prelude.{◌≡◌, ℕ, zero, suc, ◌+◌, ◌*◌, ◌^◌, ◌<◌, ◌≤◌, max, List, [], ◌∷◌, ◌++◌, length, drop, Option, Some, None, ⊤}
+use Rattle.std.specs.Prelude.{◌≡◌, ℕ, zero, suc, ◌+◌, ◌*◌, ◌≤◌, max, List, [], ◌∷◌, ◌++◌, length, drop, Option, Some, None, ⊤}
 use Rattle.lsp_frame.specs.Transitions.{Item, message, fault, Transition, stop, unfinished, go, transition}
 use Rattle.lsp_frame.specs.declared.limits.Limits.{Limits}
 use Rattle.lsp_frame.specs.declared.parse_error.ParseError.TheVariants.{Headers, MissingContentLength, InvalidContentType, InvalidContentLength, Utf8, Body, Rest, HeadTooLong, BodyTooLong}
-use Rattle.lsp_frame.specs.declared.state.DecodeState.{DecodeState}
-use Rattle.lsp_frame.specs.declared.state.DecodeState.TheVariants as states
+use Rattle.lsp_frame.specs.declared.decode_state.DecodeState.{DecodeState}
+use Rattle.lsp_frame.specs.declared.decode_state.DecodeState.TheVariants as states
 
 -- a codec: its limits, its state, and the bytes held from its place on
 pub record At : Type 0 where

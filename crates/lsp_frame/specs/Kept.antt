@@ -1,8 +1,8 @@
 -- What a codec keeps from one call to the next: how far it has looked, and what it may need.
 use Rattle.std.specs.Prelude.{◌≡◌, ◌≢◌, ℕ, zero, suc, ◌-◌, ◌<◌, ◌≤◌, ◌==◌, List, length, get_or, Bool, false, ⊤}
 use Rattle.lsp_frame.specs.declared.limits.Limits.{Limits}
-use Rattle.lsp_frame.specs.declared.state.DecodeState.{DecodeState}
-use Rattle.lsp_frame.specs.declared.state.DecodeState.TheVariants.{Frame, Search, Body, Skip}
+use Rattle.lsp_frame.specs.declared.decode_state.DecodeState.{DecodeState}
+use Rattle.lsp_frame.specs.declared.decode_state.DecodeState.TheVariants.{Frame, Search, Body, Skip}
 
 -- whether an LF stands right before this place
 abbrev pub is_after_lf : List ℕ → ℕ → Bool

@@ -9,8 +9,8 @@ use Rattle.lsp_frame.specs.Transitions.{Item, message, go, transition, body_item
 use Rattle.lsp_frame.specs.Items.{At, start, all_from, items_after, items_at, told_at, items, told, without_last_rest}
 use Rattle.lsp_frame.specs.Calls.{Call, Leads, bytes_fed, items_given, messages_encoded}
 use Rattle.lsp_frame.specs.declared.limits.Limits.{Limits}
-use Rattle.lsp_frame.specs.declared.state.DecodeState.{DecodeState}
-use Rattle.lsp_frame.specs.declared.state.DecodeState.TheVariants.{Frame, Search, Body, Skip}
+use Rattle.lsp_frame.specs.declared.decode_state.DecodeState.{DecodeState}
+use Rattle.lsp_frame.specs.declared.decode_state.DecodeState.TheVariants.{Frame, Search, Body, Skip}
 
 -- a block has headers where it is a good block, and they are those of the grammar of `httparse`
 abbrev pub GoodBlocks : Type 0

@@ -11,8 +11,8 @@ use Rattle.lsp_frame.specs.declared.limits.Limits.{Limits}
 use Rattle.lsp_frame.specs.declared.parse_error.ParseError.{ParseError}
 use Rattle.lsp_frame.specs.declared.parse_error.ParseError.TheVariants as errors
 use Rattle.lsp_frame.specs.declared.parse_error.BodyFault.TheVariants.{Json, Message}
-use Rattle.lsp_frame.specs.declared.state.DecodeState.{DecodeState}
-use Rattle.lsp_frame.specs.declared.state.DecodeState.TheVariants.{Frame, Search, Body, Skip}
+use Rattle.lsp_frame.specs.declared.decode_state.DecodeState.{DecodeState}
+use Rattle.lsp_frame.specs.declared.decode_state.DecodeState.TheVariants.{Frame, Search, Body, Skip}
 
 -- what decoding tells: a message, or why a stretch of the input gives none
 pub data Item : Type 0 where

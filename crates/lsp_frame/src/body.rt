@@ -10,8 +10,8 @@ use no_memory::NoMemory;
 use serde_json::Value;
 use std::alloc::Global;
 
-// The message of a body, or why there is none. A call of its own: the reader's buffer is large, and is
-// paid for at each entry to the function that it stands in.
+// The message of a body, or why there is none. A call of its own: the reader's buffer is large, and
+// is paid for at each entry to the function that it stands in.
 #[inline(never)]
 pub(crate) fn body_message(
     alloc: Global,

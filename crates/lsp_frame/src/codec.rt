@@ -9,11 +9,11 @@ ghost use Rattle.lsp_frame.specs.Items.{start, more, items, items_at, told_at, w
 ghost use Rattle.lsp_frame.specs.Frames.{frame_text, IsWithin, IsReadBack};
 ghost use Rattle.lsp_frame.specs.Shown.{shown, show_found, IsFloatFree, IsFoundFloatFree};
 
+use crate::decode_state::DecodeState;
 use crate::encode::push_frame;
 use crate::limits::Limits;
 use crate::next_item::find_next;
 use crate::parse_error::ParseError;
-use crate::state::DecodeState;
 use bytes::BytesMut;
 use lsp_rpc::Message;
 use no_memory::NoMemory;

@@ -7,6 +7,7 @@
 mod block;
 mod body;
 mod codec;
+mod decode_state;
 mod encode;
 mod head;
 mod headers;
@@ -14,7 +15,6 @@ mod law;
 mod limits;
 mod next_item;
 mod parse_error;
-mod state;
 mod transition;
 
 pub use codec::{Decoded, LanguageServerCodec};

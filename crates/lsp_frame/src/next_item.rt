@@ -5,9 +5,9 @@ ghost use Rattle.lsp_frame.specs.Items.{all_from, with_item, Stands, IsTrimmed};
 ghost use Rattle.lsp_frame.specs.Kept.{IsLooked, IsAllowed, IsBodyHere, unneeded, waiting as waiting_state};
 ghost use Rattle.lsp_frame.specs.Shown.{show_found, show_transition, IsWithinBytes, IsItemFloatFree, IsFoundFloatFree};
 
+use crate::decode_state::DecodeState;
 use crate::limits::Limits;
 use crate::parse_error::ParseError;
-use crate::state::DecodeState;
 use crate::transition::{Transition, transition_at};
 use lsp_rpc::Message;
 use no_memory::NoMemory;

@@ -7,11 +7,11 @@ ghost use Rattle.lsp_frame.specs.Shown.{show_transition, IsWithinBytes, IsItemFl
 
 use crate::block::block_len;
 use crate::body::body_message;
+use crate::decode_state::DecodeState;
 use crate::head::head_of;
 use crate::headers::content_length;
 use crate::limits::Limits;
 use crate::parse_error::ParseError;
-use crate::state::DecodeState;
 use lsp_rpc::Message;
 use memchr::memmem;
 use no_memory::NoMemory;

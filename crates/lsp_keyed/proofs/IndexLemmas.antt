@@ -114,7 +114,7 @@ module _ {K V : Type 0} where
       or_true true h = refl
       or_true false h = h
 
-  -- ---- an entry behind the others
+  -- ---- an entry after the others
 
   pub inserted_last : (n : ℕ) (x : K × V) (es : List (ℕ × (K × V))) → IsAbove n es → insert_entry nat_cmp es n x ≡ es ++ (n, x) ∷ []
   inserted_last n x [] below = refl
@@ -294,7 +294,7 @@ module _ {K V : Type 0} where
         go left q false h =
             was.found q ∙ sym (left.1 (eq q) (λ k passes. laws.symm q k ∙ sym (laws.congr key k q passes) ∙ h))
 
--- ---- the number behind the last
+-- ---- the number after the last
 
 pub next_above : (n : ℕ) (o : Option ℕ) (P : ℕ → Type 0) → SomeIff o (n + 1 < 2 ^ 64) (n + 1) → P (n + 1) → IfSome o P
 next_above n None P tells p = tt

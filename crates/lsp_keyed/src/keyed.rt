@@ -109,7 +109,7 @@ impl<K: Eq + Hash + Drop, V: Drop> Keyed<K, V> {
         }
     }
 
-    /// Puts an entry behind the others. `same` is equal to its key.
+    /// Puts an entry after the others. `same` is equal to its key.
     pub fn push(&mut self, number: u64, key: K, same: K, value: V) -> Result<(), NoMemory>
         requires above { IsAbove number self.old }
         requires same { K.eq same key ≡ true }
@@ -136,7 +136,7 @@ impl<K: Eq + Hash + Drop, V: Drop> Keyed<K, V> {
         take_entry(&mut self.entries, &mut self.numbers, key)
     }
 
-    /// Takes all entries out, and puts their keys behind those of the list, which has room for them.
+    /// Takes all entries out, and puts their keys after those of the list, which has room for them.
     /// It takes no memory.
     pub fn clear_into(&mut self, keys: &mut Vec<K>)
         requires room { vec_len keys.old + length self.old ≤ vec_capacity keys.old }
@@ -151,7 +151,7 @@ impl<K: Eq + Hash + Drop, V: Drop> Keyed<K, V> {
 
 type Entries<K, V> = BTreeMap<u64, (K, V)>;
 
-// Puts an entry behind the others, unless there is no memory to find it by its key.
+// Puts an entry after the others, unless there is no memory to find it by its key.
 fn push_entry<K: Eq + Hash + Drop, V: Drop>(
     alloc: Global,
     entries: &mut Entries<K, V>,
@@ -178,7 +178,7 @@ fn push_entry<K: Eq + Hash + Drop, V: Drop>(
     Err(NoMemory)
 }
 
-// Lists the number behind the others of the key.
+// Lists the number after the others of the key.
 fn note<K: Eq + Hash + Drop>(
     alloc: Global,
     numbers: &mut HashMap<K, Numbers>,
@@ -245,7 +245,7 @@ fn take_oldest<K: Eq + Hash + Drop>(numbers: &mut HashMap<K, Numbers>, key: &K) 
     Some(oldest)
 }
 
-// Puts the keys behind those of the list.
+// Puts the keys after those of the list.
 fn move_keys<K: Eq + Hash + Drop, V: Drop>(mut entries: Entries<K, V>, keys: &mut Vec<K>)
     requires { vec_len keys.old + length entries.entries ≤ vec_capacity keys.old }
     ensures { keys.new.items ≡ keys.old.items ++ map (λ e. e.1.0) entries.entries }

@@ -1,8 +1,8 @@
 -- Rows: code lenses.
 use Rattle.lsp_shape.specs.Row.{Row, any, fields, flat, omitted, required, ◌&◌}
-use Rattle.lsp_base.specs.Basic.{range_row}
 use Rattle.lsp_base.specs.Command.{command_row}
 use Rattle.lsp_base.specs.Document.{text_document_identifier_row}
+use Rattle.lsp_base.specs.Position.{range_row}
 use Rattle.lsp_base.specs.Progress.{partial_result_params_row, work_done_progress_params_row}
 use Rattle.lsp_lang_goto.specs.declared.code_lens.CodeLens.{CodeLens}
 use Rattle.lsp_lang_goto.specs.declared.code_lens.CodeLensParams.{CodeLensParams}

@@ -1,8 +1,8 @@
 -- Rows: declarations, definitions, types and implementations.
 use Rattle.lsp_shape.specs.Plain.{Plain, choice}
 use Rattle.lsp_shape.specs.Row.{Row, fields, flat, list, union, variant, ◌&◌, ◌or◌}
-use Rattle.lsp_base.specs.Basic.{location_link_row, location_row}
 use Rattle.lsp_base.specs.Document.{text_document_position_params_row}
+use Rattle.lsp_base.specs.Position.{location_link_row, location_row}
 use Rattle.lsp_base.specs.Progress.{partial_result_params_row, work_done_progress_params_row}
 use Rattle.lsp_lang_goto.specs.declared.goto.GotoDefinitionParams.{GotoDefinitionParams}
 use Rattle.lsp_lang_goto.specs.declared.goto.GotoDefinitionResponse.{GotoDefinitionResponse}

@@ -2,8 +2,8 @@
 use Rattle.lsp_shape.specs.Plain.{Plain, choice}
 use Rattle.lsp_shape.specs.Row.{Row, fields, flat, list, omitted, required, union, variant, ◌&◌, ◌or◌}
 use Rattle.lsp_names.specs.Markup.{marked_string_row, markup_content_row}
-use Rattle.lsp_base.specs.Basic.{range_row}
 use Rattle.lsp_base.specs.Document.{text_document_position_params_row}
+use Rattle.lsp_base.specs.Position.{range_row}
 use Rattle.lsp_base.specs.Progress.{work_done_progress_params_row}
 use Rattle.lsp_lang_goto.specs.declared.hover.Hover.{Hover}
 use Rattle.lsp_lang_goto.specs.declared.hover.HoverContents.{HoverContents}

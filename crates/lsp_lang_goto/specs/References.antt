@@ -1,7 +1,7 @@
 -- Rows: references and highlights.
 use Rattle.lsp_shape.specs.Row.{Row, fields, flat, i32, omitted, required, truth, ◌&◌}
-use Rattle.lsp_base.specs.Basic.{range_row}
 use Rattle.lsp_base.specs.Document.{text_document_position_params_row}
+use Rattle.lsp_base.specs.Position.{range_row}
 use Rattle.lsp_base.specs.Progress.{partial_result_params_row, work_done_progress_params_row}
 use Rattle.lsp_lang_goto.specs.declared.references.DocumentHighlight.{DocumentHighlight}
 use Rattle.lsp_lang_goto.specs.declared.references.DocumentHighlightParams.{DocumentHighlightParams}

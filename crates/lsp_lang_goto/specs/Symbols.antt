@@ -2,9 +2,9 @@
 use Rattle.lsp_shape.specs.Plain.{Plain, choice}
 use Rattle.lsp_shape.specs.Row.{Row, any, fields, flat, i32, list, omitted, required, string, truth, union, variant, ◌&◌, ◌or◌}
 use Rattle.lsp_uri.specs.Uri.{uri_row}
-use Rattle.lsp_base.specs.Basic.{location_row}
 use Rattle.lsp_base.specs.Document.{text_document_identifier_row}
 use Rattle.lsp_base.specs.Edit.{one_of_row}
+use Rattle.lsp_base.specs.Position.{location_row}
 use Rattle.lsp_base.specs.Progress.{partial_result_params_row, work_done_progress_params_row}
 use Rattle.lsp_lang_goto.specs.Tree.{document_symbol_row}
 use Rattle.lsp_lang_goto.specs.declared.symbols.DocumentSymbolParams.{DocumentSymbolParams}

@@ -5,7 +5,7 @@ use Rattle.lsp_shape.specs.Plain.{Plain, parts, parts_of}
 use Rattle.lsp_shape.specs.Shape.{Shape, recursive, field, again, many, no_fields, string_shape, i32_shape}
 use Rattle.lsp_shape.specs.Shape as shape
 use Rattle.lsp_shape.specs.Row.{Row, row_of, fields, i32, list, omitted, required, string, truth, ◌&◌}
-use Rattle.lsp_base.specs.Basic.{range_row}
+use Rattle.lsp_base.specs.Position.{range_row}
 use Rattle.lsp_lang_goto.specs.declared.tree.DocumentSymbol.{DocumentSymbol, fold-DocumentSymbol}
 use Rattle.lsp_lang_goto.specs.declared.tree.DocumentSymbol.TheOpen.{DocumentSymbol-F}
 

@@ -1,8 +1,8 @@
 -- Rows: hierarchies of types.
 use Rattle.lsp_shape.specs.Row.{Row, any, fields, flat, i32, list, omitted, required, string, ◌&◌}
 use Rattle.lsp_uri.specs.Uri.{uri_row}
-use Rattle.lsp_base.specs.Basic.{range_row}
 use Rattle.lsp_base.specs.Document.{text_document_position_params_row}
+use Rattle.lsp_base.specs.Position.{range_row}
 use Rattle.lsp_base.specs.Progress.{partial_result_params_row, work_done_progress_params_row}
 use Rattle.lsp_lang_goto.specs.declared.types.TypeHierarchyItem.{TypeHierarchyItem}
 use Rattle.lsp_lang_goto.specs.declared.types.TypeHierarchyPrepareParams.{TypeHierarchyPrepareParams}

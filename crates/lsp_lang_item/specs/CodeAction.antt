@@ -2,10 +2,10 @@
 use Rattle.lsp_shape.specs.Plain.{Plain, choice}
 use Rattle.lsp_shape.specs.Row.{Row, any, fields, flat, i32, list, omitted, required, string, truth, union, variant, ◌&◌, ◌or◌}
 use Rattle.lsp_names.specs.KindText.{text_kind_row}
-use Rattle.lsp_base.specs.Basic.{range_row}
 use Rattle.lsp_base.specs.Command.{command_row}
 use Rattle.lsp_base.specs.Diagnostic.{diagnostic_row}
 use Rattle.lsp_base.specs.Document.{text_document_identifier_row}
+use Rattle.lsp_base.specs.Position.{range_row}
 use Rattle.lsp_base.specs.Progress.{partial_result_params_row, work_done_progress_params_row}
 use Rattle.lsp_base.specs.WorkspaceEdit.{workspace_edit_row}
 use Rattle.lsp_lang_item.specs.declared.code_action.CodeAction.{CodeAction}

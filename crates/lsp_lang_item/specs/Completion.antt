@@ -2,10 +2,10 @@
 use Rattle.lsp_shape.specs.Plain.{Plain, choice}
 use Rattle.lsp_shape.specs.Row.{Fields, Row, any, fields, flat, i32, list, omitted, required, string, truth, union, variant, ◌&◌, ◌or◌}
 use Rattle.lsp_names.specs.Markup.{documentation_row}
-use Rattle.lsp_base.specs.Basic.{range_row}
 use Rattle.lsp_base.specs.Command.{command_row}
 use Rattle.lsp_base.specs.Document.{text_document_position_params_row}
 use Rattle.lsp_base.specs.Edit.{text_edit_row}
+use Rattle.lsp_base.specs.Position.{range_row}
 use Rattle.lsp_base.specs.Progress.{partial_result_params_row, work_done_progress_params_row}
 use Rattle.lsp_lang_item.specs.declared.completion.CompletionContext.{CompletionContext}
 use Rattle.lsp_lang_item.specs.declared.completion.CompletionItem.{CompletionItem}

@@ -2,10 +2,10 @@
 use Rattle.lsp_shape.specs.Plain.{Plain, choice}
 use Rattle.lsp_shape.specs.Row.{Row, any, fields, flat, i32, list, omitted, required, string, truth, union, variant, ◌&◌, ◌or◌}
 use Rattle.lsp_names.specs.Markup.{markup_content_row}
-use Rattle.lsp_base.specs.Basic.{location_row, position_row, range_row}
 use Rattle.lsp_base.specs.Command.{command_row}
 use Rattle.lsp_base.specs.Document.{text_document_identifier_row}
 use Rattle.lsp_base.specs.Edit.{text_edit_row}
+use Rattle.lsp_base.specs.Position.{location_row, position_row, range_row}
 use Rattle.lsp_base.specs.Progress.{work_done_progress_params_row}
 use Rattle.lsp_lang_item.specs.declared.inlay_hint.InlayHint.{InlayHint}
 use Rattle.lsp_lang_item.specs.declared.inlay_hint.InlayHintLabel.{InlayHintLabel}

@@ -1,8 +1,8 @@
 -- Rows: inline values.
 use Rattle.lsp_shape.specs.Plain.{Plain, choice}
 use Rattle.lsp_shape.specs.Row.{Row, fields, flat, i32, omitted, required, string, truth, union, variant, ◌&◌, ◌or◌}
-use Rattle.lsp_base.specs.Basic.{range_row}
 use Rattle.lsp_base.specs.Document.{text_document_identifier_row}
+use Rattle.lsp_base.specs.Position.{range_row}
 use Rattle.lsp_base.specs.Progress.{work_done_progress_params_row}
 use Rattle.lsp_lang_item.specs.declared.inline_value.InlineValue.{InlineValue}
 use Rattle.lsp_lang_item.specs.declared.inline_value.InlineValue.TheVariants as inline_value

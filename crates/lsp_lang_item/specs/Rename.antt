@@ -1,8 +1,8 @@
 -- Rows: renaming.
 use Rattle.lsp_shape.specs.Plain.{Plain, choice}
 use Rattle.lsp_shape.specs.Row.{Row, fields, flat, required, string, truth, union, variant, ◌&◌, ◌or◌}
-use Rattle.lsp_base.specs.Basic.{range_row}
 use Rattle.lsp_base.specs.Document.{text_document_position_params_row}
+use Rattle.lsp_base.specs.Position.{range_row}
 use Rattle.lsp_base.specs.Progress.{work_done_progress_params_row}
 use Rattle.lsp_lang_item.specs.declared.rename.PrepareRenameResponse.{PrepareRenameResponse}
 use Rattle.lsp_lang_item.specs.declared.rename.PrepareRenameResponse.TheVariants as prepare_rename_response

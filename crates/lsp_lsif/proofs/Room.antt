@@ -3,7 +3,7 @@ use Rattle.std.proofs.Common.{◌≡◌, true, refl}
 use Rattle.std.specs.Prelude.{codes}
 use Rattle.lsp_shape.specs.Shape.{Shape, required, field, flat, no_fields, are_distinct}
 use Rattle.lsp_shape.specs.Values.{leaves_room}
-use Rattle.lsp_base.specs.Basic.{range_row}
+use Rattle.lsp_base.specs.Position.{range_row}
 use Rattle.lsp_tokens.specs.Moniker.{moniker_row}
 use Rattle.lsp_lsif.specs.Edge.{edge_row, edge_data_row, edge_data_multi_in_row, item_row}
 use Rattle.lsp_lsif.specs.Entry.{element_row}

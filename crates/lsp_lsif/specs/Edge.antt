@@ -2,7 +2,7 @@
 use Rattle.std.specs.Prelude.{List, [], codes, ℕ, ◌∷◌}
 use Rattle.lsp_shape.specs.Plain.{Plain, choice}
 use Rattle.lsp_shape.specs.Row.{Row, fields, flat, list, names, omitted, required, tag, tagged, union, variant, ◌&◌, ◌or◌}
-use Rattle.lsp_base.specs.Basic.{location_row, number_or_string_row}
+use Rattle.lsp_base.specs.Position.{location_row, number_or_string_row}
 use Rattle.lsp_lsif.specs.declared.edge.DefinitionResultType.{DefinitionResultType}
 use Rattle.lsp_lsif.specs.declared.edge.DefinitionResultType.TheVariants as definition_result_type
 use Rattle.lsp_lsif.specs.declared.edge.Edge.{Edge}

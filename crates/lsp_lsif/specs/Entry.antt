@@ -1,7 +1,7 @@
 -- Rows: an entry of a dump.
 use Rattle.lsp_shape.specs.Plain.{Plain, choice}
 use Rattle.lsp_shape.specs.Row.{Row, fields, flat, required, tag, tagged, ◌&◌, ◌or◌}
-use Rattle.lsp_base.specs.Basic.{number_or_string_row}
+use Rattle.lsp_base.specs.Position.{number_or_string_row}
 use Rattle.lsp_lsif.specs.Edge.{edge_row}
 use Rattle.lsp_lsif.specs.Vertex.{vertex_row}
 use Rattle.lsp_lsif.specs.declared.entry.Element.{Element}

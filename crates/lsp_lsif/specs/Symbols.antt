@@ -4,7 +4,7 @@ use Rattle.lsp_shape.specs.Plain.{Plain, part, parts, parts_of}
 use Rattle.lsp_shape.specs.Shape.{Shape, recursive, field, again, many, no_fields}
 use Rattle.lsp_shape.specs.Shape as shape
 use Rattle.lsp_shape.specs.Row.{Row, Fields, fields, required, ◌&◌}
-use Rattle.lsp_base.specs.Basic.{number_or_string_row}
+use Rattle.lsp_base.specs.Position.{number_or_string_row}
 use Rattle.lsp_lsif.specs.declared.symbols.RangeBasedDocumentSymbol.{RangeBasedDocumentSymbol, fold-RangeBasedDocumentSymbol}
 use Rattle.lsp_lsif.specs.declared.symbols.RangeBasedDocumentSymbol.TheOpen.{RangeBasedDocumentSymbol-F}
 

@@ -1,7 +1,7 @@
 -- Rows: what a range stands for.
 use Rattle.lsp_shape.specs.Plain.{Plain, choice}
 use Rattle.lsp_shape.specs.Row.{Row, fields, i32, omitted, or_false, required, string, tag, tagged, unless_false, ◌&◌, ◌or◌}
-use Rattle.lsp_base.specs.Basic.{range_row}
+use Rattle.lsp_base.specs.Position.{range_row}
 use Rattle.lsp_lsif.specs.declared.tags.DeclarationTag.{DeclarationTag}
 use Rattle.lsp_lsif.specs.declared.tags.DefinitionTag.{DefinitionTag}
 use Rattle.lsp_lsif.specs.declared.tags.RangeTag.{RangeTag}

@@ -4,10 +4,10 @@ use Rattle.std.specs.declared.alloc.Global.{Global}
 use Rattle.lsp_shape.specs.Plain.{Plain, choice}
 use Rattle.lsp_shape.specs.Row.{Row, fields, flat, list, names, nothing, omitted, required, string, tag, tagged, union, unless_empty, variant, ◌&◌, ◌or◌}
 use Rattle.lsp_uri.specs.Uri.{uri_row}
-use Rattle.lsp_base.specs.Basic.{number_or_string_row, range_row}
 use Rattle.lsp_base.specs.Diagnostic.{diagnostic_row}
-use Rattle.lsp_base.specs.declared.basic.Range.{Range}
+use Rattle.lsp_base.specs.Position.{number_or_string_row, range_row}
 use Rattle.lsp_base.specs.declared.diagnostic.Diagnostic.{Diagnostic}
+use Rattle.lsp_base.specs.declared.position.Range.{Range}
 use Rattle.lsp_lang_goto.specs.Hover.{hover_row}
 use Rattle.lsp_lang_goto.specs.Link.{document_link_row}
 use Rattle.lsp_lang_goto.specs.Tree.{document_symbol_row}

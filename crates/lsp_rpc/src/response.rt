@@ -125,7 +125,8 @@ impl Response {
     /// The response that the text is. The text is one JSON value with no float in it.
     pub fn from_text(alloc: Global, text: &str) -> Result<Response, TextFault>
         ensures found { IfOk result
-            (λ r. option_and_then clean_response (read text.now) ≡ Some (response (show_response r))) }
+            (λ r. option_and_then clean_response (read text.now)
+            ≡ Some (response (show_response r))) }
         ensures json { IsErrOf result TextFault.Json → read text.now ≡ None }
         ensures no_json { read text.now ≡ None
             → IsErrOf result TextFault.Json ⊎ IsErrOf result TextFault.NoMemory }

@@ -99,7 +99,7 @@ abbrev pub read_record : (Data → Option Parts) → Data → Option Plain
 read_record f (object ms) = option_map parts (f (object ms))
 read_record f _ = None
 
--- the parts, behind a map of the members that are not named
+-- the parts, after a map of the members that are not named
 abbrev pub and_rest : Option Parts → Option Parts → Option Parts
 and_rest None ps = None
 and_rest (Some es) None = None

@@ -1,16 +1,16 @@
 //! What JSON values a type is read from, and what is written for it.
 #![tactic(auto)]
 
-mod among;
-mod basic;
+mod flatten;
 mod law;
 mod map;
 mod member;
 mod object;
+mod std_types;
 mod tokens;
 mod wire;
 
-pub use among::{attempt, members_written, put_flat, put_tag, tag};
+pub use flatten::{attempt, members_written, put_flat, put_tag, tag};
 pub use law::{read_value, reads_back, trimmed, write_value};
 pub use map::{Key, rest};
 pub use member::{

@@ -13,7 +13,7 @@ ghost use Rattle.lsp_shape.specs.Values.{is_of, is_maybe};
 
 use crate::map::{self, Key};
 use crate::wire::{Misfit, Wire};
-use crate::{among, member};
+use crate::{flatten, member};
 use no_memory::NoMemory;
 use serde_json::{Map, Value};
 use std::alloc::Global;
@@ -138,7 +138,7 @@ impl Writer {
     {
         Ok(Writer {
             alloc,
-            object: among::members_written(alloc, value)?,
+            object: flatten::members_written(alloc, value)?,
         })
     }
 
@@ -210,7 +210,7 @@ impl Writer {
             ≡ put_all (members_in (write T.shape (T.shown value.now))) (written_to self.old)) }
         ensures of_shape { OnOk result (is_of T.shape (T.shown value.now) ≡ true) }
     {
-        among::put_flat(self.alloc, &mut self.object, value)
+        flatten::put_flat(self.alloc, &mut self.object, value)
     }
 
     /// Makes the member of that name the text, which tells a variant.

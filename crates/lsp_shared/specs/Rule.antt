@@ -36,7 +36,7 @@ entry_of x = record { call = call_of x.asked; reply = reply_of x.replied }
 abbrev pub run : DeskState → List Item → DeskState
 run d xs = after_all d (map entry_of xs)
 
--- from a state on each reply is the table's at its place, or memory was wanting
+-- from a state on each reply is the table's at its place, or the call was out of memory
 abbrev pub IsLegal : DeskState → List Item → Type 0
 IsLegal d [] = Unit {0}
 IsLegal d (x ∷ xs) = FitsEntry d (entry_of x) × IsLegal (after d (entry_of x)) xs

@@ -1,7 +1,7 @@
 //! Tries messages, frames, keyed lists and desks: the crates below a session.
 //!
-//! Only what no clause says: that memory isn't wanting where it is ample, texts of `Debug` and of errors, and rows that show
-//! that the definitions say what is meant.
+//! Only what no clause says: that no call is out of memory where it is ample, texts of `Debug` and
+//! of errors, and rows that show that the definitions say what is meant.
 #![tactic(auto)]
 
 #[cfg(test)]

@@ -1,7 +1,7 @@
 //! Tries rows, URIs and kinds: what the types of the protocol stand on.
 //!
-//! Only what no clause says: that memory isn't wanting where it is ample, the number of each constant, and rows that show that
-//! the definitions say what is meant.
+//! Only what no clause says: that no call is out of memory where it is ample, the number of each
+//! constant, and rows that show that the definitions say what is meant.
 #![tactic(auto)]
 
 #[cfg(test)]

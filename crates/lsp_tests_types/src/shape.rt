@@ -108,7 +108,8 @@ fn maps_from_texts(rt: HostRuntime) -> Result<(), Fail> {
     Ok(())
 }
 
-// The example of section "Formatting options" has further properties, each a truth, a number or a text.
+// The example of section "Formatting options" has further properties, each a boolean, a number or a
+// text.
 #[test]
 fn members_that_are_not_named(rt: HostRuntime) -> Result<(), Fail> {
     let alloc = rt.alloc();
@@ -156,7 +157,7 @@ fn fields_of_an_object(rt: HostRuntime) -> Result<(), Fail> {
     Ok(())
 }
 
-// `tagSupport` was a truth before it was a record.
+// `tagSupport` was a boolean before it was a record.
 #[test]
 fn tag_support_of_old_editors(rt: HostRuntime) -> Result<(), Fail> {
     let alloc = rt.alloc();
@@ -257,7 +258,7 @@ fn an_object_is_written(rt: HostRuntime) -> Result<(), Fail> {
     Ok(())
 }
 
-// A truth, or else null: the first that fits.
+// A boolean, or else null: the first that fits.
 #[test]
 fn first_variant_that_fits(rt: HostRuntime) -> Result<(), Fail> {
     let alloc = rt.alloc();

@@ -1,8 +1,8 @@
 -- Rows: formatting.
 use Rattle.lsp_shape.specs.Plain.{Plain, choice}
 use Rattle.lsp_shape.specs.Row.{Row, fields, fields_and, flat, i32, omitted, required, string, truth, u32, union, variant, ◌&◌, ◌or◌}
-use Rattle.lsp_base.specs.Basic.{range_row}
 use Rattle.lsp_base.specs.Document.{text_document_identifier_row, text_document_position_params_row}
+use Rattle.lsp_base.specs.Position.{range_row}
 use Rattle.lsp_base.specs.Progress.{work_done_progress_params_row}
 use Rattle.lsp_tokens.specs.declared.formatting.DocumentFormattingParams.{DocumentFormattingParams}
 use Rattle.lsp_tokens.specs.declared.formatting.DocumentOnTypeFormattingParams.{DocumentOnTypeFormattingParams}

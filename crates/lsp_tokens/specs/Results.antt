@@ -1,8 +1,8 @@
 -- Rows: what is asked of semantic tokens, and the results.
 use Rattle.lsp_shape.specs.Plain.{Plain, choice}
 use Rattle.lsp_shape.specs.Row.{Row, fields, flat, list, omitted, required, string, union, variant, ◌&◌, ◌or◌}
-use Rattle.lsp_base.specs.Basic.{range_row}
 use Rattle.lsp_base.specs.Document.{text_document_identifier_row}
+use Rattle.lsp_base.specs.Position.{range_row}
 use Rattle.lsp_base.specs.Progress.{partial_result_params_row, work_done_progress_params_row}
 use Rattle.lsp_tokens.specs.Tokens.{semantic_tokens_edit_row, semantic_tokens_partial_result_row, semantic_tokens_row}
 use Rattle.lsp_tokens.specs.declared.results.SemanticTokensDelta.{SemanticTokensDelta}

@@ -1,7 +1,7 @@
 -- Rows: ranges that can be selected, and ranges that are edited together.
 use Rattle.lsp_shape.specs.Row.{Row, fields, flat, list, omitted, required, string, ◌&◌}
-use Rattle.lsp_base.specs.Basic.{position_row, range_row}
 use Rattle.lsp_base.specs.Document.{text_document_identifier_row, text_document_position_params_row}
+use Rattle.lsp_base.specs.Position.{position_row, range_row}
 use Rattle.lsp_base.specs.Progress.{partial_result_params_row, work_done_progress_params_row}
 use Rattle.lsp_tokens.specs.declared.selection.LinkedEditingRangeParams.{LinkedEditingRangeParams}
 use Rattle.lsp_tokens.specs.declared.selection.LinkedEditingRanges.{LinkedEditingRanges}

@@ -5,7 +5,7 @@ use Rattle.lsp_shape.specs.Plain.{Plain}
 use Rattle.lsp_shape.specs.Shape.{Shape, recursive, field, again, one, no_fields}
 use Rattle.lsp_shape.specs.Shape as shape
 use Rattle.lsp_shape.specs.Row.{Row, row_of, fields, omitted, required, ◌&◌}
-use Rattle.lsp_base.specs.Basic.{range_row}
+use Rattle.lsp_base.specs.Position.{range_row}
 use Rattle.lsp_tokens.specs.declared.selection_range.SelectionRange.{SelectionRange, fold-SelectionRange}
 use Rattle.lsp_tokens.specs.declared.selection_range.SelectionRange.TheOpen.{SelectionRange-F}
 

@@ -66,7 +66,7 @@ impl Told {
         }
     }
 
-    /// Whether memory was wanting, so that the call changed nothing.
+    /// Whether the call was out of memory, and so changed nothing.
     pub fn lacked_memory(&self) -> bool {
         matches!(
             &self.reply,

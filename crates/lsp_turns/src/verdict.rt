@@ -17,7 +17,8 @@ pub struct Verdict {
     places: bool,
     /// The tickets that were given are 0, 1, 2 and so on, in the order of the places.
     tickets: bool,
-    /// Each reply is what a desk that one thread uses replies at that place, or memory was wanting.
+    /// Each reply is what a desk that one thread uses replies at that place, or the call was out of
+    /// memory.
     replies: bool,
     /// The owner has the whole share again.
     whole: bool,

@@ -1,7 +1,7 @@
 -- Rows: the progress of work.
 use Rattle.lsp_shape.specs.Plain.{Plain, choice}
 use Rattle.lsp_shape.specs.Row.{Row, fields, omitted, required, string, tag, tagged, truth, u32, union, variant, ◌&◌, ◌or◌}
-use Rattle.lsp_base.specs.Basic.{number_or_string_row}
+use Rattle.lsp_base.specs.Position.{number_or_string_row}
 use Rattle.lsp_work.specs.declared.progress.ProgressParams.{ProgressParams}
 use Rattle.lsp_work.specs.declared.progress.ProgressParamsValue.{ProgressParamsValue}
 use Rattle.lsp_work.specs.declared.progress.ProgressParamsValue.TheVariants as progress_params_value

@@ -3,7 +3,7 @@ use Rattle.lsp_shape.specs.Plain.{Plain, choice}
 use Rattle.lsp_shape.specs.Row.{Row, any, fields, fields_and, i32, list, omitted, required, string, truth, union, variant, ◌&◌, ◌or◌}
 use Rattle.lsp_uri.specs.Uri.{uri_row}
 use Rattle.lsp_names.specs.Trace.{trace_value_row}
-use Rattle.lsp_base.specs.Basic.{range_row}
+use Rattle.lsp_base.specs.Position.{range_row}
 use Rattle.lsp_work.specs.declared.window.LogMessageParams.{LogMessageParams}
 use Rattle.lsp_work.specs.declared.window.LogTraceParams.{LogTraceParams}
 use Rattle.lsp_work.specs.declared.window.MessageActionItem.{MessageActionItem}

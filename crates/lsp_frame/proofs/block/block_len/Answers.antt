@@ -1,4 +1,4 @@
-use Rattle.std.proofs.Common.{sym, ◌∙◌, arith}
+use Rattle.std.proofs.Common.{sym, arith}
 use Rattle.lsp_frame.proofs.ClearPlaces.{block_at_clear, clear_more, no_block}
 use Rattle.lsp_frame.proofs.block.block_len.Goals as goal
 

@@ -1,12 +1,7 @@
-use Rattle.std.proofs.Common.{◌≡◌, ◌∙◌, ◌+◌, ◌-◌, ◌≤◌, ℕ, List, subst, sym, ap, drop, length, option_map, arith, length-drop, Result, Ok, Err}
+use Rattle.std.proofs.Common.{◌∙◌, ◌+◌, ◌-◌, ◌≤◌, ℕ, subst, sym, ap, drop, length, option_map, arith, Result, Ok, Err}
 use Rattle.std.specs.Prelude.{OnErr}
-use Rattle.std.proofs.lemmas.Grind.{common_steps}
-use Rattle.lsp_frame.specs.Items.{all_from, Stands, IsTrimmed}
-use Rattle.lsp_frame.specs.Transitions.{transition}
 use Rattle.lsp_frame.specs.Kept.{IsLooked}
 use Rattle.lsp_frame.specs.Shown.{show_transition, show_found, IsWithinBytes}
-use Rattle.lsp_frame.specs.declared.limits.Limits.{Limits}
-use Rattle.lsp_frame.specs.declared.state.DecodeState.{DecodeState}
 use Rattle.lsp_frame.proofs.ItemsByTransition.{last_at_unfinished, after_go, after_smaller}
 use Rattle.lsp_frame.proofs.WaitingItems.{items_stopped, none_stopped, waits_stopped, waits_unfinished}
 use Rattle.lsp_frame.proofs.HeldBytes.{goes_to_allowed}

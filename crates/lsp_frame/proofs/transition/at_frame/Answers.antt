@@ -1,5 +1,4 @@
-use Rattle.std.proofs.Common.{◌≡◌, ℕ, ◌-◌, ◌≤◌, List, length, take, false, true, ◌==◌, nat_lt, Some, None, sym, subst, ap, ◌∙◌, refl, arith, cond}
-use Rattle.std.proofs.lemmas.Grind.{common_steps}
+use Rattle.std.proofs.Common.{◌-◌, ◌≤◌, length, take, sym, subst, ap, ◌∙◌, refl}
 use Rattle.lsp_frame.specs.Kept.{IsLooked, IsClear}
 use Rattle.lsp_frame.proofs.ClearPlaces.{looked_block, looked_all}
 use Rattle.lsp_frame.proofs.transition.at_frame.Goals as goal

@@ -1,5 +1,5 @@
 use Rattle.std.proofs.Common.{refl}
-use Rattle.lsp_base.specs.Basic.{number_or_string_row}
+use Rattle.lsp_base.specs.Position.{number_or_string_row}
 use Rattle.lsp_lsif.specs.Entry.{entry_row}
 use Rattle.lsp_lsif.proofs.Room.{id-beside-element}
 use Rattle.lsp_lsif.proofs.entry.EntryWire.to_value.Goals as goal

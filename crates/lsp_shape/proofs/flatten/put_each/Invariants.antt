@@ -1,7 +1,7 @@
 use Rattle.std.proofs.Common.{◌≡◌}
 use Rattle.serde_json.specs.View.{members_view}
 use Rattle.lsp_shape.specs.Write.{put_all}
-use Rattle.lsp_shape.proofs.among.put_each.Given as goal
+use Rattle.lsp_shape.proofs.flatten.put_each.Given as goal
 
 -- what is left is still to be put
 abbrev pub invariant-loop-name : goal.invariant-loop-name

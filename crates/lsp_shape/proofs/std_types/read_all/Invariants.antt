@@ -2,7 +2,7 @@ use Rattle.std.proofs.Common.{◌≡◌, drop, map}
 use Rattle.serde_json.specs.View.{items_view}
 use Rattle.lsp_shape.specs.Read.{read, read_items}
 use Rattle.lsp_shape.proofs.Items.{after}
-use Rattle.lsp_shape.proofs.basic.read_all.Given as goal
+use Rattle.lsp_shape.proofs.std_types.read_all.Given as goal
 
 -- what was read comes before what is left
 abbrev pub invariant-loop-item : goal.invariant-loop-item

@@ -2,7 +2,7 @@ use Rattle.std.proofs.Common.{ap, sym, ◌∙◌}
 use Rattle.serde_json.specs.View.{members_view}
 use Rattle.serde_json.proofs.Views.{members_view-insert_entry}
 use Rattle.lsp_shape.specs.Write.{put_all}
-use Rattle.lsp_shape.proofs.among.put_each.Goals as goal
+use Rattle.lsp_shape.proofs.flatten.put_each.Goals as goal
 
 pub loop-name-preserved : goal.loop-name-preserved
 loop-name-preserved c =

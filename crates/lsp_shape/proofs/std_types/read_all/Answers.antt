@@ -3,7 +3,7 @@ use Rattle.std.proofs.lemmas.Grind.{common_steps}
 use Rattle.serde_json.specs.View.{items_view, view}
 use Rattle.lsp_shape.specs.Read.{read, read_items}
 use Rattle.lsp_shape.proofs.Items.{after, one_more, none_more, after-end}
-use Rattle.lsp_shape.proofs.basic.read_all.Goals as goal
+use Rattle.lsp_shape.proofs.std_types.read_all.Goals as goal
 
 pub returns-in_err-from_value-clause-unfit : goal.returns-in_err-from_value-clause-unfit
 returns-in_err-from_value-clause-unfit g c = λ h.

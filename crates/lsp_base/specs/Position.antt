@@ -4,13 +4,13 @@ use Rattle.lsp_shape.specs.Plain.{Plain, choice}
 use Rattle.lsp_shape.specs.Row.{Row, fields, i32, omitted, required, string, u32, union, variant, ◌&◌, ◌or◌}
 use Rattle.lsp_rpc.specs.Message.{IdData, number_id, text_id}
 use Rattle.lsp_uri.specs.Uri.{uri_row}
-use Rattle.lsp_base.specs.declared.basic.CancelParams.{CancelParams}
-use Rattle.lsp_base.specs.declared.basic.Location.{Location}
-use Rattle.lsp_base.specs.declared.basic.LocationLink.{LocationLink}
-use Rattle.lsp_base.specs.declared.basic.NumberOrString.{NumberOrString}
-use Rattle.lsp_base.specs.declared.basic.NumberOrString.TheVariants as number_or_string
-use Rattle.lsp_base.specs.declared.basic.Position.{Position}
-use Rattle.lsp_base.specs.declared.basic.Range.{Range}
+use Rattle.lsp_base.specs.declared.position.CancelParams.{CancelParams}
+use Rattle.lsp_base.specs.declared.position.Location.{Location}
+use Rattle.lsp_base.specs.declared.position.LocationLink.{LocationLink}
+use Rattle.lsp_base.specs.declared.position.NumberOrString.{NumberOrString}
+use Rattle.lsp_base.specs.declared.position.NumberOrString.TheVariants as number_or_string
+use Rattle.lsp_base.specs.declared.position.Position.{Position}
+use Rattle.lsp_base.specs.declared.position.Range.{Range}
 
 abbrev pub show_number_or_string : NumberOrString → Plain
 show_number_or_string (number_or_string.Number x) = choice 0 (i32.shown x)

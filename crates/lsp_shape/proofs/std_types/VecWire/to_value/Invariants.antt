@@ -3,7 +3,7 @@ use Rattle.serde_json.specs.View.{view}
 use Rattle.lsp_shape.specs.Plain.{parts_of}
 use Rattle.lsp_shape.specs.Write.{write}
 use Rattle.lsp_shape.specs.Values.{is_of, every}
-use Rattle.lsp_shape.proofs.basic.VecWire.to_value.Given as goal
+use Rattle.lsp_shape.proofs.std_types.VecWire.to_value.Given as goal
 
 abbrev pub invariant-loop-x : goal.invariant-loop-x
 invariant-loop-x g l =

@@ -5,7 +5,7 @@ ghost use Rattle.std.specs.Cmp.Rules.{comparing};
 ghost use Rattle.std.specs.Ordering.{nat_cmp, on, then_cmp, as_partial_cmp, eq_of_both};
 ghost use Rattle.std.proofs.Common.{rules};
 ghost use Rattle.lsp_rpc.specs.Shown.{show_id};
-ghost use Rattle.lsp_base.specs.Basic.{id_of, number_or_string_row, cancel_params_row, position_row, range_row, location_row, location_link_row};
+ghost use Rattle.lsp_base.specs.Position.{id_of, number_or_string_row, cancel_params_row, position_row, range_row, location_row, location_link_row};
 
 use lsp_rpc::Id;
 use lsp_shape::{Misfit, NoMemory, Reader, Wire, Writer, attempt};
@@ -25,7 +25,7 @@ pub enum NumberOrString {
     String(String),
 }
 
-#[tactic(auto, unfolding(crate::specs::Basic::number_or_string_row))]
+#[tactic(auto, unfolding(crate::specs::Position::number_or_string_row))]
 impl Wire for NumberOrString {
     ghost shape = { number_or_string_row.shape };
 
@@ -64,7 +64,7 @@ pub struct CancelParams {
     pub id: NumberOrString,
 }
 
-#[tactic(auto, unfolding(crate::specs::Basic::cancel_params_row))]
+#[tactic(auto, unfolding(crate::specs::Position::cancel_params_row))]
 impl Wire for CancelParams {
     ghost shape = { cancel_params_row.shape };
 
@@ -155,7 +155,7 @@ impl Ord for Position {
     }
 }
 
-#[tactic(auto, unfolding(crate::specs::Basic::position_row))]
+#[tactic(auto, unfolding(crate::specs::Position::position_row))]
 impl Wire for Position {
     ghost shape = { position_row.shape };
 
@@ -195,7 +195,7 @@ impl Range {
     }
 }
 
-#[tactic(auto, unfolding(crate::specs::Basic::range_row))]
+#[tactic(auto, unfolding(crate::specs::Position::range_row))]
 impl Wire for Range {
     ghost shape = { range_row.shape };
 
@@ -235,7 +235,7 @@ impl Location {
     }
 }
 
-#[tactic(auto, unfolding(crate::specs::Basic::location_row))]
+#[tactic(auto, unfolding(crate::specs::Position::location_row))]
 impl Wire for Location {
     ghost shape = { location_row.shape };
 
@@ -270,7 +270,7 @@ pub struct LocationLink {
     pub target_selection_range: Range,
 }
 
-#[tactic(auto, unfolding(crate::specs::Basic::location_link_row))]
+#[tactic(auto, unfolding(crate::specs::Position::location_link_row))]
 impl Wire for LocationLink {
     ghost shape = { location_link_row.shape };
 

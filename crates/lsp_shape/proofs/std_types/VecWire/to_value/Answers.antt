@@ -7,7 +7,7 @@ use Rattle.serde_json.specs.View.{view, items_of}
 use Rattle.lsp_shape.specs.Plain.{parts_of}
 use Rattle.lsp_shape.specs.Write.{write}
 use Rattle.lsp_shape.specs.Values.{is_of, every}
-use Rattle.lsp_shape.proofs.basic.VecWire.to_value.Goals as goal
+use Rattle.lsp_shape.proofs.std_types.VecWire.to_value.Goals as goal
 
 pub loop-x-preserved : goal.loop-x-preserved
 loop-x-preserved g c =
