@@ -1,5 +1,5 @@
 -- What a failing call leaves of the life.
-use Rattle.std.proofs.Common.{◌≡◌, inl, inr, List, [], true, refl, sym, ◌∙◌, ap, subst}
+use Rattle.std.proofs.Common.{◌≡◌, inl, inr, List, [], true, sym, ◌∙◌, ap, subst}
 use Rattle.std.specs.Prelude.{Result, Ok, Err, IfErr, OnErr}
 use Rattle.lsp_desk.specs.declared.life.Life.{Life}
 use Rattle.lsp_desk.specs.declared.call.DeskFault.{DeskFault}
@@ -34,7 +34,7 @@ asks_of show _ (faults.Spent n) own is none = subst AreClient (sym none) tt
 pub call_fails : {D R : Type 0} (m : Meaning D) (show : R → Reply) (old new : D) (call : Call) (fault : DeskFault) → is_client call ≡ true → Calls m show old call (Err fault) new → Spends m new fault → PollFails m old new fault
 call_fails m show old new call fault is p spends = record { trace = p.trace; grows = p.grows; asks = asks_of show call fault (owns p.trace) is p.adds; spends = spends }
 
--- want of memory, and no call on the desk
+-- out of memory, and no call on the desk
 pub poll_fails_still : {D : Type 0} (m : Meaning D) (d : D) → PollFails m d d faults.NoMemory
 poll_fails_still m d = record { trace = []; grows = grows_none m d; asks = tt; spends = tt }
 

@@ -11,17 +11,17 @@ use Rattle.lsp_desk.specs.Lives.{rank, later, fallen}
 use Rattle.lsp_desk.proofs.TraceLemmas.{makes_life, life_along}
 use Rattle.lsp_session.specs.declared.table.Entry.{Entry}
 use Rattle.lsp_session.specs.declared.table.Layer.{Layer}
-use Rattle.lsp_session.specs.declared.table.Layer.TheVariants.{Initialize, Normal}
+use Rattle.lsp_session.specs.declared.table.Layer.TheVariants.{Initialize, Shutdown, Exit, Cancel, Normal}
 use Rattle.lsp_session.specs.declared.life_check.LifeCheck.{LifeCheck}
 use Rattle.lsp_session.specs.declared.life_check.LifeCheck.TheVariants.{NotInitialized}
 use Rattle.lsp_session.specs.declared.life_check.LifeChange.{LifeChange}
 use Rattle.lsp_session.specs.declared.life_check.LifeChange.TheVariants.{Stays, Rises, Falls}
 use Rattle.lsp_session.specs.Item.{ItemData, message}
 use Rattle.lsp_session.specs.Semantics.{Semantics, IsLawful, Progress, Pending, Done}
-use Rattle.lsp_session.specs.Admission.{Verdict, Silence, Refuses, Answers, Cancels, Exits, Starts, Admission, Occasion, check_life, quiet, refuse, passed, initialized, if_of_kind, started, by_layer, by_entry}
-use Rattle.lsp_session.specs.State.{State, Effect, live, is_crowded}
+use Rattle.lsp_session.specs.Admission.{Verdict, Silence, Refuses, Answers, Cancels, Exits, Starts, Admission, Occasion, cancel, check_life, quiet, refuse, passed, initialized, if_of_kind, started, by_layer, by_entry}
+use Rattle.lsp_session.specs.State.{State, Effect, live, initializing, is_crowded}
 use Rattle.lsp_session.specs.Run.{answer, Applies, Admits, admission_of, occasion, after_poll, Poll, took, closed, changing, poll_change}
-use Rattle.lsp_session.specs.Laws.{IsAnswered, Requests, InitializeComesFirst, InitializeComesOnce, NothingBeginsAfterShutdown, ExitEnds, FallsInTime, LivesGoOn}
+use Rattle.lsp_session.specs.Laws.{IsAnswered, Requests, NeedsInitialize, InitializeComesFirst, InitializeComesOnce, NothingBeginsAfterShutdown, ExitEnds, FallsInTime, LivesGoOn}
 use Rattle.lsp_session.proofs.SortLemmas.{Sorted, leaves, takes, ends, opens, begins, shuts, closes, changes_none, admission_sorted}
 use Rattle.lsp_session.proofs.LifeLemmas.{admission_quits, quits_quietly}
 use Rattle.lsp_session.proofs.WorkLemmas.{quit_live}
@@ -54,25 +54,40 @@ module _ {H C T : Type 0} (semantics : Semantics H C T) where
     found_entry : admission_of semantics s (message (request r)) ≡ by_layer (occasion s) r entry (semantics.reads entry r.params) entry.layer
     found_entry = ap (by_entry (occasion s) semantics.reads r) found
 
-    normal_is : (life : Life) → s.desk.life ≡ life → entry.layer ≡ Normal → admission_of semantics s (message (request r)) ≡ passed (check_life life Normal) r.id passing
-    normal_is life l layer =
-        found_entry ∙ ap (by_layer (occasion s) r entry (semantics.reads entry r.params)) layer
-        ∙ ap (λ (x : Layer). passed (check_life s.desk.life x) r.id passing) layer ∙ ap (λ (x : Life). passed (check_life x Normal) r.id passing) l
+    -- a method in this layer begins if the life lets it pass
+    abbrev IsPlain : Layer → Type 0
+    IsPlain layer = by_layer (occasion s) r entry (semantics.reads entry r.params) layer ≡ passed (check_life s.desk.life entry.layer) r.id passing
+
+    plain_is : (life : Life) (layer : Layer) → IsPlain layer → s.desk.life ≡ life → entry.layer ≡ layer → admission_of semantics s (message (request r)) ≡ passed (check_life life layer) r.id passing
+    plain_is life layer plain l k =
+        found_entry ∙ ap (by_layer (occasion s) r entry (semantics.reads entry r.params)) k ∙ plain
+        ∙ ap (λ (x : Layer). passed (check_life s.desk.life x) r.id passing) k ∙ ap (λ (x : Life). passed (check_life x layer) r.id passing) l
 
     initialize_is : (life : Life) → s.desk.life ≡ life → entry.layer ≡ Initialize → admission_of semantics s (message (request r)) ≡ initialized (passed (check_life life Initialize) r.id passing)
     initialize_is life l layer =
         found_entry ∙ ap (by_layer (occasion s) r entry (semantics.reads entry r.params)) layer
         ∙ ap (λ (x : Layer). initialized (passed (check_life s.desk.life x) r.id passing)) layer ∙ ap (λ (x : Life). initialized (passed (check_life x Initialize) r.id passing)) l
 
-  comes_first : (life : Life) → check_life life Normal ≡ NotInitialized → (s s2 : State H semantics.Call semantics.Task) (i : IdData) (e : Effect) → s.desk.life ≡ life → Requests semantics s i Normal e s2
+  comes_first : (life : Life) → check_life life Shutdown ≡ NotInitialized → check_life life Normal ≡ NotInitialized
+      → (s s2 : State H semantics.Call semantics.Task) (i : IdData) (layer : Layer) (e : Effect) → s.desk.life ≡ life → NeedsInitialize layer → Requests semantics s i layer e s2
       → IsAnswered s (answer i (Err not_initialized_error)) e s2
-  comes_first life check s s2 i e l q = refused s s2 _ i not_initialized_error e
-      (normal_is s q.r q.entry i q.found q.id life l q.in_layer ∙ ap (λ (x : LifeCheck). passed x q.r.id (passing s q.r q.entry i q.found q.id)) check
-      ∙ ap (λ (x : Option IdData). quiet (refuse x not_initialized_error)) q.id)
-      q.admits
+  comes_first life at_shutdown at_normal s s2 i layer e l needs q = refused s s2 _ i not_initialized_error e (at layer needs q.in_layer) q.admits
+    where
+      held : (layer : Layer) → IsPlain s q.r q.entry i q.found q.id layer → check_life life layer ≡ NotInitialized → q.entry.layer ≡ layer
+          → admission_of semantics s (message (request q.r)) ≡ quiet (Refuses i not_initialized_error)
+      held layer plain check k =
+          plain_is s q.r q.entry i q.found q.id life layer plain l k ∙ ap (λ (x : LifeCheck). passed x q.r.id (passing s q.r q.entry i q.found q.id)) check
+          ∙ ap (λ (x : Option IdData). quiet (refuse x not_initialized_error)) q.id
+
+      at : (layer : Layer) → NeedsInitialize layer → q.entry.layer ≡ layer → admission_of semantics s (message (request q.r)) ≡ quiet (Refuses i not_initialized_error)
+      at Initialize h k = absurd (h.0 refl)
+      at Shutdown h k = held Shutdown refl at_shutdown k
+      at Exit h k = absurd (h.1 refl)
+      at Cancel h k = absurd (h.2 refl)
+      at Normal h k = held Normal refl at_normal k
 
   pub initialize_first : InitializeComesFirst semantics
-  initialize_first = record { before = comes_first Uninitialized refl; meanwhile = comes_first Initializing refl }
+  initialize_first = record { before = comes_first Uninitialized refl refl; meanwhile = comes_first Initializing refl refl }
 
   pub initialize_once : InitializeComesOnce semantics
   initialize_once s s2 i e later q = refused s s2 _ i (error_with_code InvalidRequest) e (initialize_is s q.r q.entry i q.found q.id s.desk.life refl q.in_layer ∙ at s.desk.life later) q.admits
@@ -90,10 +105,24 @@ module _ {H C T : Type 0} (semantics : Semantics H C T) where
   pub after_shutdown : NothingBeginsAfterShutdown semantics
   after_shutdown = record {
     begins_none = λ s item id entry c l is. begins_none (occasion s) (admission_of semantics s item) id entry c l is (admission_sorted (occasion s) (semantics.find s.service) semantics.reads item);
-    refuses = λ s s2 i e l q. refused s s2 _ i (error_with_code InvalidRequest) e
-        (normal_is s q.r q.entry i q.found q.id ShutDown l q.in_layer ∙ ap (λ (x : Option IdData). quiet (refuse x (error_with_code InvalidRequest))) q.id) q.admits;
+    refuses = refuses;
   }
     where
+      refuses : (s s2 : State H semantics.Call semantics.Task) (i : IdData) (layer : Layer) (e : Effect) → s.desk.life ≡ ShutDown → layer ≢ Exit → Requests semantics s i layer e s2
+          → IsAnswered s (answer i (Err (error_with_code InvalidRequest))) e s2
+      refuses s s2 i Initialize e l h q = initialize_once s s2 i e (λ same. shut_down (sym l ∙ same)) q
+        where
+          shut_down : ShutDown ≢ Uninitialized
+          shut_down is = cc
+      refuses s s2 i Shutdown e l h q = refused s s2 _ i (error_with_code InvalidRequest) e
+          (plain_is s q.r q.entry i q.found q.id ShutDown Shutdown refl l q.in_layer ∙ ap (λ (x : Option IdData). quiet (refuse x (error_with_code InvalidRequest))) q.id) q.admits
+      refuses s s2 i Exit e l h q = absurd (h refl)
+      refuses s s2 i Cancel e l h q = refused s s2 _ i (error_with_code InvalidRequest) e
+          (found_entry s q.r q.entry i q.found q.id ∙ ap (by_layer (occasion s) q.r q.entry (semantics.reads q.entry q.r.params)) q.in_layer
+          ∙ ap (λ (x : Option IdData). cancel (live s) (initializing s) x q.r.params) q.id) q.admits
+      refuses s s2 i Normal e l h q = refused s s2 _ i (error_with_code InvalidRequest) e
+          (plain_is s q.r q.entry i q.found q.id ShutDown Normal refl l q.in_layer ∙ ap (λ (x : Option IdData). quiet (refuse x (error_with_code InvalidRequest))) q.id) q.admits
+
       not_none : (v : Verdict semantics.Call) (id : Option IdData) (entry : Entry) (c : semantics.Call) → v ≡ Starts id entry c → changes_none v ≡ true → ⊥
       not_none v id entry c is h = true≢false (sym h ∙ ap changes_none is)
 

@@ -1,5 +1,5 @@
 -- The live ids after one is put in or taken out.
-use Rattle.std.proofs.Common.{◌≡◌, ◌≤◌, ◌+◌, ℕ, List, [], ◌∷◌, ◌++◌, Bool, true, false, cond, not, Option, Some, None, option_map, refl, sym, ap, ◌∙◌, subst, arith, true≢false, map, filter, length, take, drop}
+use Rattle.std.proofs.Common.{◌≡◌, ◌≤◌, ◌+◌, ℕ, List, [], ◌∷◌, ◌++◌, Bool, true, false, cond, not, Some, option_map, refl, sym, ap, ◌∙◌, subst, arith, map, filter, length, take, drop}
 use Rattle.std.specs.Prelude.{is_some, ◌||◌, Result, Ok, Err, OnOk, OnErr}
 use Rattle.std.specs.List.{find, list_any, before_first, after_first, position_or_len}
 use Rattle.std.proofs.lemmas.Grind.{common_steps}

@@ -1,4 +1,4 @@
--- What is found in a method table behind which a registration was put.
+-- What is found in a method table after which a registration was put.
 use Rattle.std.proofs.Common.{◌≡◌, ℕ, ◌+◌, List, [], ◌∷◌, ◌++◌, Bool, true, false, cond, refl, sym, ap, ◌∙◌, arith, true≢false, length, map}
 use Rattle.std.proofs.lemmas.List.{map-append, length-map}
 use Rattle.std.specs.Prelude.{Option, Some, None, String, string_bytes, bytes_eq, is_some}

@@ -9,7 +9,7 @@ use Rattle.lsp_desk.specs.declared.life.Life.TheVariants.{Uninitialized, Initial
 use Rattle.lsp_desk.specs.Lives.{rank}
 use Rattle.lsp_session.specs.declared.table.Entry.{Entry}
 use Rattle.lsp_session.specs.declared.table.Layer.{Layer}
-use Rattle.lsp_session.specs.declared.table.Layer.TheVariants.{Initialize, Normal}
+use Rattle.lsp_session.specs.declared.table.Layer.TheVariants.{Initialize, Exit, Cancel}
 use Rattle.lsp_session.specs.Item.{ItemData, message}
 use Rattle.lsp_session.specs.Semantics.{Semantics, Phase, Fresh, Held}
 use Rattle.lsp_session.specs.Admission.{Cancels, Starts, is_live}
@@ -29,7 +29,7 @@ pub record IsAnswered {H C T : Type 0} (s : State H C T) (m : MessageData) (e : 
   pub out : e.out ≡ m ∷ []
   pub untouched : IsUntouched s s2
 
--- a request of a method in this layer is admitted
+-- a request of a registered method in this layer is admitted
 pub record Requests {H C T : Type 0} (semantics : Semantics H C T) (s : State H semantics.Call semantics.Task) (i : IdData) (layer : Layer) (e : Effect) (s2 : State H semantics.Call semantics.Task) : Type 0 where
   pub r : RequestData
   pub entry : Entry
@@ -38,11 +38,17 @@ pub record Requests {H C T : Type 0} (semantics : Semantics H C T) (s : State H 
   pub in_layer : entry.layer ≡ layer
   pub admits : Admits semantics s (admission_of semantics s (message (request r))) e s2
 
--- `initialize` comes first: any other request is answered -32002 until it has ended well
+-- a method that needs an `initialize` before it: any but `initialize` itself, `exit` and a cancel
+abbrev pub NeedsInitialize : Layer → Type 0
+NeedsInitialize layer = (layer ≢ Initialize) × (layer ≢ Exit) × (layer ≢ Cancel)
+
+-- `initialize` comes first: until it has ended well, a request of any method that needs it is answered -32002, `shutdown` too
 pub record InitializeComesFirst {H C T : Type 0} (semantics : Semantics H C T) : Type 0 where
-  pub before : (s s2 : State H semantics.Call semantics.Task) (i : IdData) (e : Effect) → s.desk.life ≡ Uninitialized → Requests semantics s i Normal e s2
+  -- where none goes on
+  pub before : (s s2 : State H semantics.Call semantics.Task) (i : IdData) (layer : Layer) (e : Effect) → s.desk.life ≡ Uninitialized → NeedsInitialize layer → Requests semantics s i layer e s2
       → IsAnswered s (answer i (Err not_initialized_error)) e s2
-  pub meanwhile : (s s2 : State H semantics.Call semantics.Task) (i : IdData) (e : Effect) → s.desk.life ≡ Initializing → Requests semantics s i Normal e s2
+  -- and while one goes on
+  pub meanwhile : (s s2 : State H semantics.Call semantics.Task) (i : IdData) (layer : Layer) (e : Effect) → s.desk.life ≡ Initializing → NeedsInitialize layer → Requests semantics s i layer e s2
       → IsAnswered s (answer i (Err not_initialized_error)) e s2
 
 -- it comes once: a second one is answered -32600 while the first goes on and ever after it has ended well
@@ -50,11 +56,12 @@ abbrev pub InitializeComesOnce : {H C T : Type 0} → Semantics H C T → Type 0
 InitializeComesOnce {H} semantics = (s s2 : State H semantics.Call semantics.Task) (i : IdData) (e : Effect) → s.desk.life ≢ Uninitialized → Requests semantics s i Initialize e s2
     → IsAnswered s (answer i (Err (error_with_code InvalidRequest))) e s2
 
--- nothing begins after `shutdown`, whatever comes, and a request is answered -32600
+-- nothing begins after `shutdown`, whatever comes, and a request of any method but `exit` is answered -32600:
+-- a second `shutdown`, an `initialize` and a cancel that has an id too
 pub record NothingBeginsAfterShutdown {H C T : Type 0} (semantics : Semantics H C T) : Type 0 where
   pub begins_none : (s : State H semantics.Call semantics.Task) (item : ItemData) (id : Option IdData) (entry : Entry) (c : semantics.Call) → s.desk.life ≡ ShutDown
       → (admission_of semantics s item).verdict ≢ Starts id entry c
-  pub refuses : (s s2 : State H semantics.Call semantics.Task) (i : IdData) (e : Effect) → s.desk.life ≡ ShutDown → Requests semantics s i Normal e s2
+  pub refuses : (s s2 : State H semantics.Call semantics.Task) (i : IdData) (layer : Layer) (e : Effect) → s.desk.life ≡ ShutDown → layer ≢ Exit → Requests semantics s i layer e s2
       → IsAnswered s (answer i (Err (error_with_code InvalidRequest))) e s2
 
 -- `exit` always ends a session: it is noted in which life it came, and no request is left

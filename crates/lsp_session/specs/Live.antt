@@ -14,6 +14,6 @@ abbrev pub have_repeats : {X : Type 0} → List (ℕ × (Id × X)) → Bool
 have_repeats [] = false
 have_repeats (e ∷ es) = list_any (λ x. same_id (show_id e.1.0) (show_id x.1.0)) es || have_repeats es
 
--- this id, behind the others
+-- this id, after the others
 abbrev pub IsPushed : {X : Type 0} → Id → List (ℕ × (Id × X)) → List (ℕ × (Id × X)) → Type 0
 IsPushed {X} id old new = (n : ℕ) × ((x : X) × (new ≡ old ++ (n, (id, x)) ∷ []))

@@ -7,8 +7,9 @@ ghost use Rattle.lsp_session.specs.Begins.{BeginsWhereStarted};
 use crate::{Handlers, Pick};
 use lsp_desk::Caller;
 
-/// `initialize` comes first: until it has ended well, any other request is answered -32002 and
-/// changes nothing (LSP 3.17, "Initialize Request").
+/// `initialize` comes first: until it has ended well, a request of any other registered method,
+/// `shutdown` too, is answered -32002 and changes nothing (LSP 3.17, "Initialize Request"). It says
+/// nothing of `exit`, which ends a session at any time, of a cancel, or of an unregistered name.
 pub fn initialize_comes_first<D: Caller, H: Handlers<D>>()
     ensures { InitializeComesFirst H.semantics }
 {}
@@ -18,7 +19,9 @@ pub fn initialize_comes_once<D: Caller, H: Handlers<D>>()
     ensures { InitializeComesOnce H.semantics }
 {}
 
-/// Nothing begins after `shutdown`, and a request is answered -32600 (LSP 3.17, "Shutdown Request").
+/// Nothing begins after `shutdown`, and a request of any registered method but `exit` is answered
+/// -32600 and changes nothing (LSP 3.17, "Shutdown Request"): a second `shutdown`, an `initialize`
+/// and a cancel that has an id too. It says nothing of an unregistered name.
 pub fn nothing_begins_after_shutdown<D: Caller, H: Handlers<D>>()
     ensures { NothingBeginsAfterShutdown H.semantics }
 {}

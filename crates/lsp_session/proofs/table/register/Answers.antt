@@ -1,5 +1,5 @@
 -- The name was found already, or is found now.
-use Rattle.std.proofs.Common.{◌≡◌, ◌++◌, [], ◌∷◌, List, ℕ, sym, ap, ◌∙◌, subst, rules, true, false, cond}
+use Rattle.std.proofs.Common.{◌≡◌, List, ℕ, sym, ap, ◌∙◌, subst, rules, true, false, cond}
 use Rattle.std.specs.Prelude.{bytes_eq, is_some, string_bytes, Some}
 use Rattle.std.specs.HashMap.{get_by_text}
 use Rattle.std.proofs.lemmas.Map.Text.{hash_map_updates_text}

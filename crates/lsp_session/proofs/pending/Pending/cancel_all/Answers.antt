@@ -1,5 +1,5 @@
 -- The list was empty before.
-use Rattle.std.proofs.Common.{◌≡◌, ◌++◌, List, ap, ◌∙◌, map}
+use Rattle.std.proofs.Common.{◌++◌, List, ap, ◌∙◌, map}
 use Rattle.lsp_rpc.specs.Shown.{show_id}
 use Rattle.lsp_rpc.specs.declared.id.Id.{Id}
 use Rattle.lsp_session.proofs.PendingLemmas.{shown_keys}
