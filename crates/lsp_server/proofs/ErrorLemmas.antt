@@ -1,10 +1,10 @@
 -- Which errors a server may stop with.
-use Rattle.std.proofs.Common.{◌≡◌, ℕ, ◌+◌, ◌<◌, ◌≤◌, List, length, refl, sym, ◌∙◌, arith, Bool, true, false, true≢false}
-use Rattle.std.specs.Prelude.{Option, Some, None, IfSome}
+use Rattle.std.proofs.Common.{◌≡◌, inl, inr, ℕ, ◌+◌, ◌<◌, ◌≤◌, List, length, refl, sym, ◌∙◌, subst, arith, Bool, true, false, true≢false}
+use Rattle.std.specs.Prelude.{◌⊎◌, Option, Some, None, IfSome}
 use Rattle.lsp_desk.specs.Meaning.{Meaning, IsLawful, Grown}
 use Rattle.lsp_server.specs.declared.step.ServeError.{ServeError}
 use Rattle.lsp_server.specs.declared.step.ServeError.TheVariants.{ReadFault, WriteFault, ReadsSpent, DeskSpent, NoMemory}
-use Rattle.lsp_server.specs.Errors.{SaysSpent, ComesUnfailed}
+use Rattle.lsp_server.specs.Errors.{IsInStep, SaysSpent, ComesUnfailed, ComesOfSink}
 
 -- a desk that others don't use is never spent
 pub unspent_alone : {D : Type 0} (m : Meaning D) → IsLawful m → (old new : D) → Grown m old new → m.alone old ≡ true → m.spent new ≡ false
@@ -31,3 +31,16 @@ unfailed m laws old new grown ReadsSpent says read wrote reads bytes (Some rest)
     let few : reads + length rest ≤ length bytes = s refl in absurd (omega (arith, few, enough))
 unfailed m laws old new grown (DeskSpent n) says read wrote reads bytes left told r w s enough no_read no_write = shared_where_spent m laws old new grown says (m.alone old) refl
 unfailed m laws old new grown NoMemory says read wrote reads bytes left told r w s enough no_read no_write = tt
+
+-- ---- an error stands, or one of the sink takes its place
+
+pub spent_stands : {D : Type 0} (m : Meaning D) (desk : D) (error result : ServeError) → (result ≡ error) ⊎ ComesOfSink result → SaysSpent m desk error → SaysSpent m desk result
+spent_stands m desk error result (inl same) says = subst (SaysSpent m desk) (sym same) says
+spent_stands m desk error (DeskSpent n) (inr sink) says = absurd sink
+spent_stands m desk error result (inr sink) says = tt
+
+pub step_stands : (error result : ServeError) → (result ≡ error) ⊎ ComesOfSink result → IsInStep error → IsInStep result
+step_stands error result (inl same) in_step = subst IsInStep (sym same) in_step
+step_stands error WriteFault (inr sink) in_step = tt
+step_stands error NoMemory (inr sink) in_step = tt
+step_stands error result (inr sink) in_step = absurd sink

@@ -140,3 +140,14 @@ module _ {H D C T P : Type 0} {semantics : Semantics H C T} {m : Meaning D} {ord
       ap (λ l. served find (all_admitted l)) (told.decodes.items c) ∙ ap (served find) (map-append admitted told.given (items_at (more codec2 c)) ∙ ap (λ l. l ++ rest) told.ends.split)
       ∙ served-closed find told.ends.front told.ends.exit rest told.ends.none told.ends.is ∙ sym told.ends.split in
       subst (λ l. RanPart (Step semantics order rounds) b.state b.taken l d.taken) (sym whole) (part_whole b d (all_admitted told.given) told.ran)
+
+  -- so is what was served with no exit
+  pub told_any : (exits : Bool) (find : List ℕ → Option Entry) (b : Point semantics D P) (codec1 : At) (d : Point semantics D P) (codec2 : At) → ServedTold (Step semantics order rounds) m find b codec1 exits d codec2 → (c : List ℕ)
+      → RanPart (Step semantics order rounds) b.state b.taken (served find (all_admitted (items_at (more codec1 c)))) d.taken
+  told_any true find b codec1 d codec2 told c = told_part find b codec1 d codec2 told c
+  told_any false find b codec1 d codec2 told c =
+      let rest = all_admitted (items_at (more codec2 c)) in
+      let whole : served find (all_admitted (items_at (more codec1 c))) ≡ all_admitted told.given ++ served find rest =
+      ap (λ l. served find (all_admitted l)) (told.decodes.items c) ∙ ap (served find) (map-append admitted told.given (items_at (more codec2 c)))
+      ∙ served-open find (all_admitted told.given) rest told.ends.0 in
+      subst (λ l. RanPart (Step semantics order rounds) b.state b.taken l d.taken) (sym whole) (part_more (all_admitted told.given) (served find rest) (part_whole b d (all_admitted told.given) told.ran))

@@ -1,4 +1,5 @@
 pub mod MemoryLemmas
+pub mod MemoryTransportLemmas
 pub mod KnownLemmas
 pub mod FramesLemmas
 pub mod ItemsLemmas
@@ -6,6 +7,7 @@ pub mod CodecLemmas
 pub mod PointLemmas
 pub mod RanLemmas
 pub mod GoingLemmas
+pub mod OrderLemmas
 pub mod ServingLemmas
 pub mod ErrorLemmas
 pub mod HandedLemmas

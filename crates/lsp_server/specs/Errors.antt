@@ -12,6 +12,14 @@ IsBetweenReads ReadsSpent = ⊤
 IsBetweenReads (DeskSpent n) = ⊥
 IsBetweenReads NoMemory = ⊥
 
+-- at these errors all that was written is flushed: at a failed write the sink is broken, and a flush may lack memory too
+abbrev pub IsFlushedAt : ServeError → Type 0
+IsFlushedAt ReadFault = ⊤
+IsFlushedAt WriteFault = ⊥
+IsFlushedAt ReadsSpent = ⊤
+IsFlushedAt (DeskSpent n) = ⊤
+IsFlushedAt NoMemory = ⊥
+
 -- these errors come in a step
 abbrev pub IsInStep : ServeError → Type 0
 IsInStep ReadFault = ⊥
@@ -36,7 +44,7 @@ SaysSpent m desk ReadsSpent = ⊤
 SaysSpent m desk (DeskSpent n) = m.spent desk ≡ true
 SaysSpent m desk NoMemory = ⊤
 
--- without a failure, and with reads left, only memory may be wanting, or turns of a desk that others use
+-- without a failure, and with reads left, only NoMemory comes, and DeskSpent over a desk that others use
 abbrev pub ComesUnfailed : Bool → ServeError → Type 0
 ComesUnfailed alone ReadFault = ⊥
 ComesUnfailed alone WriteFault = ⊥

@@ -7,6 +7,9 @@ pub mod Items
 pub mod Course
 pub mod Written
 pub mod Served
+pub mod Reads
+pub mod ReadAt
+pub mod MemoryTransport
 pub mod Errors
 pub mod ServerView
 pub mod ServedView

@@ -11,6 +11,8 @@ use Rattle.lsp_session.specs.State.{State, Effect, live}
 use Rattle.lsp_session.specs.Run.{Picked, Run, served, has_exit, is_exit}
 use Rattle.lsp_session.specs.Count.{Counts}
 use Rattle.lsp_session.specs.Session.{SessionView}
+use Rattle.lsp_server.specs.SourceSink.{IsFlushed}
+use Rattle.lsp_server.specs.Reads.{Moment}
 use Rattle.lsp_server.specs.Items.{all_admitted, stream_items, stream_told, Decodes}
 use Rattle.lsp_server.specs.Course.{Course}
 use Rattle.lsp_server.specs.Written.{Place, Ran, IsPartOf}
@@ -98,6 +100,13 @@ pub record WroteTold {S D : Type 0} (course : Course S D) (call : CallBytes) (de
   pub none : has_exit course.find (stream_told course.limits read) ≡ false
   pub last : S
   pub ran : RanFrom course call (stream_told course.limits read) last desk
+
+-- as a read was made, what was written was the frames of a run over the items told by the bytes read until then, no
+-- exit was among them, and all of it was flushed, if all was at the start
+pub record AllAnswered {S D : Type 0} (course : Course S D) (bytes : List ℕ) (start : Moment) (m : Moment) : Type 0 where
+  pub desk : D
+  pub wrote : WroteTold course (call_bytes bytes m.left start.taken m.taken) desk
+  pub flushed : IsFlushed start.taken start.flushed → IsFlushed m.taken m.flushed
 
 -- what is written begins the frames of a run over all these bytes, and holds them whole for all items
 -- that are told by the bytes read but for a last piece of at most so many bytes

@@ -2,18 +2,23 @@
 #![tactic(auto)]
 
 mod memory;
+mod memory_transport;
 mod read_write;
 mod server;
 mod serving;
 mod sink;
 mod source;
 mod step;
+mod transport;
 mod write;
 
 pub use memory::{MemorySink, MemorySource, NeverSink, NeverSource};
+pub use memory_transport::{MemoryTransport, ReadAt};
 pub use read_write::{ReadSource, WriteSink};
 pub use server::{Served, Server, Stopped};
+pub use serving::serve_over;
 pub use sink::{Refused, Sink};
 pub use source::{Failed, Source};
 pub use step::ServeError;
+pub use transport::{Ends, Transport};
 pub use write::write_all;

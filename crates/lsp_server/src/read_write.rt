@@ -87,6 +87,8 @@ impl<W: Write> Sink for WriteSink<W> {
 
     ghost faults = { failed_writes };
 
+    ghost beside = { λ _. tt };
+
     fn write(&mut self, piece: &[u8]) -> Result<usize, Refused>
         requires { 0 < length piece.now }
         ensures within { IfOk result (λ n. n ≤ length piece.now) }

@@ -10,11 +10,11 @@ ghost use Rattle.lsp_server.specs.Course.{course, picked};
 ghost use Rattle.lsp_server.specs.Written.{Ran, RanPart};
 ghost use Rattle.lsp_server.specs.Served.{call_bytes, handed_back, IsServed, ReadEnough, WroteTold, WrotePart};
 ghost use Rattle.lsp_server.specs.ServedView.{show_served};
-ghost use Rattle.lsp_server.specs.Errors.{IsBetweenReads, IsInStep, ComesUnfailed, SaysSpent};
+ghost use Rattle.lsp_server.specs.Errors.{IsBetweenReads, IsFlushedAt, IsInStep, ComesUnfailed, SaysSpent};
 
-use crate::serving::serve_reads;
+use crate::serving::serve_over;
 use crate::step::{ServeError, flush, write_step};
-use crate::{Sink, Source};
+use crate::{Ends, Sink, Source};
 use lsp_desk::{ClientSocket, Desk, Loopback};
 use lsp_frame::Limits;
 use lsp_rpc::{Id, NoMemory};
@@ -144,6 +144,7 @@ impl<D: Desk + Drop> Server<D> {
         ensures ready { OnOk result (IsReady H.semantics D.meaning session.new) }
         ensures flushed { OnOk result (IsFlushed (O.taken sink.old) (O.flushed sink.old)
             → IsFlushed (O.taken sink.new) (O.flushed sink.new)) }
+        ensures beside { O.beside sink.new ≡ O.beside sink.old }
 
         // At an error nothing was written, or what begins the frames of the whole step.
         ensures part { OnErr result (RanPart (Step H.semantics (order_by P.gives P.later) rounds)
@@ -182,6 +183,7 @@ impl<D: Desk + Drop> Server<D> {
         ensures ready { OnOk result (IsReady H.semantics D.meaning session.new) }
         ensures flushed { OnOk result (IsFlushed (O.taken sink.old) (O.flushed sink.old)
             → IsFlushed (O.taken sink.new) (O.flushed sink.new)) }
+        ensures beside { O.beside sink.new ≡ O.beside sink.old }
         ensures part { OnErr result (RanPart (Step H.semantics (order_by P.gives P.later) rounds)
             (picked (session_view H.semantics D.meaning session.old) (P.state pick.old))
             (O.taken sink.old) (tick ∷ []) (O.taken sink.new)) }
@@ -231,10 +233,11 @@ impl<D: Desk + Drop> Server<D> {
             (setting self service (P.state pick.old) rounds))
             (call_bytes bytes (I.left source.new) (O.taken sink.old) (O.taken sink.new)) 4096)) }
 
-        // The bytes taken are flushed, if they were at the start.
+        // The bytes taken are flushed, if they were at the start, also at an error that isn't of
+        // the sink or of memory.
         ensures flushed { OnOk result (IsFlushed (O.taken sink.old) (O.flushed sink.old)
             → IsFlushed (O.taken sink.new) (O.flushed sink.new)) }
-        ensures flushed_between { IfErr result (λ stopped. IsBetweenReads stopped.error
+        ensures flushed_at { IfErr result (λ stopped. IsFlushedAt stopped.error
             → IsFlushed (O.taken sink.old) (O.flushed sink.old)
             → IsFlushed (O.taken sink.new) (O.flushed sink.new)) }
 
@@ -263,8 +266,8 @@ impl<D: Desk + Drop> Server<D> {
         ensures few { IfSome (I.left source.old) (λ bytes. IfSome (I.left source.new)
             (λ rest. length bytes ≤ length rest + reads * 4096)) }
 
-        // So with no failure, and with more reads than bytes, only memory may be wanting, or turns
-        // of a desk that others use.
+        // So with no failure, and with more reads than bytes, only `NoMemory` may come, and
+        // `DeskSpent` over a desk that others use.
         ensures complete { IfErr result (λ stopped. IfSome (I.left source.old)
             (λ bytes. length bytes < reads
             → ¬ CountRose (I.faults source.old) (I.faults source.new)
@@ -290,10 +293,10 @@ impl<D: Desk + Drop> Server<D> {
     {
         let desk = self.socket.into_desk();
         let mut session = Session::new(alloc, service, desk, self.max).waiting_limit(self.wait);
-        match serve_reads(
+        let mut ends = Ends { source, sink };
+        match serve_over(
             alloc,
-            source,
-            sink,
+            &mut ends,
             &mut session,
             pick,
             reads,
@@ -301,10 +304,7 @@ impl<D: Desk + Drop> Server<D> {
             self.limits,
         ) {
             Ok(()) => hand_back(session),
-            Err(error) => Err(Stopped {
-                error,
-                desk: session.into_parts().1,
-            }),
+            Err(error) => Err(stop(session, error)),
         }
     }
 }
@@ -330,9 +330,17 @@ fn hand_back<D: Desk + Drop, H: Handlers<D>>(
                 unanswered,
             })
         }
-        Err(NoMemory) => Err(Stopped {
-            error: ServeError::NoMemory,
-            desk: session.into_parts().1,
-        }),
+        Err(NoMemory) => Err(stop(session, ServeError::NoMemory)),
+    }
+}
+
+// What is handed back where a session stopped.
+fn stop<D: Desk + Drop, H: Handlers<D>>(session: Session<H, D>, error: ServeError) -> Stopped<D>
+    ensures error { result.error ≡ error }
+    ensures desk { result.desk ≡ desk_of session }
+{
+    Stopped {
+        error,
+        desk: session.into_parts().1,
     }
 }

@@ -1,5 +1,5 @@
 // The step of an item, with what it writes.
-ghost use Rattle.std.specs.Prelude.{◌≡◌, ◌≢◌, ◌≤◌, [], ◌∷◌, false, OnOk, OnErr, IfErr, IsErrOf};
+ghost use Rattle.std.specs.Prelude.{◌≡◌, ◌≢◌, ◌≤◌, ◌⊎◌, [], ◌∷◌, false, OnOk, OnErr, IfErr, IsErrOf};
 ghost use Rattle.std.specs.Io.KnownBytes.{Keeps};
 ghost use Rattle.lsp_desk.specs.Meaning.{Grown};
 ghost use Rattle.lsp_session.specs.Item.{show_item, item_has_float};
@@ -9,7 +9,7 @@ ghost use Rattle.lsp_server.specs.SourceSink.{CountRose, Flushes};
 ghost use Rattle.lsp_server.specs.Course.{picked};
 ghost use Rattle.lsp_server.specs.Written.{Ran, RanPart};
 ghost use Rattle.lsp_server.specs.ServerView.{standing, IsReady};
-ghost use Rattle.lsp_server.specs.Errors.{IsInStep, ComesOfSink, LeavesSink, SaysSpent};
+ghost use Rattle.lsp_server.specs.Errors.{IsFlushedAt, IsInStep, ComesOfSink, LeavesSink, SaysSpent};
 ghost use Rattle.lsp_server.specs.declared.step.ServeError.TheVariants.{NoMemory as no_memory};
 
 use crate::write::put;
@@ -75,6 +75,7 @@ pub(crate) fn write_step<O: Sink, D: Desk + Drop, H: Handlers<D>, P: Pick>(
         (O.taken sink.old) (show_item item ∷ []) (O.taken sink.new)) }
     ensures grown { OnErr result (Grown D.meaning (desk_of session.old) (desk_of session.new)) }
     ensures flushed { O.flushed sink.new ≡ O.flushed sink.old }
+    ensures beside { O.beside sink.new ≡ O.beside sink.old }
     ensures count { O.faults sink.old ≤ O.faults sink.new }
     ensures write { IsErrOf result ServeError.WriteFault
         → CountRose (O.faults sink.old) (O.faults sink.new) }
@@ -102,6 +103,7 @@ pub(crate) fn flush<O: Sink>(sink: &mut O) -> Result<(), ServeError>
     ensures taken { Keeps (O.taken sink.old) (O.taken sink.new) }
     ensures flushes { OnOk result (Flushes (O.taken sink.old) (O.flushed sink.old)
         (O.flushed sink.new)) }
+    ensures beside { O.beside sink.new ≡ O.beside sink.old }
     ensures count { O.faults sink.old ≤ O.faults sink.new }
     ensures write { IsErrOf result ServeError.WriteFault
         → CountRose (O.faults sink.old) (O.faults sink.new) }
@@ -113,5 +115,28 @@ pub(crate) fn flush<O: Sink>(sink: &mut O) -> Result<(), ServeError>
         Ok(()) => Ok(()),
         Err(Refused::Failed) => Err(ServeError::WriteFault),
         Err(Refused::NoMemory) => Err(ServeError::NoMemory),
+    }
+}
+
+/// Sends what the sink took before an error on its way. The error stands, unless the flush fails
+/// too; after a failed write nothing is flushed.
+pub(crate) fn flush_after<O: Sink>(sink: &mut O, error: ServeError) -> ServeError
+    ensures stands { (result ≡ error) ⊎ ComesOfSink result }
+    ensures failed { error ≡ ServeError.WriteFault → result ≡ ServeError.WriteFault }
+    ensures taken { Keeps (O.taken sink.old) (O.taken sink.new) }
+    ensures flushes { IsFlushedAt result → Flushes (O.taken sink.old) (O.flushed sink.old)
+        (O.flushed sink.new) }
+    ensures beside { O.beside sink.new ≡ O.beside sink.old }
+    ensures count { O.faults sink.old ≤ O.faults sink.new }
+    ensures write { result ≡ ServeError.WriteFault → (error ≡ ServeError.WriteFault)
+        ⊎ CountRose (O.faults sink.old) (O.faults sink.new) }
+    ensures left { LeavesSink result → (O.faults sink.new ≡ O.faults sink.old) × LeavesSink error }
+{
+    if error == ServeError::WriteFault {
+        return error;
+    }
+    match flush(sink) {
+        Ok(()) => error,
+        Err(refused) => refused,
     }
 }

@@ -26,6 +26,7 @@ pub(crate) fn put<O: Sink>(
         × IsPrefixOf written (frames (map show_message messages.now.items))
         × Appends (O.taken sink.old) (O.taken sink.new) written) }
     ensures flushed { O.flushed sink.new ≡ O.flushed sink.old }
+    ensures beside { O.beside sink.new ≡ O.beside sink.old }
     ensures count { O.faults sink.old ≤ O.faults sink.new }
     ensures cause { IsErrOf result Refused.Failed
         → CountRose (O.faults sink.old) (O.faults sink.new) }
@@ -60,6 +61,7 @@ pub fn write_all<O: Sink>(sink: &mut O, bytes: &[u8]) -> Result<(), Refused>
     ensures part { OnErr result ((written : List ℕ) × IsPrefixOf written bytes.now
         × Appends (O.taken sink.old) (O.taken sink.new) written) }
     ensures flushed { O.flushed sink.new ≡ O.flushed sink.old }
+    ensures beside { O.beside sink.new ≡ O.beside sink.old }
     ensures count { O.faults sink.old ≤ O.faults sink.new }
     ensures cause { IsErrOf result Refused.Failed
         → CountRose (O.faults sink.old) (O.faults sink.new) }

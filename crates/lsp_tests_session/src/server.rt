@@ -8,7 +8,10 @@ use crate::small::make_server;
 use lsp_desk::{ClientSocket, PlainDesk};
 use lsp_frame::Limits;
 use lsp_rpc::{Id, Message, Request};
-use lsp_server::{MemorySink, MemorySource, NeverSink, NeverSource, ServeError, Server};
+use lsp_server::{
+    MemorySink, MemorySource, MemoryTransport, NeverSink, NeverSource, ReadAt, ServeError, Server,
+    serve_over,
+};
 use lsp_session::{InOrder, Item, Life, Rotate, Session};
 use std::alloc::{AllocError, Global};
 use std::process::Abort;
@@ -50,8 +53,8 @@ fn framed(alloc: Global, bodies: &[&str]) -> Result<Vec<u8>, AllocError> {
     Ok(frames)
 }
 
-// What is sent, with the limit of a body and the rounds of a step, and what comes of it: the bytes that are written, the
-// life at `exit`, and how many requests are left.
+// What is sent, with the limit of a body and the rounds of a step, and what comes of it: the bytes
+// that are written, the life at `exit`, and how many requests are left.
 struct Row {
     name: &'static str,
     sent: &'static [&'static str],
@@ -181,6 +184,62 @@ fn sessions_that_stop(rt: HostRuntime) -> Result<(), Fail> {
             Err(stopped) => assert_eq!(rt; stopped.error, error),
         }
         assert!(rt; sink.bytes() == answers.as_bytes(), "{error}");
+    }
+    Ok(())
+}
+
+// As each read is made, this many bytes were read before it, and this many taken and flushed.
+struct Reads {
+    sent: &'static [&'static str],
+    piece: usize,
+    made: &'static [(usize, usize)],
+}
+
+// The frames have 68, 66 and 55 bytes, and each answer 60.
+const READS: [Reads; 4] = [
+    Reads {
+        sent: &[INITIALIZE, SHUTDOWN, EXIT],
+        piece: 68,
+        made: &[(0, 0), (68, 60), (136, 120)],
+    },
+    Reads {
+        sent: &[INITIALIZE, SHUTDOWN, EXIT],
+        piece: 100,
+        made: &[(0, 0), (100, 60)],
+    },
+    Reads {
+        sent: &[INITIALIZE, SHUTDOWN, EXIT],
+        piece: 4096,
+        made: &[(0, 0)],
+    },
+    Reads {
+        sent: &[INITIALIZE],
+        piece: 4096,
+        made: &[(0, 0), (68, 60)],
+    },
+];
+
+#[test]
+fn answers_come_before_the_next_read(rt: HostRuntime) -> Result<(), Fail> {
+    let alloc = rt.alloc();
+    for row in &READS {
+        if row.piece == 0 {
+            return Err(Fail::new("no piece"));
+        }
+        let mut io = MemoryTransport::new(alloc, framed(alloc, row.sent)?, row.piece);
+        let mut session = Session::new(alloc, make_server(alloc)?, PlainDesk::new(alloc), 4);
+        let limits = Limits::default();
+        let answer = serve_over(alloc, &mut io, &mut session, &mut InOrder, 1000, 1, limits);
+        assert_eq!(rt; answer, Ok(()), "{}", row.piece);
+        assert_eq!(rt; io.reads().len(), row.made.len(), "{}", row.piece);
+        for (made, (read, taken)) in io.reads().iter().zip(row.made) {
+            let want = ReadAt {
+                read: *read,
+                taken: *taken,
+                flushed: *taken,
+            };
+            assert_eq!(rt; *made, want, "{}", row.piece);
+        }
     }
     Ok(())
 }

@@ -4,7 +4,7 @@ use Rattle.lsp_frame.specs.Codec.{told_at}
 use Rattle.lsp_session.specs.Run.{Order}
 use Rattle.lsp_server.specs.ServerView.{standing, IsReady}
 use Rattle.lsp_server.proofs.GoingLemmas.{Going}
-use Rattle.lsp_server.proofs.serving.serve_told.Given as goal
+use Rattle.lsp_server.proofs.serving.write_told.Given as goal
 
 abbrev pub invariant-items : goal.invariant-items
 invariant-items g l =
@@ -16,6 +16,7 @@ invariant-items g l =
           (standing sem m l.session (g.P.Pick.state l.pick) (g.O.Sink.taken l.sink)) l.codec;
       ready : IsReady sem m l.session;
       flushed : g.O.Sink.flushed l.sink ≡ g.O.Sink.flushed l.initial.sink;
+      beside : g.O.Sink.beside l.sink ≡ g.O.Sink.beside l.initial.sink;
       count : g.O.Sink.faults l.sink ≡ g.O.Sink.faults l.initial.sink;
     }
 

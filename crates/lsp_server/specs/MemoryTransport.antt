@@ -1,0 +1,29 @@
+-- What the transport in memory tells.
+use Rattle.std.specs.Prelude.{ℕ, List, Option, Some, drop, map}
+use Rattle.lsp_server.specs.declared.memory_transport.MemoryTransport.{MemoryTransport}
+use Rattle.lsp_server.specs.Reads.{Moment}
+use Rattle.lsp_server.specs.ReadAt.{moment_at}
+
+-- all its bytes, those read among them
+abbrev pub all_bytes : MemoryTransport → List ℕ
+all_bytes t = t.bytes.items
+
+abbrev pub bytes_left : MemoryTransport → Option (List ℕ)
+bytes_left t = Some (drop t.at t.bytes.items)
+
+abbrev pub bytes_taken : MemoryTransport → List ℕ
+bytes_taken t = t.taken.items
+
+abbrev pub bytes_flushed : MemoryTransport → ℕ
+bytes_flushed t = t.flushed
+
+-- how many bytes a read gives at most
+abbrev pub read_size : MemoryTransport → ℕ
+read_size t = t.piece
+
+abbrev pub reads_failed : MemoryTransport → ℕ
+reads_failed t = t.faults
+
+-- what stood as each read was made
+abbrev pub reads_made : MemoryTransport → List Moment
+reads_made t = map (moment_at t.bytes.items t.taken.items) t.reads.items
