@@ -10,17 +10,17 @@ use std::rt::Env;
 use std::{env, io};
 
 /// The program's arguments, without its own name.
-fn arguments(rt: &(impl Env + Alloc<A = Global>)) -> io::Result<Vec<String>> {
-    let mut words = Vec::new(rt.alloc());
-    for word in env::args(rt)?.skip(1) {
-        words.push(word)?;
+fn program_arguments(rt: &(impl Env + Alloc<A = Global>)) -> io::Result<Vec<String>> {
+    let mut arguments = Vec::new(rt.alloc());
+    for argument in env::args(rt)?.skip(1) {
+        arguments.push(argument)?;
     }
-    Ok(words)
+    Ok(arguments)
 }
 
 fn main(rt: HostRuntime) -> ExitCode {
-    let words = match arguments(&rt) {
-        Ok(words) => words,
+    let arguments = match program_arguments(&rt) {
+        Ok(arguments) => arguments,
         // An argument that isn't UTF-8 is none of the program's.
         Err(error) if error.kind() == ErrorKind::InvalidData => {
             return ExitCode::from(Status::Usage as u8);
@@ -32,7 +32,7 @@ fn main(rt: HostRuntime) -> ExitCode {
     };
     let mut source = ReadSource::new(rt.stdin());
     let mut sink = WriteSink::new(output);
-    let status = run_proxy(rt.alloc(), &words, &mut source, &mut sink);
+    let status = run_proxy(rt.alloc(), &arguments, &mut source, &mut sink);
 
     // After a failure some of what was written may still wait here; nothing can be told of a second one.
     let _ = sink.flush();

@@ -7,9 +7,9 @@ use Rattle.lsp_frame.specs.Codec.{Item, At, more, with_item, told_at}
 use Rattle.lsp_frame.specs.Frames.{framed}
 use Rattle.lsp_desk.specs.declared.life.Life.{Life}
 use Rattle.lsp_server.specs.Served.{CallBytes, call_bytes}
-use Rattle.lsp_sample.specs.declared.words.Setting.{Setting}
-use Rattle.lsp_sample.specs.declared.words.MadeUp.{MadeUp}
-use Rattle.lsp_sample.specs.Words.{default_setting}
+use Rattle.lsp_sample.specs.declared.arguments.Setting.{Setting}
+use Rattle.lsp_sample.specs.declared.arguments.MadeUp.{MadeUp}
+use Rattle.lsp_sample.specs.Arguments.{default_setting}
 use Rattle.lsp_sample.specs.Run.{Served, IsShutDown, IsNotShutDown}
 use Rattle.lsp_sample.specs.Bulk.{next_drawn, drawn, body_of, bodies, generated, summary, Writes, IsSummary}
 use Rattle.lsp_sample.proofs.RunLemmas.{on_some}

@@ -1,4 +1,4 @@
 mod ParamsLemmas
 pub mod RunLemmas
-mod WordsLemmas
+mod ArgumentsLemmas
 pub mod BulkLemmas

@@ -15,7 +15,7 @@ use Rattle.lsp_desk.specs.Meaning.{IsOpening}
 use Rattle.lsp_desk.specs.Plain.{plain_meaning}
 use Rattle.lsp_server.specs.Served as server
 use Rattle.lsp_server.specs.Served.{CallBytes, ServedView}
-use Rattle.lsp_sample.specs.declared.words.Setting.{Setting}
+use Rattle.lsp_sample.specs.declared.arguments.Setting.{Setting}
 use Rattle.lsp_sample.specs.Sample.{sample_semantics}
 use Rattle.lsp_sample.specs.Run.{sample, SampleState, in_order, server_setting, Served, WroteTold, WrotePart, status_at, status_of, IsShutDown, IsNotShutDown}
 

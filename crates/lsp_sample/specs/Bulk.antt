@@ -6,8 +6,8 @@ use Rattle.lsp_frame.specs.Codec.{Item, message, fault, told, default_limits}
 use Rattle.lsp_frame.specs.Frames.{framed}
 use Rattle.lsp_server.specs.Served.{call_bytes}
 use Rattle.lsp_server.specs.Written.{IsPrefixOf}
-use Rattle.lsp_sample.specs.declared.words.MadeUp.{MadeUp}
-use Rattle.lsp_sample.specs.Words.{default_setting}
+use Rattle.lsp_sample.specs.declared.arguments.MadeUp.{MadeUp}
+use Rattle.lsp_sample.specs.Arguments.{default_setting}
 use Rattle.lsp_sample.specs.Run.{Served}
 
 -- ---- what the editor sends

@@ -3,7 +3,7 @@ pub mod Params
 pub mod Shown
 pub mod Sample
 pub mod SampleLaws
-pub mod Words
+pub mod Arguments
 pub mod Run
 pub mod Bulk
 pub mod Tally

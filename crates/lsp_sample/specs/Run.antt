@@ -17,13 +17,13 @@ use Rattle.lsp_server.specs.Served as server
 use Rattle.lsp_server.specs.Served.{CallBytes, ServedView}
 use Rattle.lsp_sample.specs.declared.sample.Sample.{Sample}
 use Rattle.lsp_sample.specs.declared.command.Waiting.{Waiting}
-use Rattle.lsp_sample.specs.declared.words.Setting.{Setting}
-use Rattle.lsp_sample.specs.declared.words.MadeUp.{MadeUp}
-use Rattle.lsp_sample.specs.declared.words.Form.{Form}
-use Rattle.lsp_sample.specs.declared.words.Form.TheVariants.{Serve, Bulk}
+use Rattle.lsp_sample.specs.declared.arguments.Setting.{Setting}
+use Rattle.lsp_sample.specs.declared.arguments.MadeUp.{MadeUp}
+use Rattle.lsp_sample.specs.declared.arguments.Form.{Form}
+use Rattle.lsp_sample.specs.declared.arguments.Form.TheVariants.{Serve, Bulk}
 use Rattle.lsp_sample.specs.Calls.{CallData}
 use Rattle.lsp_sample.specs.Sample.{sample_semantics}
-use Rattle.lsp_sample.specs.Words.{asked}
+use Rattle.lsp_sample.specs.Arguments.{asked}
 
 abbrev pub sample : Sample
 sample = record {}
@@ -101,8 +101,8 @@ OfMadeUp P (Bulk session) = P session
 
 -- the arguments are a form of serving, over a source that tells its bytes: this holds of their setting and these bytes
 abbrev pub WhereTold : List (String Global) → Option (List ℕ) → (Setting → List ℕ → Type 0) → Type 0
-WhereTold words left P = IfSome (asked words) (OfServing left P)
+WhereTold arguments left P = IfSome (asked arguments) (OfServing left P)
 
 -- the arguments are those of a made-up session, of which this holds
 abbrev pub WhereMadeUp : List (String Global) → (MadeUp → Type 0) → Type 0
-WhereMadeUp words P = IfSome (asked words) (OfMadeUp P)
+WhereMadeUp arguments P = IfSome (asked arguments) (OfMadeUp P)

@@ -7,9 +7,9 @@ ghost use Rattle.lsp_frame.specs.Frames.{framed};
 ghost use Rattle.lsp_server.specs.SourceSink.{CountRose, IsFlushed};
 ghost use Rattle.lsp_sample.specs.Bulk.{next_drawn, body_of, bodies, echo as echo_lem, wait as wait_lem, unknown_method as unknown_method_lem, unknown_command as unknown_command_lem, shutdown as shutdown_lem, generated, read_of, is_reply, is_error, is_own, summary as summary_lem, IsSummary, WroteSummary, WroteSome};
 
+use crate::arguments::{DEFAULT, MadeUp};
 use crate::line::write_line;
 use crate::run::{Status, serve};
-use crate::words::{DEFAULT, MadeUp};
 use lsp_frame::{Decoded, LanguageServerCodec};
 use lsp_rpc::{Message, NoMemory};
 use lsp_server::{NeverSink, NeverSource, Sink};
@@ -23,7 +23,7 @@ const INITIALIZED: &str = "{\"jsonrpc\":\"2.0\",\"method\":\"initialized\",\"par
 const EXIT: &str = "{\"jsonrpc\":\"2.0\",\"method\":\"exit\"}";
 
 /// How many bytes of the session are read at a time.
-const PIECE: usize = 4096;
+const READ_SIZE: usize = 4096;
 
 /// Serves the session in memory, writes its summary, and answers the exit status.
 pub(crate) fn bulk<O: Sink>(alloc: Global, session: MadeUp, sink: &mut O) -> u8
@@ -48,7 +48,7 @@ fn served_summary(alloc: Global, session: MadeUp) -> Result<String, NoMemory>
     ensures { IfOk result (λ line. IsSummary session (string_bytes line)) }
 {
     let input = generate(alloc, session)?;
-    let mut source = NeverSource::new(input, PIECE);
+    let mut source = NeverSource::new(input, READ_SIZE);
     let mut output = NeverSink::new(alloc);
     if serve(alloc, DEFAULT, &mut source, &mut output) > 1 {
         return Err(NoMemory);

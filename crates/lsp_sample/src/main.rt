@@ -1,6 +1,7 @@
 //! A small language server, served over standard input and output.
 #![tactic(auto)]
 
+mod arguments;
 mod bulk;
 mod command;
 mod line;
@@ -10,8 +11,8 @@ mod run;
 mod sample;
 #[cfg(test)]
 mod tests;
-mod words;
 
+pub use arguments::{Form, MOST, MadeUp, Setting};
 pub use command::{Command, Waiting};
 use lsp_server::{ReadSource, Sink, WriteSink};
 pub use run::{Status, run};
@@ -21,20 +22,19 @@ use std::io::{BufWriter, ErrorKind};
 use std::process::ExitCode;
 use std::rt::Env;
 use std::{env, io};
-pub use words::{Form, MOST, MadeUp, Setting};
 
 /// The program's arguments, without its own name.
-fn arguments(rt: &(impl Env + Alloc<A = Global>)) -> io::Result<Vec<String>> {
-    let mut words = Vec::new(rt.alloc());
-    for word in env::args(rt)?.skip(1) {
-        words.push(word)?;
+fn program_arguments(rt: &(impl Env + Alloc<A = Global>)) -> io::Result<Vec<String>> {
+    let mut arguments = Vec::new(rt.alloc());
+    for argument in env::args(rt)?.skip(1) {
+        arguments.push(argument)?;
     }
-    Ok(words)
+    Ok(arguments)
 }
 
 fn main(rt: HostRuntime) -> ExitCode {
-    let words = match arguments(&rt) {
-        Ok(words) => words,
+    let arguments = match program_arguments(&rt) {
+        Ok(arguments) => arguments,
         // An argument that isn't UTF-8 is none of the program's.
         Err(error) if error.kind() == ErrorKind::InvalidData => {
             return ExitCode::from(Status::Usage as u8);
@@ -46,9 +46,10 @@ fn main(rt: HostRuntime) -> ExitCode {
     };
     let mut source = ReadSource::new(rt.stdin());
     let mut sink = WriteSink::new(output);
-    let status = run(rt.alloc(), &words, &mut source, &mut sink);
+    let status = run(rt.alloc(), &arguments, &mut source, &mut sink);
 
-    // After a failure some of what was written may still wait here; nothing can be told of a second one.
+    // After a failure some of what was written may still wait here; nothing can be told of a second
+    // one.
     let _ = sink.flush();
     ExitCode::from(status)
 }

@@ -1,16 +1,16 @@
-// The program: what its words ask for, and how it ends.
+// The program: what its arguments ask for, and how it ends.
 ghost use Rattle.std.specs.Prelude.{◌≡◌, ◌≢◌, ℕ, ◌≤◌, ◌<◌, ◌⊎◌, ◌↔◌, ◌+◌, ◌-◌, ◌^◌, None, length, IfSome};
 ghost use Rattle.lsp_server.specs.SourceSink.{CountRose, IsFlushed};
 ghost use Rattle.lsp_desk.specs.Meaning.{IsOpening};
 ghost use Rattle.lsp_desk.specs.Plain.{plain_meaning};
 ghost use Rattle.lsp_server.specs.Served.{call_bytes};
 ghost use Rattle.lsp_server.specs.ServerView.{server_desk, setting as setting_lem};
-ghost use Rattle.lsp_sample.specs.Words.{asked};
+ghost use Rattle.lsp_sample.specs.Arguments.{asked};
 ghost use Rattle.lsp_sample.specs.Bulk.{WroteSummary, WroteSome};
 ghost use Rattle.lsp_sample.specs.Run.{sample, server_setting, status_at as status_at_lem, status_of as status_of_lem, Served as SampleServed, WhereTold, WhereMadeUp, IsShutDown, IsNotShutDown, WroteTold, WrotePart};
 
+use crate::arguments::{Form, read_arguments};
 use crate::bulk::bulk;
-use crate::words::{Form, read_words};
 use crate::{Sample, Setting};
 use lsp_desk::{ClientSocket, PlainDesk};
 use lsp_server::{ServeError, Server, Sink, Source};
@@ -41,30 +41,30 @@ pub enum Status {
 
 /// Runs the program over a source and a sink, and answers its exit status.
 ///
-/// With no arguments, or with `serve`, it serves a [`Sample`] to the end of input or the first `exit`: at most
-/// 4 calls are polled at a time, in 8 rounds after each message. `serve MAX ROUNDS` sets these two
-/// numbers. `bulk SEED COUNT` reads nothing: it serves a made-up session of COUNT messages in memory, as
-/// `serve` does, and writes one line that sums up what the server wrote. With other arguments nothing is
-/// read or written.
+/// With no arguments, or with `serve`, it serves a [`Sample`] to the end of input or the first
+/// `exit`: at most 4 calls are polled at a time, in 8 rounds after each message. `serve MAX ROUNDS`
+/// sets these two numbers. `bulk SEED COUNT` reads nothing: it serves a made-up session of COUNT
+/// messages in memory, as `serve` does, and writes one line that sums up what the server wrote.
+/// With other arguments nothing is read or written.
 pub fn run<I: Source, O: Sink>(
     alloc: Global,
-    words: &Vec<String>,
+    arguments: &Vec<String>,
     source: &mut I,
     sink: &mut O,
 ) -> u8
     ensures known { result ≤ 6 }
 
     // The arguments.
-    ensures usage { (result ≡ 2) ↔ (asked words.now.items ≡ None) }
-    ensures untouched { asked words.now.items ≡ None → (source.new ≡ source.old)
+    ensures usage { (result ≡ 2) ↔ (asked arguments.now.items ≡ None) }
+    ensures untouched { asked arguments.now.items ≡ None → (source.new ≡ source.old)
         × (sink.new ≡ sink.old) }
 
     // What is written is a session over all the source's bytes.
-    ensures done { result ≡ 0 → WhereTold words.now.items (I.left source.old) (λ setting bytes.
+    ensures done { result ≡ 0 → WhereTold arguments.now.items (I.left source.old) (λ setting bytes.
         SampleServed setting (call_bytes bytes (I.left source.new) (O.taken sink.old)
         (O.taken sink.new)) IsShutDown) }
     ensures unfinished { result ≡ 1
-        → WhereTold words.now.items (I.left source.old) (λ setting bytes.
+        → WhereTold arguments.now.items (I.left source.old) (λ setting bytes.
         SampleServed setting (call_bytes bytes (I.left source.new) (O.taken sink.old)
         (O.taken sink.new)) IsNotShutDown) }
 
@@ -82,8 +82,8 @@ pub fn run<I: Source, O: Sink>(
     ensures read_told { I.faults source.old < I.faults source.new → result ≡ 3 }
     ensures write_told { O.faults sink.old < O.faults sink.new → result ≡ 4 }
 
-    // So with no failure, and with fewer bytes than reads, only memory may be wanting.
-    ensures complete { WhereTold words.now.items (I.left source.old)
+    // So with no failure, and with fewer bytes than reads, only `NoMemory` may come.
+    ensures complete { WhereTold arguments.now.items (I.left source.old)
         (λ _ bytes. length bytes < 2 ^ 64 - 1
         → ¬ CountRose (I.faults source.old) (I.faults source.new)
         → ¬ CountRose (O.faults sink.old) (O.faults sink.new)
@@ -91,27 +91,27 @@ pub fn run<I: Source, O: Sink>(
 
     // What was written by then.
     ensures exact { (result ≡ 3) ⊎ (result ≡ 5)
-        → WhereTold words.now.items (I.left source.old) (λ setting bytes.
+        → WhereTold arguments.now.items (I.left source.old) (λ setting bytes.
         WroteTold setting (call_bytes bytes (I.left source.new) (O.taken sink.old)
         (O.taken sink.new))) }
-    ensures part { 3 ≤ result → WhereTold words.now.items (I.left source.old) (λ setting bytes.
+    ensures part { 3 ≤ result → WhereTold arguments.now.items (I.left source.old) (λ setting bytes.
         WrotePart setting (call_bytes bytes (I.left source.new) (O.taken sink.old)
         (O.taken sink.new))) }
 
     // A made-up session is served in memory, and its summary is written.
     ensures bulk { result ≡ 0
-        → WhereMadeUp words.now.items (λ session. WroteSummary session (O.taken sink.old)
+        → WhereMadeUp arguments.now.items (λ session. WroteSummary session (O.taken sink.old)
         (O.taken sink.new)) }
     ensures bulk_part { 3 ≤ result
-        → WhereMadeUp words.now.items (λ session. WroteSome session (O.taken sink.old)
+        → WhereMadeUp arguments.now.items (λ session. WroteSome session (O.taken sink.old)
         (O.taken sink.new)) }
-    ensures bulk_known { WhereMadeUp words.now.items (λ _. (result ≡ 0) ⊎ (result ≡ 4)
+    ensures bulk_known { WhereMadeUp arguments.now.items (λ _. (result ≡ 0) ⊎ (result ≡ 4)
         ⊎ (result ≡ 6)) }
-    ensures bulk_unread { WhereMadeUp words.now.items (λ _. source.new ≡ source.old) }
-    ensures bulk_complete { WhereMadeUp words.now.items (λ _. ¬ CountRose (O.faults sink.old)
+    ensures bulk_unread { WhereMadeUp arguments.now.items (λ _. source.new ≡ source.old) }
+    ensures bulk_complete { WhereMadeUp arguments.now.items (λ _. ¬ CountRose (O.faults sink.old)
         (O.faults sink.new) → (result ≡ 0) ⊎ (result ≡ 6)) }
 {
-    match read_words(words) {
+    match read_arguments(arguments) {
         Some(Form::Serve(setting)) => serve(alloc, setting, source, sink),
         Some(Form::Bulk(session)) => bulk(alloc, session, sink),
         None => Status::Usage as u8,

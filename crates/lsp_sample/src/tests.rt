@@ -306,8 +306,8 @@ const STRETCHES: [(&str, &[u8], &[u8], u8); 3] = [
     ),
 ];
 
-/// Words that are none of the program's forms.
-const OTHER_WORDS: [&[&str]; 12] = [
+/// Arguments that are none of the program's forms.
+const OTHER_ARGUMENTS: [&[&str]; 12] = [
     &["serve", "0", "8"],
     &["serve", "4", "0"],
     &["serve", "4"],
@@ -351,12 +351,12 @@ fn answers_framed(
     Ok(frames)
 }
 
-fn words_of(alloc: Global, texts: &[&str]) -> Result<Vec<String>, AllocError> {
-    let mut words = Vec::new(alloc);
+fn arguments_of(alloc: Global, texts: &[&str]) -> Result<Vec<String>, AllocError> {
+    let mut arguments = Vec::new(alloc);
     for text in texts {
-        words.push(String::from_str(alloc, text)?)?;
+        arguments.push(String::from_str(alloc, text)?)?;
     }
-    Ok(words)
+    Ok(arguments)
 }
 
 fn copied(alloc: Global, bytes: &[u8]) -> Result<Vec<u8>, AllocError> {
@@ -368,13 +368,13 @@ fn copied(alloc: Global, bytes: &[u8]) -> Result<Vec<u8>, AllocError> {
 #[test]
 fn sessions(rt: HostRuntime) -> Result<(), Fail> {
     let alloc = rt.alloc();
-    for (name, words, sent, answers, status) in SESSIONS {
+    for (name, arguments, sent, answers, status) in SESSIONS {
         let want = answers_framed(&rt, alloc, answers)?;
-        let words = words_of(alloc, words)?;
+        let arguments = arguments_of(alloc, arguments)?;
         let mut source = NeverSource::new(all_framed(alloc, sent)?, 4096);
         let mut sink = NeverSink::new(alloc);
         assert_eq!(rt;
-            run(alloc, &words, &mut source, &mut sink),
+            run(alloc, &arguments, &mut source, &mut sink),
             status,
             "{name}"
         );
@@ -386,13 +386,13 @@ fn sessions(rt: HostRuntime) -> Result<(), Fail> {
 #[test]
 fn stretches(rt: HostRuntime) -> Result<(), Fail> {
     let alloc = rt.alloc();
-    let words = words_of(alloc, &["serve"])?;
+    let arguments = arguments_of(alloc, &["serve"])?;
     for (name, sent, want, status) in STRETCHES {
         for piece in [1, 7, 4096] {
             let mut source = NeverSource::new(copied(alloc, sent)?, piece);
             let mut sink = NeverSink::new(alloc);
             assert_eq!(rt;
-                run(alloc, &words, &mut source, &mut sink),
+                run(alloc, &arguments, &mut source, &mut sink),
                 status,
                 "{name}"
             );
@@ -403,13 +403,13 @@ fn stretches(rt: HostRuntime) -> Result<(), Fail> {
 }
 
 #[test]
-fn other_words(rt: HostRuntime) -> Result<(), Fail> {
+fn other_arguments(rt: HostRuntime) -> Result<(), Fail> {
     let alloc = rt.alloc();
-    for texts in OTHER_WORDS {
-        let words = words_of(alloc, texts)?;
+    for texts in OTHER_ARGUMENTS {
+        let arguments = arguments_of(alloc, texts)?;
         let mut source = NeverSource::new(all_framed(alloc, &[INITIALIZE])?, 4096);
         let mut sink = NeverSink::new(alloc);
-        assert_eq!(rt; run(alloc, &words, &mut source, &mut sink), 2);
+        assert_eq!(rt; run(alloc, &arguments, &mut source, &mut sink), 2);
         assert!(rt; sink.bytes().is_empty());
     }
     Ok(())
@@ -418,32 +418,32 @@ fn other_words(rt: HostRuntime) -> Result<(), Fail> {
 #[test]
 fn failing_reads_and_writes(rt: HostRuntime) -> Result<(), Fail> {
     let alloc = rt.alloc();
-    let words = Vec::new(alloc);
+    let arguments = Vec::new(alloc);
     let answer = all_framed(alloc, &[INITIALIZED])?;
 
     // The second read fails, after the whole frame.
     let mut source = MemorySource::new(all_framed(alloc, &[INITIALIZE])?, 97, vec![in alloc; 2]?);
     let mut sink = MemorySink::new(alloc, Vec::new(alloc));
-    assert_eq!(rt; run(alloc, &words, &mut source, &mut sink), 3);
+    assert_eq!(rt; run(alloc, &arguments, &mut source, &mut sink), 3);
     assert!(rt; sink.bytes() == answer.as_slice());
 
     // The first write fails.
     let mut source = MemorySource::new(all_framed(alloc, &[INITIALIZE])?, 97, Vec::new(alloc));
     let mut sink = MemorySink::new(alloc, vec![in alloc; 1]?);
-    assert_eq!(rt; run(alloc, &words, &mut source, &mut sink), 4);
+    assert_eq!(rt; run(alloc, &arguments, &mut source, &mut sink), 4);
     assert!(rt; sink.bytes().is_empty());
 
     // The first flush fails, after the first write.
     let mut source = MemorySource::new(all_framed(alloc, &[INITIALIZE])?, 97, Vec::new(alloc));
     let mut sink = MemorySink::new(alloc, vec![in alloc; 2]?);
-    assert_eq!(rt; run(alloc, &words, &mut source, &mut sink), 4);
+    assert_eq!(rt; run(alloc, &arguments, &mut source, &mut sink), 4);
     assert!(rt; sink.bytes() == answer.as_slice());
     Ok(())
 }
 
-/// A session with limits of its own, and its name: the most calls that are polled, the most that wait,
-/// the rounds after each message, the reads that are granted, the bodies sent, the bodies of the answers, and the ids
-/// that are left unanswered.
+/// A session with limits of its own, and its name: the most calls that are polled, the most that
+/// wait, the rounds after each message, the reads that are granted, the bodies sent, the bodies of
+/// the answers, and the ids that are left unanswered.
 #[derive(Clone, Copy)]
 struct Limited {
     name: &'static str,
@@ -624,12 +624,12 @@ fn texts_of_errors(rt: HostRuntime) -> Result<(), Fail> {
     Ok(())
 }
 
-// The line that `bulk` writes for these words, without a read.
+// The line that `bulk` writes for these arguments, without a read.
 fn line_of(rt: &impl Abort, alloc: Global, texts: &[&str]) -> Result<Vec<u8>, Fail> {
-    let words = words_of(alloc, texts)?;
+    let arguments = arguments_of(alloc, texts)?;
     let mut source = MemorySource::new(Vec::new(alloc), 1, vec![in alloc; 1]?);
     let mut sink = NeverSink::new(alloc);
-    assert_eq!(rt; run(alloc, &words, &mut source, &mut sink), 0);
+    assert_eq!(rt; run(alloc, &arguments, &mut source, &mut sink), 0);
     Ok(copied(alloc, sink.bytes())?)
 }
 

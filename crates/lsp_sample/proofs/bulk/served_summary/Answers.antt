@@ -4,7 +4,7 @@ use Rattle.std.specs.Prelude.{string_bytes}
 use Rattle.lsp_server.specs.MemorySource.{never_left}
 use Rattle.lsp_server.specs.MemorySink.{never_taken}
 use Rattle.lsp_server.specs.Served.{call_bytes}
-use Rattle.lsp_sample.specs.Words.{default_setting}
+use Rattle.lsp_sample.specs.Arguments.{default_setting}
 use Rattle.lsp_sample.proofs.BulkLemmas.{served_any, written_as, summary_as}
 use Rattle.lsp_sample.proofs.bulk.served_summary.Goals as goal
 

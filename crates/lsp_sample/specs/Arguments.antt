@@ -3,21 +3,21 @@ use Rattle.std.specs.Prelude.{ℕ, ◌^◌, ◌≤◌, ◌&&◌, List, [], ◌�
 use Rattle.std.specs.declared.alloc.Global.{Global}
 use Rattle.std.specs.Str.{all_ascii_digits}
 use Rattle.std.specs.Str.Parse.{digits_value}
-use Rattle.lsp_sample.specs.declared.words.Setting.{Setting}
-use Rattle.lsp_sample.specs.declared.words.MadeUp.{MadeUp}
-use Rattle.lsp_sample.specs.declared.words.Form.{Form}
-use Rattle.lsp_sample.specs.declared.words.Form.TheVariants.{Serve, Bulk}
+use Rattle.lsp_sample.specs.declared.arguments.Setting.{Setting}
+use Rattle.lsp_sample.specs.declared.arguments.MadeUp.{MadeUp}
+use Rattle.lsp_sample.specs.declared.arguments.Form.{Form}
+use Rattle.lsp_sample.specs.declared.arguments.Form.TheVariants.{Serve, Bulk}
 
 -- decimal digits alone, at least one, of a number within 64 bits
 abbrev pub number_of : List ℕ → Option ℕ
-number_of word = if (nat_lt 0 (length word) && all_ascii_digits word) && nat_lt (digits_value 10 word) (2 ^ 64) then Some (digits_value 10 word) else None
+number_of argument = if (nat_lt 0 (length argument) && all_ascii_digits argument) && nat_lt (digits_value 10 argument) (2 ^ 64) then Some (digits_value 10 argument) else None
 
 -- a number that is at least 1
 abbrev pub from_one : ℕ → Option ℕ
 from_one n = if nat_lt 0 n then Some n else None
 
 abbrev pub positive_of : List ℕ → Option ℕ
-positive_of word = option_and_then from_one (number_of word)
+positive_of argument = option_and_then from_one (number_of argument)
 
 abbrev pub default_setting : Setting
 default_setting = record { max = 4; rounds = 8 }
@@ -28,7 +28,7 @@ numbers_of max rounds = option_and_then (λ m. option_map (λ r. record { max = 
 
 -- a number from 1 to 100,000
 abbrev pub count_of : List ℕ → Option ℕ
-count_of word = option_and_then (λ n. if nat_lt 100000 n then None else Some n) (positive_of word)
+count_of argument = option_and_then (λ n. if nat_lt 100000 n then None else Some n) (positive_of argument)
 
 -- `SEED COUNT`
 abbrev pub session_of : List ℕ → List ℕ → Option MadeUp
@@ -37,16 +37,16 @@ session_of seed count = option_and_then (λ s. option_map (λ c. record { seed =
 -- none, `serve`, `serve MAX ROUNDS`, or `bulk SEED COUNT`
 abbrev pub form_of : List (List ℕ) → Option Form
 form_of [] = Some (Serve default_setting)
-form_of (word ∷ []) = if bytes_eq word (codes "serve") then Some (Serve default_setting) else None
-form_of (word ∷ first ∷ []) = None
-form_of (word ∷ first ∷ second ∷ []) =
-    if bytes_eq word (codes "serve") then option_map Serve (numbers_of first second)
-    else (if bytes_eq word (codes "bulk") then option_map Bulk (session_of first second) else None)
-form_of (word ∷ first ∷ second ∷ more ∷ words) = None
+form_of (argument ∷ []) = if bytes_eq argument (codes "serve") then Some (Serve default_setting) else None
+form_of (argument ∷ first ∷ []) = None
+form_of (argument ∷ first ∷ second ∷ []) =
+    if bytes_eq argument (codes "serve") then option_map Serve (numbers_of first second)
+    else (if bytes_eq argument (codes "bulk") then option_map Bulk (session_of first second) else None)
+form_of (argument ∷ first ∷ second ∷ more ∷ arguments) = None
 
 -- what the arguments ask for
 abbrev pub asked : List (String Global) → Option Form
-asked words = form_of (map string_bytes words)
+asked arguments = form_of (map string_bytes arguments)
 
 -- the numbers are within their bounds
 abbrev pub IsForm : Form → Type 0

@@ -1,6 +1,6 @@
 // What the program's arguments ask for.
 ghost use Rattle.std.specs.Prelude.{◌≡◌, ◌≤◌, IfSome};
-ghost use Rattle.lsp_sample.specs.Words.{number_of, positive_of, count_of, numbers_of, session_of, asked, IsForm};
+ghost use Rattle.lsp_sample.specs.Arguments.{number_of, positive_of, count_of, numbers_of, session_of, asked, IsForm};
 
 /// How a session is served.
 #[derive(Clone, Copy, Debug, PartialEq, Eq)]
@@ -34,19 +34,19 @@ pub(crate) const DEFAULT: Setting = Setting { max: 4, rounds: 8 };
 /// The most messages of a made-up session.
 pub const MOST: u64 = 100_000;
 
-/// What the arguments ask for: none, `serve`, `serve MAX ROUNDS`, or `bulk SEED COUNT`, where all are
-/// decimal numbers, MAX and ROUNDS of at least 1 and COUNT from 1 to [`MOST`].
-pub(crate) fn read_words(words: &Vec<String>) -> Option<Form>
-    ensures value { result ≡ asked words.now.items }
+/// What the arguments ask for: none, `serve`, `serve MAX ROUNDS`, or `bulk SEED COUNT`, where all
+/// are decimal numbers, MAX and ROUNDS of at least 1 and COUNT from 1 to [`MOST`].
+pub(crate) fn read_arguments(arguments: &Vec<String>) -> Option<Form>
+    ensures value { result ≡ asked arguments.now.items }
     ensures form { IfSome result IsForm }
 {
-    match words.as_slice() {
+    match arguments.as_slice() {
         [] => Some(Form::Serve(DEFAULT)),
-        [word] if word.as_str() == "serve" => Some(Form::Serve(DEFAULT)),
-        [word, max, rounds] if word.as_str() == "serve" => {
+        [argument] if argument.as_str() == "serve" => Some(Form::Serve(DEFAULT)),
+        [argument, max, rounds] if argument.as_str() == "serve" => {
             Some(Form::Serve(numbers(max.as_str(), rounds.as_str())?))
         }
-        [word, seed, count] if word.as_str() == "bulk" => {
+        [argument, seed, count] if argument.as_str() == "bulk" => {
             Some(Form::Bulk(session(seed.as_str(), count.as_str())?))
         }
         _ => None,
@@ -76,33 +76,33 @@ fn session(seed: &str, count: &str) -> Option<MadeUp>
     }
 }
 
-fn few(word: &str) -> Option<u64>
-    ensures value { result ≡ count_of word.now }
+fn few(argument: &str) -> Option<u64>
+    ensures value { result ≡ count_of argument.now }
     ensures few { IfSome result (λ n. n ≤ MOST) }
 {
-    match positive(word) {
+    match positive(argument) {
         Some(n) if n <= MOST => Some(n),
         _ => None,
     }
 }
 
-fn positive(word: &str) -> Option<u64>
-    ensures value { result ≡ positive_of word.now }
+fn positive(argument: &str) -> Option<u64>
+    ensures value { result ≡ positive_of argument.now }
     ensures positive { IfSome result (λ n. 1 ≤ n) }
 {
-    match number(word) {
+    match number(argument) {
         Some(n) if n > 0 => Some(n),
         _ => None,
     }
 }
 
 // Std's reader takes a plus sign too.
-fn number(word: &str) -> Option<u64>
-    ensures { result ≡ number_of word.now }
+fn number(argument: &str) -> Option<u64>
+    ensures { result ≡ number_of argument.now }
 {
-    if word.as_bytes().starts_with(b"+") {
+    if argument.as_bytes().starts_with(b"+") {
         None
     } else {
-        word.parse::<u64>().ok()
+        argument.parse::<u64>().ok()
     }
 }
