@@ -5,13 +5,15 @@ use Rattle.std.specs.Io.KnownBytes.{Consumes, Appends, Keeps}
 use Rattle.std.proofs.lemmas.List.{append-nil}
 use Rattle.lsp_frame.specs.Codec.{Item, At, start, more, items, items_at, told, told_at, default_limits}
 use Rattle.lsp_server.specs.Items.{Decodes}
+use Rattle.lsp_server.specs.SourceSink.{IsFlushed}
 use Rattle.lsp_server.specs.Served.{call_bytes}
+use Rattle.lsp_server.specs.Reads.{moment}
 use Rattle.lsp_server.specs.Written.{IsPrefixOf}
 use Rattle.lsp_server.proofs.KnownLemmas.{appends_none, appends_more, consumes_none, consumes_more, consumes_kept, what_is_left, all_read}
 use Rattle.lsp_server.proofs.CodecLemmas.{decodes_nothing, decodes_more, decodes_fed, told_now, items_now, more_more}
 use Rattle.lsp_proxy.specs.Proxy.{opening_state}
 use Rattle.lsp_proxy.specs.Law.{sent_over, state_after}
-use Rattle.lsp_relay.specs.Relay.{events, count_dropped, counted, sent_frames, relay_frames, IsRelayed, WroteTold, WrotePart, Place, opening_place, Took, TookTold}
+use Rattle.lsp_relay.specs.Relay.{events, count_dropped, counted, sent_frames, relay_frames, IsRelayed, WroteTold, AllPassed, WrotePart, Place, opening_place, Took, TookTold}
 use Rattle.lsp_relay.proofs.ApartLemmas.{keeps_apart}
 use Rattle.lsp_relay.proofs.EventLemmas.{events-append, over_both}
 use Rattle.lsp_relay.proofs.TookLemmas.{took_none, took_more, took_after}
@@ -112,6 +114,10 @@ module _ (editors : ℕ) (bytes : List ℕ) (left1 taken0 taken1 : Option (List 
     gives = going.gives;
     writes = subst (λ l. Appends taken0 taken1 l) (sym frames_told) going.writes;
   }
+
+  -- as the next read is made
+  pub passed : (left_then : Option (List ℕ)) (flushed0 flushed1 : Option ℕ) → (IsFlushed taken0 flushed0 → IsFlushed taken1 flushed1) → AllPassed editors bytes (moment left_then taken0 flushed0) (moment left1 taken1 flushed1)
+  passed left_then flushed0 flushed1 flushed = record { wrote = exact; flushed = flushed }
 
   -- the frames over items that go on
   frames_on : (ys : List Item) → relay_frames editors (going.given ++ ys) ≡ going.written ++ sent_frames (sent_over (events editors ys) place.state)

@@ -3,4 +3,4 @@ pub mod Notes
 pub mod Floats
 pub mod Relay
 pub mod Shown
-pub mod Words
+pub mod Arguments

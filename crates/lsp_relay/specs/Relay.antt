@@ -5,7 +5,9 @@ use Rattle.std.specs.Io.KnownBytes.{Consumes, Appends}
 use Rattle.lsp_rpc.specs.Message.{IdData}
 use Rattle.lsp_frame.specs.Codec.{Item, At, default_limits, frames, items, told}
 use Rattle.lsp_server.specs.Items.{Decodes}
-use Rattle.lsp_server.specs.Served.{CallBytes}
+use Rattle.lsp_server.specs.SourceSink.{IsFlushed}
+use Rattle.lsp_server.specs.Served.{CallBytes, call_bytes}
+use Rattle.lsp_server.specs.Reads.{Moment}
 use Rattle.lsp_server.specs.Written.{IsPrefixOf}
 use Rattle.lsp_proxy.specs.Proxy.{State, Sent, opening_state}
 use Rattle.lsp_proxy.specs.Law.{Event, react, sent_over, state_after, request_ids, AreDistinct, responses_to, requests_of}
@@ -63,6 +65,12 @@ pub record WroteTold (editors : ℕ) (call : CallBytes) : Type 0 where
   pub read : List ℕ
   pub gives : Consumes (Some call.bytes) call.left read
   pub writes : Appends call.taken call.taken_after (relay_frames editors (told default_limits read))
+
+-- as a read was made, what was written was the frames for the items told by the bytes read until then, and all of
+-- it was flushed, if all was at the start
+pub record AllPassed (editors : ℕ) (bytes : List ℕ) (start : Moment) (m : Moment) : Type 0 where
+  pub wrote : WroteTold editors (call_bytes bytes m.left start.taken m.taken)
+  pub flushed : IsFlushed start.taken start.flushed → IsFlushed m.taken m.flushed
 
 -- what was written begins the frames for all items, and holds them whole for those that are told by the bytes
 -- read but for a last piece of at most so many bytes

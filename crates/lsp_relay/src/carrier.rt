@@ -163,6 +163,7 @@ impl Carrier {
             × Appends (O.taken sink.old) (O.taken sink.new) written) }
         ensures flushed { OnOk result (IsFlushed (O.taken sink.old) (O.flushed sink.old)
             → IsFlushed (O.taken sink.new) (O.flushed sink.new)) }
+        ensures beside { O.beside sink.new ≡ O.beside sink.old }
         ensures count { O.faults sink.old ≤ O.faults sink.new }
         ensures write { IsErrOf result ServeError.WriteFault
             → CountRose (O.faults sink.old) (O.faults sink.new) }

@@ -13,5 +13,5 @@ mod run;
 mod value;
 mod write;
 
-pub use reads::{Relayed, relay};
+pub use reads::{Relayed, relay, relay_over};
 pub use run::{Status, run_proxy};

@@ -3,7 +3,7 @@ ghost use Rattle.std.specs.Prelude.{◌≡◌, ◌≢◌, ℕ, ◌≤◌, ◌<�
 ghost use Rattle.lsp_server.specs.SourceSink.{CountRose, IsFlushed};
 ghost use Rattle.lsp_server.specs.Served.{call_bytes};
 ghost use Rattle.lsp_relay.specs.Relay.{WroteTold, WrotePart};
-ghost use Rattle.lsp_relay.specs.Words.{asked, editors_of, number_of, status_of as status_of_lem, HasRelayed, WhereTold};
+ghost use Rattle.lsp_relay.specs.Arguments.{asked, editors_of, number_of, status_of as status_of_lem, HasRelayed, WhereTold};
 
 use crate::reads::relay;
 use lsp_server::{ServeError, Sink, Source};
@@ -28,24 +28,24 @@ pub enum Status {
 
 /// Runs the program over a source and a sink, and answers its exit status.
 ///
-/// Its one word is the number of editors, from 1 to 64 in decimal digits alone. With other
+/// Its one argument is the number of editors, from 1 to 64 in decimal digits alone. With other
 /// arguments nothing is read or written.
 pub fn run_proxy<I: Source, O: Sink>(
     alloc: Global,
-    words: &Vec<String>,
+    arguments: &Vec<String>,
     source: &mut I,
     sink: &mut O,
 ) -> u8
     ensures known { (result ≤ 6) × (result ≢ 1) }
 
     // The arguments.
-    ensures usage { (result ≡ 2) ↔ (asked words.now.items ≡ None) }
-    ensures untouched { asked words.now.items ≡ None
+    ensures usage { (result ≡ 2) ↔ (asked arguments.now.items ≡ None) }
+    ensures untouched { asked arguments.now.items ≡ None
         → (source.new ≡ source.old) × (sink.new ≡ sink.old) }
 
     // All the source's bytes were read, and what is written is what the proxy sends for their
     // items.
-    ensures done { result ≡ 0 → WhereTold words.now.items (I.left source.old) (λ editors bytes.
+    ensures done { result ≡ 0 → WhereTold arguments.now.items (I.left source.old) (λ editors bytes.
         HasRelayed editors
         (call_bytes bytes (I.left source.new) (O.taken sink.old) (O.taken sink.new))) }
 
@@ -62,21 +62,21 @@ pub fn run_proxy<I: Source, O: Sink>(
     ensures read_told { I.faults source.old < I.faults source.new → result ≡ 3 }
     ensures write_told { O.faults sink.old < O.faults sink.new → result ≡ 4 }
 
-    // So with no failure, and with fewer bytes than reads, only memory may be wanting.
-    ensures complete { WhereTold words.now.items (I.left source.old) (λ _ bytes.
+    // So with no failure, and with fewer bytes than reads, only `NoMemory` may come.
+    ensures complete { WhereTold arguments.now.items (I.left source.old) (λ _ bytes.
         length bytes < 2 ^ 64 - 1
         → ¬ CountRose (I.faults source.old) (I.faults source.new)
         → ¬ CountRose (O.faults sink.old) (O.faults sink.new) → (result ≡ 0) ⊎ (result ≡ 6)) }
 
     // What was written by then.
     ensures exact { (result ≡ 3) ⊎ (result ≡ 5)
-        → WhereTold words.now.items (I.left source.old) (λ editors bytes. WroteTold editors
+        → WhereTold arguments.now.items (I.left source.old) (λ editors bytes. WroteTold editors
         (call_bytes bytes (I.left source.new) (O.taken sink.old) (O.taken sink.new))) }
     ensures part { 3 ≤ result
-        → WhereTold words.now.items (I.left source.old) (λ editors bytes. WrotePart editors
+        → WhereTold arguments.now.items (I.left source.old) (λ editors bytes. WrotePart editors
         (call_bytes bytes (I.left source.new) (O.taken sink.old) (O.taken sink.new)) 4096) }
 {
-    match read_words(words) {
+    match read_arguments(arguments) {
         Some(editors) => relay_all(alloc, editors, source, sink),
         None => Status::Usage as u8,
     }
@@ -126,34 +126,34 @@ fn status_of(error: ServeError) -> u8
     }
 }
 
-// How many editors the arguments ask for: one word.
-fn read_words(words: &Vec<String>) -> Option<u32>
-    ensures value { result ≡ asked words.now.items }
+// How many editors the arguments ask for: one argument.
+fn read_arguments(arguments: &Vec<String>) -> Option<u32>
+    ensures value { result ≡ asked arguments.now.items }
     ensures some { IfSome result (λ editors. 1 ≤ editors) }
 {
-    match words.as_slice() {
-        [word] => read_word(word.as_str()),
+    match arguments.as_slice() {
+        [argument] => read_argument(argument.as_str()),
         _ => None,
     }
 }
 
-fn read_word(word: &str) -> Option<u32>
-    ensures value { result ≡ editors_of word.now }
+fn read_argument(argument: &str) -> Option<u32>
+    ensures value { result ≡ editors_of argument.now }
     ensures some { IfSome result (λ editors. 1 ≤ editors) }
 {
-    match number(word) {
+    match number(argument) {
         Some(n) if 1 <= n && n <= 64 => Some(n as u32),
         _ => None,
     }
 }
 
 // The number that is written in decimal digits alone. Std's reader takes a plus sign too.
-fn number(word: &str) -> Option<u64>
-    ensures { result ≡ number_of word.now }
+fn number(argument: &str) -> Option<u64>
+    ensures { result ≡ number_of argument.now }
 {
-    if word.as_bytes().starts_with(b"+") {
+    if argument.as_bytes().starts_with(b"+") {
         None
     } else {
-        word.parse::<u64>().ok()
+        argument.parse::<u64>().ok()
     }
 }

@@ -13,6 +13,7 @@ fn write_and_flush<O: Sink>(sink: &mut O, bytes: &[u8]) -> Result<(), Refused>
         × Appends (O.taken sink.old) (O.taken sink.new) written) }
     ensures flushed { OnOk result (IsFlushed (O.taken sink.old) (O.flushed sink.old)
         → IsFlushed (O.taken sink.new) (O.flushed sink.new)) }
+    ensures beside { O.beside sink.new ≡ O.beside sink.old }
     ensures count { O.faults sink.old ≤ O.faults sink.new }
     ensures cause { IsErrOf result Refused.Failed
         → CountRose (O.faults sink.old) (O.faults sink.new) }
@@ -30,6 +31,7 @@ pub(crate) fn send<O: Sink>(sink: &mut O, bytes: &[u8]) -> Result<(), ServeError
         × Appends (O.taken sink.old) (O.taken sink.new) written) }
     ensures flushed { OnOk result (IsFlushed (O.taken sink.old) (O.flushed sink.old)
         → IsFlushed (O.taken sink.new) (O.flushed sink.new)) }
+    ensures beside { O.beside sink.new ≡ O.beside sink.old }
     ensures count { O.faults sink.old ≤ O.faults sink.new }
     ensures write { IsErrOf result ServeError.WriteFault
         → CountRose (O.faults sink.old) (O.faults sink.new) }

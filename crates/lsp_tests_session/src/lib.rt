@@ -1,7 +1,8 @@
 //! Tries sessions, the serving of them, and the proxy.
 //!
-//! Only what no clause says: that memory isn't wanting where it is ample, that a reader or a writer of std is called once a
-//! call, texts of errors, and rows that show that the definitions say what is meant.
+//! Only what no clause says: that `NoMemory` isn't answered where memory is ample, that a reader or
+//! a writer of std is called once a call, texts of errors, and rows that show that the definitions
+//! say what is meant.
 #![tactic(auto)]
 
 #[cfg(test)]

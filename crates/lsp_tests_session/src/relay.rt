@@ -1,6 +1,8 @@
 //! What a relay writes, byte for byte.
-use lsp_relay::{Relayed, Status, relay, run_proxy};
-use lsp_server::{MemorySink, MemorySource, NeverSink, NeverSource, ServeError};
+use lsp_relay::{Relayed, Status, relay, relay_over, run_proxy};
+use lsp_server::{
+    MemorySink, MemorySource, MemoryTransport, NeverSink, NeverSource, ReadAt, ServeError,
+};
 use std::alloc::Global;
 use std::test::Fail;
 
@@ -29,10 +31,10 @@ const SENT: &[&str] = &[
     r#"{"jsonrpc":"2.0","method":"proxy/out","params":{"message":{"id":7,"jsonrpc":"2.0","result":"a"},"side":1}}"#,
 ];
 
-fn words_of(alloc: Global, words: &[&str]) -> Result<Vec<String>, Fail> {
+fn arguments_of(alloc: Global, arguments: &[&str]) -> Result<Vec<String>, Fail> {
     let mut all = Vec::new(alloc);
-    for word in words {
-        all.push(String::from_str(alloc, word)?)?;
+    for argument in arguments {
+        all.push(String::from_str(alloc, argument)?)?;
     }
     Ok(all)
 }
@@ -43,9 +45,9 @@ fn two_editors_with_one_id(rt: HostRuntime) -> Result<(), Fail> {
     for piece in [1, 50, 4096] {
         let mut source = NeverSource::new(framed(alloc, ASKED)?, piece);
         let mut sink = NeverSink::new(alloc);
-        let words = words_of(alloc, &["2"])?;
+        let arguments = arguments_of(alloc, &["2"])?;
         assert_eq!(rt;
-            run_proxy(alloc, &words, &mut source, &mut sink),
+            run_proxy(alloc, &arguments, &mut source, &mut sink),
             Status::Done as u8
         );
         assert!(rt; sink.bytes() == framed(alloc, SENT)?.as_slice(), "{piece}");
@@ -67,22 +69,22 @@ const NO_NUMBERS: &[&[&str]] = &[
 ];
 
 #[test]
-fn other_words(rt: HostRuntime) -> Result<(), Fail> {
+fn other_arguments(rt: HostRuntime) -> Result<(), Fail> {
     let alloc = rt.alloc();
-    for words in NO_NUMBERS {
+    for arguments in NO_NUMBERS {
         let mut source = NeverSource::new(framed(alloc, ASKED)?, 4096);
         let mut sink = NeverSink::new(alloc);
-        let words = words_of(alloc, words)?;
-        let status = run_proxy(alloc, &words, &mut source, &mut sink);
+        let arguments = arguments_of(alloc, arguments)?;
+        let status = run_proxy(alloc, &arguments, &mut source, &mut sink);
         assert_eq!(rt; status, Status::Usage as u8);
         assert!(rt; sink.bytes().is_empty());
     }
-    for word in ["1", "64", "064"] {
+    for argument in ["1", "64", "064"] {
         let mut source = NeverSource::new(Vec::new(alloc), 4096);
         let mut sink = NeverSink::new(alloc);
-        let words = words_of(alloc, &[word])?;
-        let status = run_proxy(alloc, &words, &mut source, &mut sink);
-        assert_eq!(rt; status, Status::Done as u8, "{word}");
+        let arguments = arguments_of(alloc, &[argument])?;
+        let status = run_proxy(alloc, &arguments, &mut source, &mut sink);
+        assert_eq!(rt; status, Status::Done as u8, "{argument}");
     }
     Ok(())
 }
@@ -155,7 +157,8 @@ fn values_pass(rt: HostRuntime) -> Result<(), Fail> {
 #[test]
 fn failures(rt: HostRuntime) -> Result<(), Fail> {
     let alloc = rt.alloc();
-    // Reads, and writes with flushes, are numbered from 1. A first read of 200 bytes tells one message.
+    // Reads, and writes with flushes, are numbered from 1. A first read of 200 bytes tells one
+    // message.
     for (failing_read, failing_call, reads, written, error) in [
         (2, 0, 9, 1, ServeError::ReadFault),
         (0, 1, 9, 0, ServeError::WriteFault),
@@ -170,6 +173,60 @@ fn failures(rt: HostRuntime) -> Result<(), Fail> {
         assert!(rt; written <= SENT.len());
         let wanted = framed(alloc, &SENT[..written])?;
         assert!(rt; sink.bytes() == wanted.as_slice(), "{error:?}");
+    }
+    Ok(())
+}
+
+// As each read is made, this many bytes were read before it, and this many taken and flushed.
+struct Reads {
+    piece: usize,
+    made: &'static [(usize, usize)],
+}
+
+// Each of the four frames asked has 128 bytes, and each of the four sent 129.
+const READS: [Reads; 3] = [
+    Reads {
+        piece: 128,
+        made: &[(0, 0), (128, 129), (256, 258), (384, 387), (512, 516)],
+    },
+    Reads {
+        piece: 200,
+        made: &[(0, 0), (200, 129), (400, 387), (512, 516)],
+    },
+    Reads {
+        piece: 4096,
+        made: &[(0, 0), (512, 516)],
+    },
+];
+
+#[test]
+fn messages_are_sent_before_the_next_read(rt: HostRuntime) -> Result<(), Fail> {
+    let alloc = rt.alloc();
+    for row in &READS {
+        if row.piece == 0 {
+            return Err(Fail::new("no piece"));
+        }
+        let mut io = MemoryTransport::new(alloc, framed(alloc, ASKED)?, row.piece);
+        let relayed = relay_over(alloc, 2, &mut io, 1000);
+        let wanted = Relayed {
+            passed: 4,
+            dropped: 0,
+        };
+        assert!(rt; relayed == Ok(wanted), "{relayed:?}");
+        assert!(rt;
+            io.bytes() == framed(alloc, SENT)?.as_slice(),
+            "{}",
+            row.piece
+        );
+        assert_eq!(rt; io.reads().len(), row.made.len(), "{}", row.piece);
+        for (made, (read, taken)) in io.reads().iter().zip(row.made) {
+            let want = ReadAt {
+                read: *read,
+                taken: *taken,
+                flushed: *taken,
+            };
+            assert_eq!(rt; *made, want, "{}", row.piece);
+        }
     }
     Ok(())
 }

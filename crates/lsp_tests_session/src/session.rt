@@ -263,8 +263,8 @@ fn expect(holds: bool) -> Result<(), Fail> {
 
 const MANY: i64 = 400_000;
 
-// So many live ids and waiting calls take about as long each as a few: a walk over all that is held at each of
-// them would not end within a test's time.
+// So many live ids and waiting calls take about as long each as a few: a walk over all that is held
+// at each of them would not end within a test's time.
 #[test]
 fn many_live(rt: HostRuntime) -> Result<(), Fail> {
     let alloc = rt.alloc();

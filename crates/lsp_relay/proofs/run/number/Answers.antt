@@ -4,16 +4,16 @@ use Rattle.std.specs.List.{starts_with}
 use Rattle.std.specs.Str.Parse.{without_leading_plus}
 use Rattle.lsp_frame.specs.Headers.{length_of}
 use Rattle.lsp_frame.proofs.LengthParse.{length_of_parse}
-use Rattle.lsp_relay.specs.Words.{number_of}
+use Rattle.lsp_relay.specs.Arguments.{number_of}
 use Rattle.lsp_relay.proofs.run.number.Goals as goal
 
-no_plus : (word : List ℕ) → starts_with nat_eq word (codes "+") ≡ false → without_leading_plus word ≡ word
+no_plus : (argument : List ℕ) → starts_with nat_eq argument (codes "+") ≡ false → without_leading_plus argument ≡ argument
 no_plus [] h = refl
-no_plus (c ∷ word) h = let is : (c == 43) ≡ false = grind arith in rw is refl
+no_plus (c ∷ argument) h = let is : (c == 43) ≡ false = grind arith in rw is refl
 
-number_unsigned : (word : List ℕ) → starts_with nat_eq word (codes "+") ≡ false → length_of word ≡ number_of word
-number_unsigned word h = rw (no_plus word h) refl
+number_unsigned : (argument : List ℕ) → starts_with nat_eq argument (codes "+") ≡ false → length_of argument ≡ number_of argument
+number_unsigned argument h = rw (no_plus argument h) refl
 
 pub returns-else-starts_with : goal.returns-else-starts_with
 returns-else-starts_with c =
-    c.ok.ensures.value ∙ length_of_parse c.args.word.now c.parse.result c.parse.ensures.value.0 ∙ number_unsigned c.args.word.now (search rules)
+    c.ok.ensures.value ∙ length_of_parse c.args.argument.now c.parse.result c.parse.ensures.value.0 ∙ number_unsigned c.args.argument.now (search rules)

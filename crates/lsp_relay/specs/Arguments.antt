@@ -8,28 +8,28 @@ use Rattle.lsp_server.specs.declared.step.ServeError.{ServeError}
 use Rattle.lsp_server.specs.declared.step.ServeError.TheVariants.{ReadFault, WriteFault, ReadsSpent, NoMemory, DeskSpent}
 use Rattle.lsp_relay.specs.Relay.{IsRelayed}
 
--- the number of a word of decimal digits alone, where it fits 64 bits
+-- the number of a argument of decimal digits alone, where it fits 64 bits
 abbrev pub number_of : List ℕ → Option ℕ
-number_of word =
-    if (nat_lt 0 (length word) && all_ascii_digits word) && nat_lt (digits_value 10 word) (2 ^ 64)
-    then Some (digits_value 10 word) else None
+number_of argument =
+    if (nat_lt 0 (length argument) && all_ascii_digits argument) && nat_lt (digits_value 10 argument) (2 ^ 64)
+    then Some (digits_value 10 argument) else None
 
 -- a number from 1 to 64
 abbrev pub up_to_64 : ℕ → Option ℕ
 up_to_64 n = if nat_le 1 n && nat_le n 64 then Some n else None
 
 abbrev pub editors_of : List ℕ → Option ℕ
-editors_of word = option_and_then up_to_64 (number_of word)
+editors_of argument = option_and_then up_to_64 (number_of argument)
 
--- one such word
+-- one such argument
 abbrev pub editors_in : List (List ℕ) → Option ℕ
 editors_in [] = None
-editors_in (word ∷ []) = editors_of word
-editors_in (word ∷ more ∷ words) = None
+editors_in (argument ∷ []) = editors_of argument
+editors_in (argument ∷ more ∷ arguments) = None
 
 -- how many editors the arguments ask for
 abbrev pub asked : List (String Global) → Option ℕ
-asked words = editors_in (map string_bytes words)
+asked arguments = editors_in (map string_bytes arguments)
 
 -- all bytes were relayed, with some counts
 pub record HasRelayed (editors : ℕ) (call : CallBytes) : Type 0 where
@@ -47,4 +47,4 @@ status_of (DeskSpent n) = 7
 
 -- the arguments ask for editors, over a source that tells its bytes: this holds of their number and these bytes
 abbrev pub WhereTold : List (String Global) → Option (List ℕ) → (ℕ → List ℕ → Type 0) → Type 0
-WhereTold words left P = IfSome (asked words) (λ editors. IfSome left (P editors))
+WhereTold arguments left P = IfSome (asked arguments) (λ editors. IfSome left (P editors))
