@@ -1,9 +1,9 @@
 // A transport in memory.
-ghost use Rattle.std.specs.Prelude.{◌≡◌, ◌<◌, ◌≤◌, ℕ, List, Option, [], Some, IsTrue, IfOk, OnOk, OnErr, length, map, take};
+ghost use Rattle.std.specs.Prelude.{◌≡◌, ◌<◌, ◌≤◌, ℕ, List, Option, [], Some, IsTrue, IfOk, IsOk, OnOk, OnErr, length, map, take};
 ghost use Rattle.std.specs.List.{list_all};
 ghost use Rattle.std.proofs.Common.{ap};
 ghost use Rattle.std.specs.Io.KnownBytes.{Consumes, Keeps};
-ghost use Rattle.lsp_server.specs.SourceSink.{CountRose, EndsAt};
+ghost use Rattle.lsp_server.specs.SourceSink.{CountRose, EndsAt, Flushes};
 ghost use Rattle.lsp_server.specs.Reads.{Moment, moment, Notes};
 ghost use Rattle.lsp_server.specs.ReadAt.{is_within, moment_at};
 
@@ -95,7 +95,18 @@ impl Sink for MemoryTransport {
         }
     }
 
-    fn flush(&mut self) -> Result<(), Refused> {
+    fn flush(&mut self) -> Result<(), Refused>
+        ensures taken { Keeps (Some (bytes_taken self.old)) (Some (bytes_taken self.new)) }
+        ensures flushes { OnOk result (Flushes (Some (bytes_taken self.old))
+            (Some (bytes_flushed self.old)) (Some (bytes_flushed self.new))) }
+        ensures left { bytes_left self.new ≡ bytes_left self.old }
+        ensures reads { reads_made self.new ≡ reads_made self.old }
+        ensures piece { read_size self.new ≡ read_size self.old }
+        ensures faults { reads_failed self.new ≡ reads_failed self.old }
+
+        // It never fails, and takes no memory.
+        ensures never { IsOk result }
+    {
         self.flushed = self.taken.len();
         Ok(())
     }
