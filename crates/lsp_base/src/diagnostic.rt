@@ -83,12 +83,14 @@ pub struct Diagnostic {
     pub source: Option<String>,
     /// What is found, for the user to read.
     pub message: String,
-    /// Other locations that have to do with it. Only for clients with `relatedInformation`; since 3.7.
+    /// Other locations that have to do with it. Only for clients with `relatedInformation`; since
+    /// 3.7.
     pub related_information: Option<Vec<DiagnosticRelatedInformation>>,
-    /// Marks on it, such as `DiagnosticTag::UNNECESSARY`. Only for clients with `tagSupport`; since 3.15.
+    /// Marks on it, such as `DiagnosticTag::UNNECESSARY`. Only for clients with `tagSupport`; since
+    /// 3.15.
     pub tags: Option<Vec<DiagnosticTag>>,
-    /// Any JSON value, which a client with `dataSupport` returns unchanged in `textDocument/codeAction`. In JSON the
-    /// name is `data`. Since 3.16.
+    /// Any JSON value, which a client with `dataSupport` returns unchanged in
+    /// `textDocument/codeAction`. In JSON the name is `data`. Since 3.16.
     pub payload: Option<Value>,
 }
 

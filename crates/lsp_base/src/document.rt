@@ -143,7 +143,8 @@ impl Wire for VersionedTextDocumentIdentifier {
 pub struct OptionalVersionedTextDocumentIdentifier {
     /// The URI of the document.
     pub uri: Uri,
-    /// The version. `None`, sent as `null`: the document isn't open in the client, and its content is that on disk.
+    /// The version. `None`, sent as `null`: the document isn't open in the client, and its content
+    /// is that on disk.
     pub version: Option<i32>,
 }
 
@@ -184,7 +185,8 @@ impl Wire for OptionalVersionedTextDocumentIdentifier {
     }
 }
 
-/// A position in a document, as most requests on a document send it (LSP 3.17, "TextDocumentPositionParams").
+/// A position in a document, as most requests on a document send it (LSP 3.17,
+/// "TextDocumentPositionParams").
 #[derive(Debug, PartialEq, Eq, Clone, Drop)]
 pub struct TextDocumentPositionParams {
     /// The document.
@@ -230,8 +232,8 @@ impl Wire for TextDocumentPositionParams {
     }
 }
 
-/// Selects documents: those to which all members that are present apply. At least one should be present (LSP 3.17,
-/// "DocumentFilter").
+/// Selects documents: those to which all members that are present apply. At least one should be
+/// present (LSP 3.17, "DocumentFilter").
 #[derive(Debug, PartialEq, Eq, Clone, Drop)]
 pub struct DocumentFilter {
     /// The language of the document, such as `rust`.

@@ -10,13 +10,14 @@ use lsp_shape::{Misfit, NoMemory, Reader, Wire, Writer, attempt};
 use serde_json::Value;
 use std::alloc::Global;
 
-/// A value of one of two types, where LSP 3.17 has `A | B`. One that fits both is read as the first.
+/// A value of one of two types, where LSP 3.17 has `A | B`. One that fits both is read as the
+/// first.
 #[derive(Debug, PartialEq, Eq, PartialOrd, Ord, Clone, Drop)]
 pub enum OneOf<A, B> {
     /// A value of the first type.
     Left(A),
-    /// A value of the second type. What is read is one only where it does not fit the first; what is written as a value
-    /// that fits the first is read back as that.
+    /// A value of the second type. What is read is one only where it does not fit the first; what
+    /// is written as a value that fits the first is read back as that.
     Right(B),
 }
 
@@ -40,8 +41,8 @@ impl<A: Wire, B: Wire> Wire for OneOf<A, B> {
     }
 }
 
-/// A range of a document and its new text. All edits of one change refer to the document before it, and their ranges
-/// must not overlap (LSP 3.17, "TextEdit & AnnotatedTextEdit").
+/// A range of a document and its new text. All edits of one change refer to the document before it,
+/// and their ranges must not overlap (LSP 3.17, "TextEdit & AnnotatedTextEdit").
 #[derive(Debug, PartialEq, Eq, Clone, Drop)]
 pub struct TextEdit {
     /// The range to replace. An empty range inserts.
@@ -95,8 +96,8 @@ impl Wire for TextEdit {
 /// The identifier of a change annotation. Since 3.16 (LSP 3.17, "TextEdit & AnnotatedTextEdit").
 pub type ChangeAnnotationIdentifier = String;
 
-/// An edit with an annotation. Since 3.16. Only for clients with `changeAnnotationSupport` (LSP 3.17, "TextEdit &
-/// AnnotatedTextEdit").
+/// An edit with an annotation. Since 3.16. Only for clients with `changeAnnotationSupport` (LSP
+/// 3.17, "TextEdit & AnnotatedTextEdit").
 #[derive(Debug, PartialEq, Eq, Clone, Drop)]
 pub struct AnnotatedTextEdit {
     /// The edit. Its members stand among those of this type.
@@ -158,7 +159,8 @@ impl Wire for TextDocumentEdit {
     }
 }
 
-/// What a change is for, as the user is told. Since 3.16 (LSP 3.17, "TextEdit & AnnotatedTextEdit").
+/// What a change is for, as the user is told. Since 3.16 (LSP 3.17, "TextEdit &
+/// AnnotatedTextEdit").
 #[derive(Debug, PartialEq, Eq, Clone, Drop)]
 pub struct ChangeAnnotation {
     /// What the user sees first.

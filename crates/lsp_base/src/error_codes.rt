@@ -15,11 +15,11 @@ pub const REQUEST_FAILED: i64 = -32803;
 /// The server gave up the request, which was one that a server may give up.
 pub const SERVER_CANCELLED: i64 = -32802;
 
-/// The document changed in a way that the server had no reason to expect. A change that is only waiting to be
-/// handled is none.
+/// The document changed in a way that the server had no reason to expect. A change that is only
+/// waiting to be handled is none.
 pub const CONTENT_MODIFIED: i64 = -32801;
 
-/// The editor gave up the request.
+/// The client cancelled the request.
 pub const REQUEST_CANCELLED: i64 = -32800;
 
 /// The greatest of the numbers that LSP keeps for codes of its own.

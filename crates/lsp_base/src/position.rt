@@ -15,8 +15,8 @@ use std::alloc::Global;
 use std::cmp::Ordering;
 use std::hash::Hash;
 
-/// An integer or a string, as a request id, a progress token or a diagnostic's code (LSP 3.17, "Cancellation Support",
-/// "Diagnostic").
+/// An integer or a string, as a request id, a progress token or a diagnostic's code (LSP 3.17,
+/// "Cancellation Support", "Diagnostic").
 #[derive(Debug, PartialEq, Eq, Hash, Clone, Drop)]
 pub enum NumberOrString {
     /// An integer of 32 bits.
@@ -93,14 +93,14 @@ pub type LSPObject = Map<String, Value>;
 /// An array of any JSON values. Since 3.17 (LSP 3.17, "Base Types").
 pub type LSPArray = Vec<Value>;
 
-/// A zero-based line and offset, between two characters of a document. Ordered by line, then by character (LSP 3.17,
-/// "Position").
+/// A zero-based line and offset, between two characters of a document. Ordered by line, then by
+/// character (LSP 3.17, "Position").
 #[derive(Debug, Clone, Copy, Hash, Default)]
 pub struct Position {
     /// The zero-based line.
     pub line: u32,
-    /// The zero-based offset in the line: in UTF-16 code units, unless client and server agreed on another encoding.
-    /// Past the end of the line it means that end.
+    /// The zero-based offset in the line: in UTF-16 code units, unless client and server agreed on
+    /// another encoding. Past the end of the line it means that end.
     pub character: u32,
 }
 
@@ -257,7 +257,8 @@ impl Wire for Location {
     }
 }
 
-/// A link from a range of one document to a range of another. Since 3.14 (LSP 3.17, "LocationLink").
+/// A link from a range of one document to a range of another. Since 3.14 (LSP 3.17,
+/// "LocationLink").
 #[derive(Debug, PartialEq, Eq, Clone, Drop)]
 pub struct LocationLink {
     /// What the client underlines as the link. Absent: the word at the position of the request.
@@ -266,7 +267,8 @@ pub struct LocationLink {
     pub target_uri: Uri,
     /// The whole of what the link leads to, with comments and the like.
     pub target_range: Range,
-    /// What is selected when the link is followed, such as the name of a function. It lies within `target_range`.
+    /// What is selected when the link is followed, such as the name of a function. It lies within
+    /// `target_range`.
     pub target_selection_range: Range,
 }
 

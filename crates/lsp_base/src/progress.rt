@@ -9,11 +9,12 @@ use std::alloc::Global;
 /// Ties a `$/progress` notification to what it is about (LSP 3.17, "Progress Support").
 pub type ProgressToken = NumberOrString;
 
-/// The token under which a client wants the result of its request in parts (LSP 3.17, "PartialResultParams").
+/// The token under which a client wants the result of its request in parts (LSP 3.17,
+/// "PartialResultParams").
 #[derive(Debug, PartialEq, Eq, Default, Clone, Drop)]
 pub struct PartialResultParams {
-    /// The token of the `$/progress` notifications that hold the parts; the response after them is empty. Absent: the
-    /// response has the whole result.
+    /// The token of the `$/progress` notifications that hold the parts; the response after them is
+    /// empty. Absent: the response has the whole result.
     pub partial_result_token: Option<ProgressToken>,
 }
 
@@ -37,8 +38,8 @@ impl Wire for PartialResultParams {
     }
 }
 
-/// The token under which a client wants work done progress for its request. Since 3.15 (LSP 3.17, "Client Initiated
-/// Progress").
+/// The token under which a client wants work done progress for its request. Since 3.15 (LSP 3.17,
+/// "Client Initiated Progress").
 #[derive(Debug, PartialEq, Eq, Default, Clone, Drop)]
 pub struct WorkDoneProgressParams {
     /// The token of the `$/progress` notifications. Absent: the client wants none.

@@ -8,8 +8,8 @@ use lsp_shape::{Misfit, NoMemory, Reader, Wire, Writer};
 use serde_json::Value;
 use std::alloc::Global;
 
-/// The tags that a client supports. `true` is read as no tags and `false` as no support, as old clients send them (LSP
-/// 3.17, "Completion Request").
+/// The tags that a client supports. `true` is read as no tags and `false` as no support, as old
+/// clients send them (LSP 3.17, "Completion Request").
 #[derive(Debug, PartialEq, Eq, Clone, Drop)]
 pub struct TagSupport<T> {
     /// The tags.
@@ -76,7 +76,8 @@ impl Wire for DynamicRegistrationClientCapabilities {
     }
 }
 
-/// What a client supports of a request such as `textDocument/definition` (LSP 3.17, "Goto Definition Request").
+/// What a client supports of a request such as `textDocument/definition` (LSP 3.17, "Goto
+/// Definition Request").
 #[derive(Debug, PartialEq, Eq, Clone, Copy, Default)]
 pub struct GotoCapability {
     /// Whether a server may register the request after initialization.
@@ -134,11 +135,12 @@ impl Wire for TextDocumentRegistrationOptions {
     }
 }
 
-/// The id of a registration that a server makes in its capabilities (LSP 3.17, "Register Capability").
+/// The id of a registration that a server makes in its capabilities (LSP 3.17, "Register
+/// Capability").
 #[derive(Debug, PartialEq, Eq, Default, Clone, Drop)]
 pub struct StaticRegistrationOptions {
-    /// The id with which the server can unregister the feature later, using `client/unregisterCapability`. Absent: it
-    /// can't.
+    /// The id with which the server can unregister the feature later, using
+    /// `client/unregisterCapability`. Absent: it can't.
     pub id: Option<String>,
 }
 

@@ -73,7 +73,8 @@ impl Wire for CreateFile {
     }
 }
 
-/// What to do where something of the new name is there already. Since 3.13 (LSP 3.17, "File Resource changes").
+/// What to do where something of the new name is there already. Since 3.13 (LSP 3.17, "File
+/// Resource changes").
 #[derive(Debug, PartialEq, Eq, Clone, Drop)]
 pub struct RenameFileOptions {
     /// Whether to overwrite what is there. Takes precedence over `ignore_if_exists`.
@@ -143,15 +144,17 @@ impl Wire for RenameFile {
     }
 }
 
-/// How much to delete, and what to do where nothing is there. Since 3.13 (LSP 3.17, "File Resource changes").
+/// How much to delete, and what to do where nothing is there. Since 3.13 (LSP 3.17, "File Resource
+/// changes").
 #[derive(Debug, PartialEq, Eq, Clone, Drop)]
 pub struct DeleteFileOptions {
     /// Whether to delete what a folder holds with it.
     pub recursive: Option<bool>,
     /// Whether it is no error that the file is not there.
     pub ignore_if_not_exists: Option<bool>,
-    /// The annotation that says what the change is for. LSP 3.17 has this member in `DeleteFile`, beside `options`;
-    /// here it is written among the options, where clients don't look for it. Since 3.16.
+    /// The annotation that says what the change is for. LSP 3.17 has this member in `DeleteFile`,
+    /// beside `options`; here it is written among the options, where clients don't look for it.
+    /// Since 3.16.
     pub annotation_id: Option<ChangeAnnotationIdentifier>,
 }
 
@@ -210,7 +213,8 @@ impl Wire for DeleteFile {
     }
 }
 
-/// A change of a file or folder, told by its member `kind`. Since 3.13 (LSP 3.17, "File Resource changes").
+/// A change of a file or folder, told by its member `kind`. Since 3.13 (LSP 3.17, "File Resource
+/// changes").
 #[derive(Debug, PartialEq, Eq, Clone, Drop)]
 pub enum ResourceOp {
     /// Creates it.

@@ -10,14 +10,14 @@ use serde_json::Value;
 use std::alloc::Global;
 use std::collections::HashMap;
 
-/// Changes of any number of documents and files. It has `changes` or `document_changes`. If both, a client that
-/// supports `document_changes` applies these (LSP 3.17, "WorkspaceEdit").
+/// Changes of any number of documents and files. It has `changes` or `document_changes`. If both, a
+/// client that supports `document_changes` applies these (LSP 3.17, "WorkspaceEdit").
 #[derive(Debug, Clone, Default, Drop)]
 pub struct WorkspaceEdit {
     /// The edits of each document.
     pub changes: Option<HashMap<Uri, Vec<TextEdit>>>,
-    /// Edits of versions of documents, and changes of files. Only for clients with `documentChanges` or
-    /// `resourceOperations`.
+    /// Edits of versions of documents, and changes of files. Only for clients with
+    /// `documentChanges` or `resourceOperations`.
     pub document_changes: Option<DocumentChanges>,
     /// The annotations that the changes name, by their identifiers. Since 3.16.
     pub change_annotations: Option<HashMap<ChangeAnnotationIdentifier, ChangeAnnotation>>,
@@ -67,7 +67,8 @@ impl Wire for WorkspaceEdit {
 /// Edits of documents alone, or with changes of files among them (LSP 3.17, "WorkspaceEdit").
 #[derive(Debug, PartialEq, Eq, Clone, Drop)]
 pub enum DocumentChanges {
-    /// Edits of documents alone. An array of these only, even an empty one, is read as this variant.
+    /// Edits of documents alone. An array of these only, even an empty one, is read as this
+    /// variant.
     Edits(Vec<TextDocumentEdit>),
     /// Edits of documents and changes of files, made in their order.
     Operations(Vec<DocumentChangeOperation>),

@@ -6,26 +6,30 @@ use lsp_shape::{Misfit, NoMemory, Reader, Wire, Writer};
 use serde_json::Value;
 use std::alloc::Global;
 
-/// What a client supports for `textDocument/codeAction`, as the capability `textDocument.codeAction` (LSP 3.17, "Code
-/// Action Request").
+/// What a client supports for `textDocument/codeAction`, as the capability
+/// `textDocument.codeAction` (LSP 3.17, "Code Action Request").
 #[derive(Debug, PartialEq, Eq, Default, Clone, Drop)]
 pub struct CodeActionClientCapabilities {
-    /// Whether the server may register the feature after initialization, with `client/registerCapability`.
+    /// Whether the server may register the feature after initialization, with
+    /// `client/registerCapability`.
     pub dynamic_registration: Option<bool>,
-    /// How the client supports `CodeAction` values in the response. Absent: the response may only hold `Command`
-    /// values. Since 3.8.
+    /// How the client supports `CodeAction` values in the response. Absent: the response may only
+    /// hold `Command` values. Since 3.8.
     pub code_action_literal_support: Option<CodeActionLiteralSupport>,
-    /// Whether the client evaluates `isPreferred`, which marks the action to choose first. Since 3.15.
+    /// Whether the client evaluates `isPreferred`, which marks the action to choose first. Since
+    /// 3.15.
     pub is_preferred_support: Option<bool>,
-    /// Whether the client evaluates `disabled`, which marks an action that can't be applied now and says why. Since
-    /// 3.16.
+    /// Whether the client evaluates `disabled`, which marks an action that can't be applied now and
+    /// says why. Since 3.16.
     pub disabled_support: Option<bool>,
-    /// Whether the client keeps the `data` of an action and returns it in `codeAction/resolve`. Since 3.16.
+    /// Whether the client keeps the `data` of an action and returns it in `codeAction/resolve`.
+    /// Since 3.16.
     pub data_support: Option<bool>,
-    /// The fields that the client can fetch later with `codeAction/resolve`. Absent: none. Since 3.16.
+    /// The fields that the client can fetch later with `codeAction/resolve`. Absent: none. Since
+    /// 3.16.
     pub resolve_support: Option<CodeActionCapabilityResolveSupport>,
-    /// Whether the client takes account of change annotations in the edit of an action, for example by asking the user
-    /// to confirm. Since 3.16.
+    /// Whether the client takes account of change annotations in the edit of an action, for example
+    /// by asking the user to confirm. Since 3.16.
     pub honors_change_annotations: Option<bool>,
 }
 
@@ -64,8 +68,8 @@ impl Wire for CodeActionClientCapabilities {
     }
 }
 
-/// The fields of a code action that a client can fetch later, with `codeAction/resolve`. Since 3.16 (LSP 3.17, "Code
-/// Action Request").
+/// The fields of a code action that a client can fetch later, with `codeAction/resolve`. Since 3.16
+/// (LSP 3.17, "Code Action Request").
 #[derive(Debug, PartialEq, Eq, Clone, Drop)]
 pub struct CodeActionCapabilityResolveSupport {
     /// The names of the fields, such as `edit`.
@@ -106,8 +110,8 @@ impl Wire for CodeActionCapabilityResolveSupport {
     }
 }
 
-/// How a client supports `CodeAction` values, and not only commands, in the response to `textDocument/codeAction`.
-/// Since 3.8 (LSP 3.17, "Code Action Request").
+/// How a client supports `CodeAction` values, and not only commands, in the response to
+/// `textDocument/codeAction`. Since 3.8 (LSP 3.17, "Code Action Request").
 #[derive(Debug, PartialEq, Eq, Clone, Drop)]
 pub struct CodeActionLiteralSupport {
     /// The kinds of code actions that the client supports.

@@ -9,11 +9,12 @@ use lsp_shape::{Misfit, NoMemory, Reader, Wire, Writer};
 use serde_json::Value;
 use std::alloc::Global;
 
-/// What a client supports for `textDocument/completion`, as the capability `textDocument.completion` (LSP 3.17,
-/// "Completion Request").
+/// What a client supports for `textDocument/completion`, as the capability
+/// `textDocument.completion` (LSP 3.17, "Completion Request").
 #[derive(Debug, PartialEq, Eq, Default, Clone, Drop)]
 pub struct CompletionClientCapabilities {
-    /// Whether the server may register the feature after initialization, with `client/registerCapability`.
+    /// Whether the server may register the feature after initialization, with
+    /// `client/registerCapability`.
     pub dynamic_registration: Option<bool>,
     /// What the client supports in a single completion item.
     pub completion_item: Option<CompletionItemCapability>,
@@ -21,7 +22,8 @@ pub struct CompletionClientCapabilities {
     pub completion_item_kind: Option<CompletionItemKindCapability>,
     /// Whether the client says in the request how completion was triggered. Since 3.3.
     pub context_support: Option<bool>,
-    /// How the client treats whitespace in an item that has no `insertTextMode` of its own. Since 3.17.
+    /// How the client treats whitespace in an item that has no `insertTextMode` of its own. Since
+    /// 3.17.
     pub insert_text_mode: Option<InsertTextMode>,
     /// What the client supports in a `CompletionList`. Since 3.17.
     pub completion_list: Option<CompletionListCapability>,
@@ -57,14 +59,15 @@ impl Wire for CompletionClientCapabilities {
     }
 }
 
-/// What a client supports in a completion item, as the capability `textDocument.completion.completionItem` (LSP 3.17,
-/// "Completion Request").
+/// What a client supports in a completion item, as the capability
+/// `textDocument.completion.completionItem` (LSP 3.17, "Completion Request").
 #[derive(Debug, PartialEq, Eq, Default, Clone, Drop)]
 pub struct CompletionItemCapability {
-    /// Whether the inserted text may be a snippet with tab stops and placeholders, such as `${1:name}`. Absent: it must
-    /// be plain text.
+    /// Whether the inserted text may be a snippet with tab stops and placeholders, such as
+    /// `${1:name}`. Absent: it must be plain text.
     pub snippet_support: Option<bool>,
-    /// Whether an item may list its own commit characters, which accept the item when typed. Since 3.2.
+    /// Whether an item may list its own commit characters, which accept the item when typed. Since
+    /// 3.2.
     pub commit_characters_support: Option<bool>,
     /// The markup kinds accepted in an item's documentation, the preferred one first. Since 3.3.
     pub documentation_format: Option<Vec<MarkupKind>>,
@@ -72,17 +75,17 @@ pub struct CompletionItemCapability {
     pub deprecated_support: Option<bool>,
     /// Whether the server may mark an item to be selected when the list is first shown. Since 3.9.
     pub preselect_support: Option<bool>,
-    /// The item tags that the client supports. It also copes with other tags, and returns them unchanged in
-    /// `completionItem/resolve`. Since 3.15.
+    /// The item tags that the client supports. It also copes with other tags, and returns them
+    /// unchanged in `completionItem/resolve`. Since 3.15.
     pub tag_support: Option<TagSupport<CompletionItemTag>>,
-    /// Whether an item may carry an `InsertReplaceEdit`, with one range for inserting and one for replacing. Since
-    /// 3.16.
+    /// Whether an item may carry an `InsertReplaceEdit`, with one range for inserting and one for
+    /// replacing. Since 3.16.
     pub insert_replace_support: Option<bool>,
-    /// The fields that the client can fetch later with `completionItem/resolve`. Absent: only `documentation` and
-    /// `detail`. Since 3.16.
+    /// The fields that the client can fetch later with `completionItem/resolve`. Absent: only
+    /// `documentation` and `detail`. Since 3.16.
     pub resolve_support: Option<CompletionItemCapabilityResolveSupport>,
-    /// The whitespace modes that an item may choose with `insertTextMode`. Absent: an item can't choose one. Since
-    /// 3.16.
+    /// The whitespace modes that an item may choose with `insertTextMode`. Absent: an item can't
+    /// choose one. Since 3.16.
     pub insert_text_mode_support: Option<InsertTextModeSupport>,
     /// Whether an item may carry `labelDetails`. Since 3.17.
     pub label_details_support: Option<bool>,
@@ -126,8 +129,8 @@ impl Wire for CompletionItemCapability {
     }
 }
 
-/// The fields of a completion item that a client can fetch later, with `completionItem/resolve`. Since 3.16 (LSP 3.17,
-/// "Completion Request").
+/// The fields of a completion item that a client can fetch later, with `completionItem/resolve`.
+/// Since 3.16 (LSP 3.17, "Completion Request").
 #[derive(Debug, PartialEq, Eq, Clone, Drop)]
 pub struct CompletionItemCapabilityResolveSupport {
     /// The names of the fields, such as `documentation` or `additionalTextEdits`.
@@ -168,8 +171,8 @@ impl Wire for CompletionItemCapabilityResolveSupport {
     }
 }
 
-/// The whitespace modes that a client supports when it inserts a completion item. Since 3.16 (LSP 3.17, "Completion
-/// Request").
+/// The whitespace modes that a client supports when it inserts a completion item. Since 3.16 (LSP
+/// 3.17, "Completion Request").
 #[derive(Debug, PartialEq, Eq, Clone, Drop)]
 pub struct InsertTextModeSupport {
     /// The supported modes.
@@ -211,8 +214,8 @@ impl Wire for InsertTextModeSupport {
 /// `textDocument.completion.completionItemKind`. Since 3.4 (LSP 3.17, "Completion Request").
 #[derive(Debug, PartialEq, Eq, Default, Clone, Drop)]
 pub struct CompletionItemKindCapability {
-    /// The supported kinds. A client that sends them also copes with other kinds. Absent: only the kinds from `TEXT` to
-    /// `REFERENCE`.
+    /// The supported kinds. A client that sends them also copes with other kinds. Absent: only the
+    /// kinds from `TEXT` to `REFERENCE`.
     pub value_set: Option<Vec<CompletionItemKind>>,
 }
 
@@ -236,11 +239,12 @@ impl Wire for CompletionItemKindCapability {
     }
 }
 
-/// What a client supports in a `CompletionList`, as the capability `textDocument.completion.completionList`. Since 3.17
-/// (LSP 3.17, "Completion Request").
+/// What a client supports in a `CompletionList`, as the capability
+/// `textDocument.completion.completionList`. Since 3.17 (LSP 3.17, "Completion Request").
 #[derive(Debug, PartialEq, Eq, Default, Clone, Drop)]
 pub struct CompletionListCapability {
-    /// The fields of `CompletionList.itemDefaults` that the client applies to items, by name. Absent: none.
+    /// The fields of `CompletionList.itemDefaults` that the client applies to items, by name.
+    /// Absent: none.
     pub item_defaults: Option<Vec<String>>,
 }
 

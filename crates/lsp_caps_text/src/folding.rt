@@ -6,16 +6,18 @@ use lsp_shape::{Misfit, NoMemory, Reader, Wire, Writer};
 use serde_json::Value;
 use std::alloc::Global;
 
-/// What a client supports for `textDocument/foldingRange`, as the capability `textDocument.foldingRange`. Since 3.10
-/// (LSP 3.17, "Folding Range Request").
+/// What a client supports for `textDocument/foldingRange`, as the capability
+/// `textDocument.foldingRange`. Since 3.10 (LSP 3.17, "Folding Range Request").
 #[derive(Debug, PartialEq, Eq, Default, Clone, Drop)]
 pub struct FoldingRangeClientCapabilities {
-    /// Whether the server may register the feature after initialization, with `client/registerCapability`.
+    /// Whether the server may register the feature after initialization, with
+    /// `client/registerCapability`.
     pub dynamic_registration: Option<bool>,
-    /// How many ranges for each document the client would like to receive at most. This is a hint, which a server may
-    /// ignore.
+    /// How many ranges for each document the client would like to receive at most. This is a hint,
+    /// which a server may ignore.
     pub range_limit: Option<u32>,
-    /// Whether the client folds whole lines only. It then ignores the start and end characters of a range.
+    /// Whether the client folds whole lines only. It then ignores the start and end characters of a
+    /// range.
     pub line_folding_only: Option<bool>,
     /// The kinds of folding ranges that the client supports. Since 3.17.
     pub folding_range_kind: Option<FoldingRangeKindCapability>,
@@ -51,12 +53,12 @@ impl Wire for FoldingRangeClientCapabilities {
     }
 }
 
-/// The kinds of folding ranges that a client supports, as the capability `textDocument.foldingRange.foldingRangeKind`.
-/// Since 3.17 (LSP 3.17, "Folding Range Request").
+/// The kinds of folding ranges that a client supports, as the capability
+/// `textDocument.foldingRange.foldingRangeKind`. Since 3.17 (LSP 3.17, "Folding Range Request").
 #[derive(Debug, PartialEq, Eq, Default, Clone, Drop)]
 pub struct FoldingRangeKindCapability {
-    /// The supported kinds. A client that sends them also copes with other kinds. LSP allows any string here; reading
-    /// fails for one that isn't a `FoldingRangeKind`.
+    /// The supported kinds. A client that sends them also copes with other kinds. LSP allows any
+    /// string here; reading fails for one that isn't a `FoldingRangeKind`.
     pub value_set: Option<Vec<FoldingRangeKind>>,
 }
 
@@ -80,8 +82,8 @@ impl Wire for FoldingRangeKindCapability {
     }
 }
 
-/// What a client supports in a folding range, as the capability `textDocument.foldingRange.foldingRange`. Since 3.17
-/// (LSP 3.17, "Folding Range Request").
+/// What a client supports in a folding range, as the capability
+/// `textDocument.foldingRange.foldingRange`. Since 3.17 (LSP 3.17, "Folding Range Request").
 #[derive(Debug, PartialEq, Eq, Default, Clone, Drop)]
 pub struct FoldingRangeCapability {
     /// Whether the client shows the `collapsedText` of a range while it is folded.

@@ -6,10 +6,12 @@ use lsp_shape::{Misfit, NoMemory, Reader, Wire, Writer};
 use serde_json::Value;
 use std::alloc::Global;
 
-/// What a client supports for `textDocument/hover`, as the capability `textDocument.hover` (LSP 3.17, "Hover Request").
+/// What a client supports for `textDocument/hover`, as the capability `textDocument.hover` (LSP
+/// 3.17, "Hover Request").
 #[derive(Debug, PartialEq, Eq, Default, Clone, Drop)]
 pub struct HoverClientCapabilities {
-    /// Whether the server may register the feature after initialization, with `client/registerCapability`.
+    /// Whether the server may register the feature after initialization, with
+    /// `client/registerCapability`.
     pub dynamic_registration: Option<bool>,
     /// The markup kinds accepted in the contents of a hover, the preferred one first. Since 3.3.
     pub content_format: Option<Vec<MarkupKind>>,

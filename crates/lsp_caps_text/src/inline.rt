@@ -7,11 +7,12 @@ use lsp_shape::{Misfit, NoMemory, Reader, Wire, Writer};
 use serde_json::Value;
 use std::alloc::Global;
 
-/// What a client supports for `textDocument/inlayHint`, as the capability `textDocument.inlayHint`. Since 3.17 (LSP
-/// 3.17, "Inlay Hint Request").
+/// What a client supports for `textDocument/inlayHint`, as the capability `textDocument.inlayHint`.
+/// Since 3.17 (LSP 3.17, "Inlay Hint Request").
 #[derive(Debug, PartialEq, Eq, Default, Clone, Drop)]
 pub struct InlayHintClientCapabilities {
-    /// Whether the server may register the feature after initialization, with `client/registerCapability`.
+    /// Whether the server may register the feature after initialization, with
+    /// `client/registerCapability`.
     pub dynamic_registration: Option<bool>,
     /// The fields that the client can fetch later with `inlayHint/resolve`. Absent: none.
     pub resolve_support: Option<InlayHintResolveClientCapabilities>,
@@ -39,8 +40,8 @@ impl Wire for InlayHintClientCapabilities {
     }
 }
 
-/// The fields of an inlay hint that a client can fetch later, with `inlayHint/resolve`. Since 3.17 (LSP 3.17, "Inlay
-/// Hint Request").
+/// The fields of an inlay hint that a client can fetch later, with `inlayHint/resolve`. Since 3.17
+/// (LSP 3.17, "Inlay Hint Request").
 #[derive(Debug, PartialEq, Eq, Clone, Drop)]
 pub struct InlayHintResolveClientCapabilities {
     /// The names of the fields, such as `tooltip`.
@@ -81,6 +82,6 @@ impl Wire for InlayHintResolveClientCapabilities {
     }
 }
 
-/// What a client supports for `textDocument/inlineValue`, as the capability `textDocument.inlineValue`. Since 3.17 (LSP
-/// 3.17, "Inline Value Request").
+/// What a client supports for `textDocument/inlineValue`, as the capability
+/// `textDocument.inlineValue`. Since 3.17 (LSP 3.17, "Inline Value Request").
 pub type InlineValueClientCapabilities = DynamicRegistrationClientCapabilities;

@@ -5,11 +5,12 @@ use lsp_shape::{Misfit, NoMemory, Reader, Wire, Writer};
 use serde_json::Value;
 use std::alloc::Global;
 
-/// What a client supports for `textDocument/documentLink`, as the capability `textDocument.documentLink` (LSP 3.17,
-/// "Document Link Request").
+/// What a client supports for `textDocument/documentLink`, as the capability
+/// `textDocument.documentLink` (LSP 3.17, "Document Link Request").
 #[derive(Debug, PartialEq, Eq, Clone, Drop)]
 pub struct DocumentLinkClientCapabilities {
-    /// Whether the server may register the feature after initialization, with `client/registerCapability`.
+    /// Whether the server may register the feature after initialization, with
+    /// `client/registerCapability`.
     pub dynamic_registration: Option<bool>,
     /// Whether the client shows the `tooltip` of a link. Since 3.15.
     pub tooltip_support: Option<bool>,

@@ -7,8 +7,8 @@ use lsp_shape::{Misfit, NoMemory, Reader, Wire, Writer};
 use serde_json::Value;
 use std::alloc::Global;
 
-/// What a client supports for `textDocument/publishDiagnostics`, as the capability `textDocument.publishDiagnostics`
-/// (LSP 3.17, "PublishDiagnostics Notification").
+/// What a client supports for `textDocument/publishDiagnostics`, as the capability
+/// `textDocument.publishDiagnostics` (LSP 3.17, "PublishDiagnostics Notification").
 #[derive(Debug, PartialEq, Eq, Default, Clone, Drop)]
 pub struct PublishDiagnosticsClientCapabilities {
     /// Whether a diagnostic may point to related locations. Since 3.7.
@@ -17,9 +17,11 @@ pub struct PublishDiagnosticsClientCapabilities {
     pub tag_support: Option<TagSupport<DiagnosticTag>>,
     /// Whether the client evaluates the document version in the notification. Since 3.15.
     pub version_support: Option<bool>,
-    /// Whether the client evaluates `codeDescription`, a link to an explanation of the code. Since 3.16.
+    /// Whether the client evaluates `codeDescription`, a link to an explanation of the code. Since
+    /// 3.16.
     pub code_description_support: Option<bool>,
-    /// Whether the client keeps the `data` of a diagnostic and returns it in `textDocument/codeAction`. Since 3.16.
+    /// Whether the client keeps the `data` of a diagnostic and returns it in
+    /// `textDocument/codeAction`. Since 3.16.
     pub data_support: Option<bool>,
 }
 
@@ -54,11 +56,12 @@ impl Wire for PublishDiagnosticsClientCapabilities {
     }
 }
 
-/// What a client supports for `textDocument/diagnostic`, by which it asks for diagnostics, as the capability
-/// `textDocument.diagnostic`. Since 3.17 (LSP 3.17, "Pull Diagnostics").
+/// What a client supports for `textDocument/diagnostic`, by which it asks for diagnostics, as the
+/// capability `textDocument.diagnostic`. Since 3.17 (LSP 3.17, "Pull Diagnostics").
 #[derive(Debug, PartialEq, Eq, Default, Clone, Drop)]
 pub struct DiagnosticClientCapabilities {
-    /// Whether the server may register the feature after initialization, with `client/registerCapability`.
+    /// Whether the server may register the feature after initialization, with
+    /// `client/registerCapability`.
     pub dynamic_registration: Option<bool>,
     /// Whether the report on a document may also hold reports on related documents.
     pub related_document_support: Option<bool>,

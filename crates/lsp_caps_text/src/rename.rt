@@ -6,19 +6,21 @@ use lsp_shape::{Misfit, NoMemory, Reader, Wire, Writer};
 use serde_json::Value;
 use std::alloc::Global;
 
-/// What a client supports for `textDocument/rename`, as the capability `textDocument.rename` (LSP 3.17, "Rename
-/// Request").
+/// What a client supports for `textDocument/rename`, as the capability `textDocument.rename` (LSP
+/// 3.17, "Rename Request").
 #[derive(Debug, PartialEq, Eq, Default, Clone, Drop)]
 pub struct RenameClientCapabilities {
-    /// Whether the server may register the feature after initialization, with `client/registerCapability`.
+    /// Whether the server may register the feature after initialization, with
+    /// `client/registerCapability`.
     pub dynamic_registration: Option<bool>,
-    /// Whether the client sends `textDocument/prepareRename` to check that a rename is possible. Since 3.12.
+    /// Whether the client sends `textDocument/prepareRename` to check that a rename is possible.
+    /// Since 3.12.
     pub prepare_support: Option<bool>,
-    /// How the client finds the text to rename when the response to `textDocument/prepareRename` says
-    /// `defaultBehavior`. Absent: it must not say so. Since 3.16.
+    /// How the client finds the text to rename when the response to `textDocument/prepareRename`
+    /// says `defaultBehavior`. Absent: it must not say so. Since 3.16.
     pub prepare_support_default_behavior: Option<PrepareSupportDefaultBehavior>,
-    /// Whether the client takes account of change annotations in the edit of a rename, for example by asking the user
-    /// to confirm. Since 3.16.
+    /// Whether the client takes account of change annotations in the edit of a rename, for example
+    /// by asking the user to confirm. Since 3.16.
     pub honors_change_annotations: Option<bool>,
 }
 

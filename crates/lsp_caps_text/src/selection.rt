@@ -6,11 +6,12 @@ use lsp_shape::{Misfit, NoMemory, Reader, Wire, Writer};
 use serde_json::Value;
 use std::alloc::Global;
 
-/// What a client supports for `textDocument/selectionRange`, as the capability `textDocument.selectionRange`. Since
-/// 3.15 (LSP 3.17, "Selection Range Request").
+/// What a client supports for `textDocument/selectionRange`, as the capability
+/// `textDocument.selectionRange`. Since 3.15 (LSP 3.17, "Selection Range Request").
 #[derive(Debug, PartialEq, Eq, Default, Clone, Drop)]
 pub struct SelectionRangeClientCapabilities {
-    /// Whether the server may register the feature after initialization, with `client/registerCapability`.
+    /// Whether the server may register the feature after initialization, with
+    /// `client/registerCapability`.
     pub dynamic_registration: Option<bool>,
 }
 
@@ -37,6 +38,6 @@ impl Wire for SelectionRangeClientCapabilities {
     }
 }
 
-/// What a client supports for `textDocument/linkedEditingRange`, as the capability `textDocument.linkedEditingRange`.
-/// Since 3.16 (LSP 3.17, "Linked Editing Range").
+/// What a client supports for `textDocument/linkedEditingRange`, as the capability
+/// `textDocument.linkedEditingRange`. Since 3.16 (LSP 3.17, "Linked Editing Range").
 pub type LinkedEditingRangeClientCapabilities = DynamicRegistrationClientCapabilities;

@@ -6,16 +6,17 @@ use lsp_shape::{Misfit, NoMemory, Reader, Wire, Writer};
 use serde_json::Value;
 use std::alloc::Global;
 
-/// What a client supports for `textDocument/signatureHelp`, as the capability `textDocument.signatureHelp` (LSP 3.17,
-/// "Signature Help Request").
+/// What a client supports for `textDocument/signatureHelp`, as the capability
+/// `textDocument.signatureHelp` (LSP 3.17, "Signature Help Request").
 #[derive(Debug, PartialEq, Eq, Default, Clone, Drop)]
 pub struct SignatureHelpClientCapabilities {
-    /// Whether the server may register the feature after initialization, with `client/registerCapability`.
+    /// Whether the server may register the feature after initialization, with
+    /// `client/registerCapability`.
     pub dynamic_registration: Option<bool>,
     /// What the client supports in a single signature.
     pub signature_information: Option<SignatureInformationSettings>,
-    /// Whether the client says in the request how signature help was triggered. If so, it also honors the server's
-    /// retrigger characters. Since 3.15.
+    /// Whether the client says in the request how signature help was triggered. If so, it also
+    /// honors the server's retrigger characters. Since 3.15.
     pub context_support: Option<bool>,
 }
 
@@ -43,11 +44,12 @@ impl Wire for SignatureHelpClientCapabilities {
     }
 }
 
-/// What a client supports in a signature, as the capability `textDocument.signatureHelp.signatureInformation` (LSP
-/// 3.17, "Signature Help Request").
+/// What a client supports in a signature, as the capability
+/// `textDocument.signatureHelp.signatureInformation` (LSP 3.17, "Signature Help Request").
 #[derive(Debug, PartialEq, Eq, Default, Clone, Drop)]
 pub struct SignatureInformationSettings {
-    /// The markup kinds accepted in the documentation of signatures, the preferred one first. Since 3.3.
+    /// The markup kinds accepted in the documentation of signatures, the preferred one first. Since
+    /// 3.3.
     pub documentation_format: Option<Vec<MarkupKind>>,
     /// What the client supports in a parameter of a signature.
     pub parameter_information: Option<ParameterInformationSettings>,
@@ -80,11 +82,12 @@ impl Wire for SignatureInformationSettings {
 }
 
 /// What a client supports in a parameter of a signature, as the capability
-/// `textDocument.signatureHelp.signatureInformation.parameterInformation` (LSP 3.17, "Signature Help Request").
+/// `textDocument.signatureHelp.signatureInformation.parameterInformation` (LSP 3.17, "Signature
+/// Help Request").
 #[derive(Debug, PartialEq, Eq, Default, Clone, Drop)]
 pub struct ParameterInformationSettings {
-    /// Whether a parameter's label may be a pair of offsets, in UTF-16 code units, into the label of its signature, in
-    /// place of a string. Since 3.14.
+    /// Whether a parameter's label may be a pair of offsets, in UTF-16 code units, into the label
+    /// of its signature, in place of a string. Since 3.14.
     pub label_offset_support: Option<bool>,
 }
 

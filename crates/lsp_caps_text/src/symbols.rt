@@ -7,19 +7,21 @@ use lsp_shape::{Misfit, NoMemory, Reader, Wire, Writer};
 use serde_json::Value;
 use std::alloc::Global;
 
-/// What a client supports for `textDocument/documentSymbol`, as the capability `textDocument.documentSymbol` (LSP 3.17,
-/// "Document Symbols Request").
+/// What a client supports for `textDocument/documentSymbol`, as the capability
+/// `textDocument.documentSymbol` (LSP 3.17, "Document Symbols Request").
 #[derive(Debug, PartialEq, Eq, Default, Clone, Drop)]
 pub struct DocumentSymbolClientCapabilities {
-    /// Whether the server may register the feature after initialization, with `client/registerCapability`.
+    /// Whether the server may register the feature after initialization, with
+    /// `client/registerCapability`.
     pub dynamic_registration: Option<bool>,
-    /// The symbol kinds that the client supports. Absent: only those of the first protocol version, `FILE` to `ARRAY`.
+    /// The symbol kinds that the client supports. Absent: only those of the first protocol version,
+    /// `FILE` to `ARRAY`.
     pub symbol_kind: Option<SymbolKindCapability>,
-    /// Whether the response may be a tree of `DocumentSymbol` values. If not, it must be a flat array of
-    /// `SymbolInformation` values. Since 3.10.
+    /// Whether the response may be a tree of `DocumentSymbol` values. If not, it must be a flat
+    /// array of `SymbolInformation` values. Since 3.10.
     pub hierarchical_document_symbol_support: Option<bool>,
-    /// The tags that the client supports on `SymbolInformation` values, and on `DocumentSymbol` values if it supports
-    /// those. It also copes with other tags. Since 3.16.
+    /// The tags that the client supports on `SymbolInformation` values, and on `DocumentSymbol`
+    /// values if it supports those. It also copes with other tags. Since 3.16.
     pub tag_support: Option<TagSupport<SymbolTag>>,
 }
 

@@ -5,16 +5,17 @@ use lsp_shape::{Misfit, NoMemory, Reader, Wire, Writer};
 use serde_json::Value;
 use std::alloc::Global;
 
-/// Which notifications and requests around saving a client sends, as the capability `textDocument.synchronization` (LSP
-/// 3.17, "Text Document Synchronization").
+/// Which notifications and requests around saving a client sends, as the capability
+/// `textDocument.synchronization` (LSP 3.17, "Text Document Synchronization").
 #[derive(Debug, PartialEq, Eq, Default, Clone, Drop)]
 pub struct TextDocumentSyncClientCapabilities {
-    /// Whether the server may register the feature after initialization, with `client/registerCapability`.
+    /// Whether the server may register the feature after initialization, with
+    /// `client/registerCapability`.
     pub dynamic_registration: Option<bool>,
     /// Whether the client sends `textDocument/willSave` before it saves a document.
     pub will_save: Option<bool>,
-    /// Whether the client sends `textDocument/willSaveWaitUntil` before it saves a document, and applies the text edits
-    /// of the response first.
+    /// Whether the client sends `textDocument/willSaveWaitUntil` before it saves a document, and
+    /// applies the text edits of the response first.
     pub will_save_wait_until: Option<bool>,
     /// Whether the client sends `textDocument/didSave` after it has saved a document.
     pub did_save: Option<bool>,

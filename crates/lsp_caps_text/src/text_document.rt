@@ -28,12 +28,13 @@ use lsp_shape::{Misfit, NoMemory, Reader, Wire, Writer};
 use serde_json::Value;
 use std::alloc::Global;
 
-/// What a client supports for each feature of text documents, as `textDocument` in its capabilities in `initialize`. An
-/// absent field means that the feature isn't supported (LSP 3.17, "Initialize Request").
+/// What a client supports for each feature of text documents, as `textDocument` in its capabilities
+/// in `initialize`. An absent field means that the feature isn't supported (LSP 3.17, "Initialize
+/// Request").
 #[derive(Debug, PartialEq, Eq, Default, Clone, Drop)]
 pub struct TextDocumentClientCapabilities {
-    /// Notifications and requests around saving, such as `textDocument/didSave`. Every client sends those of opening,
-    /// changing and closing.
+    /// Notifications and requests around saving, such as `textDocument/didSave`. Every client sends
+    /// those of opening, changing and closing.
     pub synchronization: Option<TextDocumentSyncClientCapabilities>,
     /// `textDocument/completion`.
     pub completion: Option<CompletionClientCapabilities>,

@@ -11,7 +11,8 @@ use std::alloc::Global;
 /// `textDocument.semanticTokens`. Since 3.16 (LSP 3.17, "Semantic Tokens").
 #[derive(Debug, PartialEq, Eq, Clone, Drop)]
 pub struct SemanticTokensClientCapabilities {
-    /// Whether the server may register the feature after initialization, with `client/registerCapability`.
+    /// Whether the server may register the feature after initialization, with
+    /// `client/registerCapability`.
     pub dynamic_registration: Option<bool>,
     /// Which of the requests the client sends, if the server provides them.
     pub requests: SemanticTokensClientCapabilitiesRequests,
@@ -25,11 +26,11 @@ pub struct SemanticTokensClientCapabilities {
     pub overlapping_token_support: Option<bool>,
     /// Whether a token may extend over more than one line.
     pub multiline_token_support: Option<bool>,
-    /// Whether the server may end a request with the error `ServerCancelled` (-32802). The client then has to send the
-    /// request again. Since 3.17.
+    /// Whether the server may end a request with the error `ServerCancelled` (-32802). The client
+    /// then has to send the request again. Since 3.17.
     pub server_cancel_support: Option<bool>,
-    /// Whether the client colors with these tokens in addition to its own syntax tokens; if `false`, with these alone.
-    /// Absent: unspecified. Since 3.17.
+    /// Whether the client colors with these tokens in addition to its own syntax tokens; if
+    /// `false`, with these alone. Absent: unspecified. Since 3.17.
     pub augments_syntax_tokens: Option<bool>,
 }
 
@@ -100,11 +101,12 @@ impl Wire for SemanticTokensClientCapabilities {
     }
 }
 
-/// Which semantic token requests a client sends, if the server provides them. Since 3.16 (LSP 3.17, "Semantic Tokens").
+/// Which semantic token requests a client sends, if the server provides them. Since 3.16 (LSP 3.17,
+/// "Semantic Tokens").
 #[derive(Debug, PartialEq, Eq, Default, Clone, Drop)]
 pub struct SemanticTokensClientCapabilitiesRequests {
-    /// Whether the client sends `textDocument/semanticTokens/range`. LSP also allows an empty object here, for which
-    /// reading fails.
+    /// Whether the client sends `textDocument/semanticTokens/range`. LSP also allows an empty
+    /// object here, for which reading fails.
     pub range: Option<bool>,
     /// Whether the client sends `textDocument/semanticTokens/full`, and whether it also sends
     /// `textDocument/semanticTokens/full/delta`.

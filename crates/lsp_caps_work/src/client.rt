@@ -5,7 +5,8 @@ use lsp_shape::{Misfit, NoMemory, Reader, Wire, Writer};
 use serde_json::Value;
 use std::alloc::Global;
 
-/// The name and version of a client, as `clientInfo` in `initialize`. Since 3.15 (LSP 3.17, "Initialize Request").
+/// The name and version of a client, as `clientInfo` in `initialize`. Since 3.15 (LSP 3.17,
+/// "Initialize Request").
 #[derive(Debug, PartialEq, Clone, Drop)]
 pub struct ClientInfo {
     /// The name that the client gives itself.
@@ -36,8 +37,8 @@ impl Wire for ClientInfo {
     }
 }
 
-/// The parameters of `initialized`, which a client sends once, after the result of `initialize` and before any other
-/// message: an empty object (LSP 3.17, "Initialized Notification").
+/// The parameters of `initialized`, which a client sends once, after the result of `initialize` and
+/// before any other message: an empty object (LSP 3.17, "Initialized Notification").
 #[derive(Debug, PartialEq, Clone, Copy)]
 pub struct InitializedParams {}
 

@@ -6,18 +6,19 @@ use lsp_shape::{Misfit, NoMemory, Reader, Wire, Writer};
 use serde_json::Value;
 use std::alloc::Global;
 
-/// What a client supports for `workspace/didChangeConfiguration`, as the capability `workspace.didChangeConfiguration`
-/// (LSP 3.17, "DidChangeConfiguration Notification").
+/// What a client supports for `workspace/didChangeConfiguration`, as the capability
+/// `workspace.didChangeConfiguration` (LSP 3.17, "DidChangeConfiguration Notification").
 pub type DidChangeConfigurationClientCapabilities = DynamicRegistrationClientCapabilities;
 
-/// What a client supports for `workspace/didChangeWatchedFiles`, as the capability `workspace.didChangeWatchedFiles`
-/// (LSP 3.17, "DidChangeWatchedFiles Notification").
+/// What a client supports for `workspace/didChangeWatchedFiles`, as the capability
+/// `workspace.didChangeWatchedFiles` (LSP 3.17, "DidChangeWatchedFiles Notification").
 #[derive(Debug, PartialEq, Eq, Default, Clone, Copy)]
 pub struct DidChangeWatchedFilesClientCapabilities {
-    /// Whether the server may register file watchers with `client/registerCapability`. The protocol has no other way to
-    /// ask for them.
+    /// Whether the server may register file watchers with `client/registerCapability`. The protocol
+    /// has no other way to ask for them.
     pub dynamic_registration: Option<bool>,
-    /// Whether a watcher's glob pattern may be relative to a workspace folder or another base URI. Since 3.17.
+    /// Whether a watcher's glob pattern may be relative to a workspace folder or another base URI.
+    /// Since 3.17.
     pub relative_pattern_support: Option<bool>,
 }
 
@@ -46,6 +47,6 @@ impl Wire for DidChangeWatchedFilesClientCapabilities {
     }
 }
 
-/// What a client supports for `workspace/executeCommand`, as the capability `workspace.executeCommand` (LSP 3.17,
-/// "Execute a command").
+/// What a client supports for `workspace/executeCommand`, as the capability
+/// `workspace.executeCommand` (LSP 3.17, "Execute a command").
 pub type ExecuteCommandClientCapabilities = DynamicRegistrationClientCapabilities;

@@ -5,18 +5,19 @@ use lsp_shape::{Misfit, NoMemory, Reader, Wire, Writer};
 use serde_json::Value;
 use std::alloc::Global;
 
-/// What a client supports in a `WorkspaceEdit`, as the capability `workspace.workspaceEdit` (LSP 3.17,
-/// "WorkspaceEdit").
+/// What a client supports in a `WorkspaceEdit`, as the capability `workspace.workspaceEdit` (LSP
+/// 3.17, "WorkspaceEdit").
 #[derive(Debug, PartialEq, Eq, Default, Clone, Drop)]
 pub struct WorkspaceEditClientCapabilities {
-    /// Whether an edit may use `documentChanges`, which names the version of each document. If the client has neither
-    /// this nor `resourceOperations`, only `changes` may be used.
+    /// Whether an edit may use `documentChanges`, which names the version of each document. If the
+    /// client has neither this nor `resourceOperations`, only `changes` may be used.
     pub document_changes: Option<bool>,
     /// The operations on files and folders that the client can carry out. Absent: none. Since 3.13.
     pub resource_operations: Option<Vec<ResourceOperationKind>>,
     /// What the client does when a change of an edit fails. Since 3.13.
     pub failure_handling: Option<FailureHandlingKind>,
-    /// Whether the client converts the line endings in an edit to the ones that it uses itself. Since 3.16.
+    /// Whether the client converts the line endings in an edit to the ones that it uses itself.
+    /// Since 3.16.
     pub normalizes_line_endings: Option<bool>,
     /// How the client supports change annotations. Absent: it doesn't. Since 3.16.
     pub change_annotation_support: Option<ChangeAnnotationWorkspaceEditClientCapabilities>,
@@ -50,8 +51,8 @@ impl Wire for WorkspaceEditClientCapabilities {
     }
 }
 
-/// How a client supports change annotations, as the capability `workspace.workspaceEdit.changeAnnotationSupport`. Since
-/// 3.16 (LSP 3.17, "WorkspaceEdit").
+/// How a client supports change annotations, as the capability
+/// `workspace.workspaceEdit.changeAnnotationSupport`. Since 3.16 (LSP 3.17, "WorkspaceEdit").
 #[derive(Debug, PartialEq, Eq, Default, Clone, Drop)]
 pub struct ChangeAnnotationWorkspaceEditClientCapabilities {
     /// Whether the client shows the changes that have the same label as one group.
@@ -81,8 +82,8 @@ impl Wire for ChangeAnnotationWorkspaceEditClientCapabilities {
     }
 }
 
-/// A kind of operation on files and folders that a client can carry out as part of a `WorkspaceEdit`. Since 3.13 (LSP
-/// 3.17, "WorkspaceEdit").
+/// A kind of operation on files and folders that a client can carry out as part of a
+/// `WorkspaceEdit`. Since 3.13 (LSP 3.17, "WorkspaceEdit").
 #[derive(Debug, PartialEq, Eq, Clone, Copy)]
 pub enum ResourceOperationKind {
     /// The client can create files and folders.
@@ -118,14 +119,16 @@ impl Wire for ResourceOperationKind {
     }
 }
 
-/// What a client does when a change of a `WorkspaceEdit` fails. Since 3.13 (LSP 3.17, "WorkspaceEdit").
+/// What a client does when a change of a `WorkspaceEdit` fails. Since 3.13 (LSP 3.17,
+/// "WorkspaceEdit").
 #[derive(Debug, PartialEq, Eq, Clone, Copy)]
 pub enum FailureHandlingKind {
     /// The client stops at the failed change. The changes made before it stay.
     Abort,
     /// The client makes either all changes or none.
     Transactional,
-    /// Like `Transactional` if the edit only changes text; like `Abort` if it also creates, renames or deletes files.
+    /// Like `Transactional` if the edit only changes text; like `Abort` if it also creates, renames
+    /// or deletes files.
     TextOnlyTransactional,
     /// The client tries to undo the changes made before the failed one, which may not succeed.
     Undo,

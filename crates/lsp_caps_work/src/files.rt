@@ -5,12 +5,13 @@ use lsp_shape::{Misfit, NoMemory, Reader, Wire, Writer};
 use serde_json::Value;
 use std::alloc::Global;
 
-/// Which requests and notifications a client sends when files or folders are created, renamed or deleted from within
-/// it, by its user or by a workspace edit, as the capability `workspace.fileOperations`. Since 3.16 (LSP 3.17,
-/// "Initialize Request").
+/// Which requests and notifications a client sends when files or folders are created, renamed or
+/// deleted from within it, by its user or by a workspace edit, as the capability
+/// `workspace.fileOperations`. Since 3.16 (LSP 3.17, "Initialize Request").
 #[derive(Debug, PartialEq, Eq, Default, Clone, Drop)]
 pub struct WorkspaceFileOperationsClientCapabilities {
-    /// Whether the server may register the feature after initialization, with `client/registerCapability`.
+    /// Whether the server may register the feature after initialization, with
+    /// `client/registerCapability`.
     pub dynamic_registration: Option<bool>,
     /// Whether the client sends `workspace/didCreateFiles`.
     pub did_create: Option<bool>,

@@ -7,8 +7,8 @@ use lsp_shape::{Misfit, NoMemory, Reader, Wire, Writer};
 use serde_json::Value;
 use std::alloc::Global;
 
-/// What a client supports in the protocol as a whole, as `general` in its capabilities in `initialize`. Since 3.16 (LSP
-/// 3.17, "Initialize Request").
+/// What a client supports in the protocol as a whole, as `general` in its capabilities in
+/// `initialize`. Since 3.16 (LSP 3.17, "Initialize Request").
 #[derive(Debug, PartialEq, Default, Clone, Drop)]
 pub struct GeneralClientCapabilities {
     /// The client's regular expression engine. Since 3.16.
@@ -17,8 +17,8 @@ pub struct GeneralClientCapabilities {
     pub markdown: Option<MarkdownClientCapabilities>,
     /// How the client treats requests whose result is out of date. Since 3.17.
     pub stale_request_support: Option<StaleRequestSupportClientCapabilities>,
-    /// The encodings in which the client can count the characters of a position, the preferred one first. UTF-16 is
-    /// always supported, even if it isn't named. Absent: only UTF-16. Since 3.17.
+    /// The encodings in which the client can count the characters of a position, the preferred one
+    /// first. UTF-16 is always supported, even if it isn't named. Absent: only UTF-16. Since 3.17.
     pub position_encodings: Option<Vec<PositionEncodingKind>>,
 }
 
@@ -48,19 +48,20 @@ impl Wire for GeneralClientCapabilities {
     }
 }
 
-/// How a client treats requests whose result is out of date, as the capability `general.staleRequestSupport`. Since
-/// 3.17 (LSP 3.17, "Initialize Request").
+/// How a client treats requests whose result is out of date, as the capability
+/// `general.staleRequestSupport`. Since 3.17 (LSP 3.17, "Initialize Request").
 #[derive(Debug, PartialEq, Clone, Drop)]
 pub struct StaleRequestSupportClientCapabilities {
     /// Whether the client cancels such a request.
     pub cancel: bool,
-    /// The methods of the requests that the client sends again after a response with the error `ContentModified`
-    /// (-32801).
+    /// The methods of the requests that the client sends again after a response with the error
+    /// `ContentModified` (-32801).
     pub retry_on_content_modified: Vec<String>,
 }
 
 impl StaleRequestSupportClientCapabilities {
-    /// The default value: empty strings and arrays, zero numbers, `false` booleans, and every optional field absent.
+    /// The default value: empty strings and arrays, zero numbers, `false` booleans, and every
+    /// optional field absent.
     pub fn default(alloc: Global) -> StaleRequestSupportClientCapabilities
         ensures cancel { result.cancel ≡ false }
         ensures retry_on_content_modified { result.retry_on_content_modified.items ≡ [] }
@@ -97,8 +98,8 @@ impl Wire for StaleRequestSupportClientCapabilities {
     }
 }
 
-/// The regular expression engine of a client, as the capability `general.regularExpressions`. Since 3.16 (LSP 3.17,
-/// "Regular Expressions").
+/// The regular expression engine of a client, as the capability `general.regularExpressions`. Since
+/// 3.16 (LSP 3.17, "Regular Expressions").
 #[derive(Debug, PartialEq, Clone, Drop)]
 pub struct RegularExpressionsClientCapabilities {
     /// What the engine is called, such as `ECMAScript`.
@@ -108,7 +109,8 @@ pub struct RegularExpressionsClientCapabilities {
 }
 
 impl RegularExpressionsClientCapabilities {
-    /// The default value: empty strings and arrays, zero numbers, `false` booleans, and every optional field absent.
+    /// The default value: empty strings and arrays, zero numbers, `false` booleans, and every
+    /// optional field absent.
     pub fn default(alloc: Global) -> RegularExpressionsClientCapabilities
         ensures engine { string_bytes result.engine ≡ [] }
         ensures version { result.version ≡ None }
@@ -145,7 +147,8 @@ impl Wire for RegularExpressionsClientCapabilities {
     }
 }
 
-/// The Markdown parser of a client, as the capability `general.markdown`. Since 3.16 (LSP 3.17, "MarkupContent").
+/// The Markdown parser of a client, as the capability `general.markdown`. Since 3.16 (LSP 3.17,
+/// "MarkupContent").
 #[derive(Debug, PartialEq, Clone, Drop)]
 pub struct MarkdownClientCapabilities {
     /// What the parser is called, such as `marked`.
@@ -157,7 +160,8 @@ pub struct MarkdownClientCapabilities {
 }
 
 impl MarkdownClientCapabilities {
-    /// The default value: empty strings and arrays, zero numbers, `false` booleans, and every optional field absent.
+    /// The default value: empty strings and arrays, zero numbers, `false` booleans, and every
+    /// optional field absent.
     pub fn default(alloc: Global) -> MarkdownClientCapabilities
         ensures parser { string_bytes result.parser ≡ [] }
         ensures version { result.version ≡ None }

@@ -1,4 +1,5 @@
-//! What a client supports of the workspace, of its windows and of the protocol itself, as it tells when a session begins.
+//! What a client supports of the workspace, of its windows and of the protocol itself, as it tells
+//! when a session begins.
 #![tactic(auto)]
 
 mod client;

@@ -5,8 +5,8 @@ use lsp_shape::{Misfit, NoMemory, Reader, Wire, Writer};
 use serde_json::Value;
 use std::alloc::Global;
 
-/// What a client supports for notebooks, as `notebookDocument` in its capabilities in `initialize`. Since 3.17 (LSP
-/// 3.17, "Notebook Document Synchronization").
+/// What a client supports for notebooks, as `notebookDocument` in its capabilities in `initialize`.
+/// Since 3.17 (LSP 3.17, "Notebook Document Synchronization").
 #[derive(Debug, PartialEq, Eq, Default, Clone, Drop)]
 pub struct NotebookDocumentClientCapabilities {
     /// What the client supports when it keeps the server's copy of a notebook up to date.
@@ -36,11 +36,12 @@ impl Wire for NotebookDocumentClientCapabilities {
     }
 }
 
-/// What a client supports for the synchronization of notebooks, as the capability `notebookDocument.synchronization`.
-/// Since 3.17 (LSP 3.17, "Notebook Document Synchronization").
+/// What a client supports for the synchronization of notebooks, as the capability
+/// `notebookDocument.synchronization`. Since 3.17 (LSP 3.17, "Notebook Document Synchronization").
 #[derive(Debug, PartialEq, Eq, Default, Clone, Drop)]
 pub struct NotebookDocumentSyncClientCapabilities {
-    /// Whether the server may register the feature after initialization, with `client/registerCapability`.
+    /// Whether the server may register the feature after initialization, with
+    /// `client/registerCapability`.
     pub dynamic_registration: Option<bool>,
     /// Whether the client sends an `ExecutionSummary` for each cell.
     pub execution_summary_report: Option<bool>,

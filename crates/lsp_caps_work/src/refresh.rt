@@ -5,12 +5,12 @@ use lsp_shape::{Misfit, NoMemory, Reader, Wire, Writer};
 use serde_json::Value;
 use std::alloc::Global;
 
-/// What a client supports for code lenses across the workspace, as the capability `workspace.codeLens`. Since 3.16 (LSP
-/// 3.17, "Code Lens Refresh Request").
+/// What a client supports for code lenses across the workspace, as the capability
+/// `workspace.codeLens`. Since 3.16 (LSP 3.17, "Code Lens Refresh Request").
 #[derive(Debug, PartialEq, Eq, Clone, Drop)]
 pub struct CodeLensWorkspaceClientCapabilities {
-    /// Whether the server may send `workspace/codeLens/refresh`, upon which the client requests all shown code lenses
-    /// again.
+    /// Whether the server may send `workspace/codeLens/refresh`, upon which the client requests all
+    /// shown code lenses again.
     pub refresh_support: Option<bool>,
 }
 
@@ -37,12 +37,12 @@ impl Wire for CodeLensWorkspaceClientCapabilities {
     }
 }
 
-/// What a client supports for semantic tokens across the workspace, as the capability `workspace.semanticTokens`. Since
-/// 3.16 (LSP 3.17, "Semantic Tokens").
+/// What a client supports for semantic tokens across the workspace, as the capability
+/// `workspace.semanticTokens`. Since 3.16 (LSP 3.17, "Semantic Tokens").
 #[derive(Debug, PartialEq, Eq, Clone, Drop)]
 pub struct SemanticTokensWorkspaceClientCapabilities {
-    /// Whether the server may send `workspace/semanticTokens/refresh`, upon which the client requests all shown
-    /// semantic tokens again.
+    /// Whether the server may send `workspace/semanticTokens/refresh`, upon which the client
+    /// requests all shown semantic tokens again.
     pub refresh_support: Option<bool>,
 }
 
@@ -69,12 +69,12 @@ impl Wire for SemanticTokensWorkspaceClientCapabilities {
     }
 }
 
-/// What a client supports for inlay hints across the workspace, as the capability `workspace.inlayHint`. Since 3.17
-/// (LSP 3.17, "Inlay Hint Refresh Request").
+/// What a client supports for inlay hints across the workspace, as the capability
+/// `workspace.inlayHint`. Since 3.17 (LSP 3.17, "Inlay Hint Refresh Request").
 #[derive(Debug, PartialEq, Eq, Default, Clone, Drop)]
 pub struct InlayHintWorkspaceClientCapabilities {
-    /// Whether the server may send `workspace/inlayHint/refresh`, upon which the client requests all shown inlay hints
-    /// again.
+    /// Whether the server may send `workspace/inlayHint/refresh`, upon which the client requests
+    /// all shown inlay hints again.
     pub refresh_support: Option<bool>,
 }
 
@@ -101,12 +101,12 @@ impl Wire for InlayHintWorkspaceClientCapabilities {
     }
 }
 
-/// What a client supports for inline values across the workspace, as the capability `workspace.inlineValue`. Since 3.17
-/// (LSP 3.17, "Inline Value Refresh Request").
+/// What a client supports for inline values across the workspace, as the capability
+/// `workspace.inlineValue`. Since 3.17 (LSP 3.17, "Inline Value Refresh Request").
 #[derive(Debug, PartialEq, Eq, Default, Clone, Drop)]
 pub struct InlineValueWorkspaceClientCapabilities {
-    /// Whether the server may send `workspace/inlineValue/refresh`, upon which the client requests all shown inline
-    /// values again.
+    /// Whether the server may send `workspace/inlineValue/refresh`, upon which the client requests
+    /// all shown inline values again.
     pub refresh_support: Option<bool>,
 }
 
@@ -133,12 +133,12 @@ impl Wire for InlineValueWorkspaceClientCapabilities {
     }
 }
 
-/// What a client supports for pulled diagnostics across the workspace, as the capability `workspace.diagnostics`. Since
-/// 3.17 (LSP 3.17, "Pull Diagnostics").
+/// What a client supports for pulled diagnostics across the workspace, as the capability
+/// `workspace.diagnostics`. Since 3.17 (LSP 3.17, "Pull Diagnostics").
 #[derive(Debug, PartialEq, Eq, Default, Clone, Drop)]
 pub struct DiagnosticWorkspaceClientCapabilities {
-    /// Whether the server may send `workspace/diagnostic/refresh`, upon which the client requests all pulled
-    /// diagnostics again.
+    /// Whether the server may send `workspace/diagnostic/refresh`, upon which the client requests
+    /// all pulled diagnostics again.
     pub refresh_support: Option<bool>,
 }
 

@@ -8,17 +8,20 @@ use lsp_shape::{Misfit, NoMemory, Reader, Wire, Writer};
 use serde_json::Value;
 use std::alloc::Global;
 
-/// What a client supports for `workspace/symbol`, as the capability `workspace.symbol` (LSP 3.17, "Workspace Symbols
-/// Request").
+/// What a client supports for `workspace/symbol`, as the capability `workspace.symbol` (LSP 3.17,
+/// "Workspace Symbols Request").
 #[derive(Debug, PartialEq, Eq, Default, Clone, Drop)]
 pub struct WorkspaceSymbolClientCapabilities {
-    /// Whether the server may register the feature after initialization, with `client/registerCapability`.
+    /// Whether the server may register the feature after initialization, with
+    /// `client/registerCapability`.
     pub dynamic_registration: Option<bool>,
-    /// The symbol kinds that the client supports. Absent: only those of the first protocol version, `FILE` to `ARRAY`.
+    /// The symbol kinds that the client supports. Absent: only those of the first protocol version,
+    /// `FILE` to `ARRAY`.
     pub symbol_kind: Option<SymbolKindCapability>,
     /// The symbol tags that the client supports. It also copes with other tags. Since 3.16.
     pub tag_support: Option<TagSupport<SymbolTag>>,
-    /// The fields that the client can fetch later with `workspaceSymbol/resolve`. Absent: none. Since 3.17.
+    /// The fields that the client can fetch later with `workspaceSymbol/resolve`. Absent: none.
+    /// Since 3.17.
     pub resolve_support: Option<WorkspaceSymbolResolveSupportCapability>,
 }
 
@@ -51,8 +54,8 @@ impl Wire for WorkspaceSymbolClientCapabilities {
     }
 }
 
-/// The fields of a workspace symbol that a client can fetch later, with `workspaceSymbol/resolve`. Since 3.17 (LSP
-/// 3.17, "Workspace Symbols Request").
+/// The fields of a workspace symbol that a client can fetch later, with `workspaceSymbol/resolve`.
+/// Since 3.17 (LSP 3.17, "Workspace Symbols Request").
 #[derive(Debug, PartialEq, Eq, Clone, Drop)]
 pub struct WorkspaceSymbolResolveSupportCapability {
     /// The names of the fields, such as `location.range`.
@@ -60,7 +63,8 @@ pub struct WorkspaceSymbolResolveSupportCapability {
 }
 
 impl WorkspaceSymbolResolveSupportCapability {
-    /// The default value: empty strings and arrays, zero numbers, `false` booleans, and every optional field absent.
+    /// The default value: empty strings and arrays, zero numbers, `false` booleans, and every
+    /// optional field absent.
     pub fn default(alloc: Global) -> WorkspaceSymbolResolveSupportCapability
         ensures properties { result.properties.items ≡ [] }
     {

@@ -5,12 +5,13 @@ use lsp_shape::{Misfit, NoMemory, Reader, Wire, Writer};
 use serde_json::Value;
 use std::alloc::Global;
 
-/// What a client supports for messages, documents and progress in its window, as `window` in its capabilities in
-/// `initialize` (LSP 3.17, "Initialize Request").
+/// What a client supports for messages, documents and progress in its window, as `window` in its
+/// capabilities in `initialize` (LSP 3.17, "Initialize Request").
 #[derive(Debug, PartialEq, Default, Clone, Drop)]
 pub struct WindowClientCapabilities {
-    /// Whether the client handles work done progress. If so, the server may send `window/workDoneProgress/create`, and
-    /// may offer work done progress in its capabilities. Since 3.15.
+    /// Whether the client handles work done progress. If so, the server may send
+    /// `window/workDoneProgress/create`, and may offer work done progress in its capabilities.
+    /// Since 3.15.
     pub work_done_progress: Option<bool>,
     /// `window/showMessageRequest`. Since 3.16.
     pub show_message: Option<ShowMessageRequestClientCapabilities>,
@@ -42,8 +43,8 @@ impl Wire for WindowClientCapabilities {
     }
 }
 
-/// What a client supports for `window/showMessageRequest`, as the capability `window.showMessage`. Since 3.16 (LSP
-/// 3.17, "ShowMessage Request").
+/// What a client supports for `window/showMessageRequest`, as the capability `window.showMessage`.
+/// Since 3.16 (LSP 3.17, "ShowMessage Request").
 #[derive(Debug, PartialEq, Default, Clone, Drop)]
 pub struct ShowMessageRequestClientCapabilities {
     /// What the client supports in the actions that it offers to the user.
@@ -73,11 +74,12 @@ impl Wire for ShowMessageRequestClientCapabilities {
     }
 }
 
-/// What a client supports in a `MessageActionItem`, as the capability `window.showMessage.messageActionItem`. Since
-/// 3.16 (LSP 3.17, "ShowMessage Request").
+/// What a client supports in a `MessageActionItem`, as the capability
+/// `window.showMessage.messageActionItem`. Since 3.16 (LSP 3.17, "ShowMessage Request").
 #[derive(Debug, PartialEq, Default, Clone, Drop)]
 pub struct MessageActionItemCapabilities {
-    /// Whether the client keeps the further properties of an action and returns them in the response.
+    /// Whether the client keeps the further properties of an action and returns them in the
+    /// response.
     pub additional_properties_support: Option<bool>,
 }
 
@@ -104,8 +106,8 @@ impl Wire for MessageActionItemCapabilities {
     }
 }
 
-/// Whether a client supports `window/showDocument`, as the capability `window.showDocument`. Since 3.16 (LSP 3.17,
-/// "Show Document Request").
+/// Whether a client supports `window/showDocument`, as the capability `window.showDocument`. Since
+/// 3.16 (LSP 3.17, "Show Document Request").
 #[derive(Debug, PartialEq, Default, Clone, Drop)]
 pub struct ShowDocumentClientCapabilities {
     /// Whether the server may send the request.

@@ -17,8 +17,9 @@ use lsp_shape::{Misfit, NoMemory, Reader, Wire, Writer};
 use serde_json::Value;
 use std::alloc::Global;
 
-/// What a client supports for each feature of the workspace, as `workspace` in its capabilities in `initialize`. An
-/// absent field means that the feature isn't supported (LSP 3.17, "Initialize Request").
+/// What a client supports for each feature of the workspace, as `workspace` in its capabilities in
+/// `initialize`. An absent field means that the feature isn't supported (LSP 3.17, "Initialize
+/// Request").
 #[derive(Debug, PartialEq, Eq, Default, Clone, Drop)]
 pub struct WorkspaceClientCapabilities {
     /// Whether the server may send `workspace/applyEdit`.
@@ -33,7 +34,8 @@ pub struct WorkspaceClientCapabilities {
     pub symbol: Option<WorkspaceSymbolClientCapabilities>,
     /// `workspace/executeCommand`.
     pub execute_command: Option<ExecuteCommandClientCapabilities>,
-    /// Whether the client can work with workspace folders, of which there may be several. Since 3.6.
+    /// Whether the client can work with workspace folders, of which there may be several. Since
+    /// 3.6.
     pub workspace_folders: Option<bool>,
     /// Whether the server may send `workspace/configuration`. Since 3.6.
     pub configuration: Option<bool>,
@@ -41,15 +43,15 @@ pub struct WorkspaceClientCapabilities {
     pub semantic_tokens: Option<SemanticTokensWorkspaceClientCapabilities>,
     /// `workspace/codeLens/refresh`. Since 3.16.
     pub code_lens: Option<CodeLensWorkspaceClientCapabilities>,
-    /// Requests and notifications about files and folders that are created, renamed or deleted from within the client.
-    /// Since 3.16.
+    /// Requests and notifications about files and folders that are created, renamed or deleted from
+    /// within the client. Since 3.16.
     pub file_operations: Option<WorkspaceFileOperationsClientCapabilities>,
     /// `workspace/inlineValue/refresh`. Since 3.17.
     pub inline_value: Option<InlineValueWorkspaceClientCapabilities>,
     /// `workspace/inlayHint/refresh`. Since 3.17.
     pub inlay_hint: Option<InlayHintWorkspaceClientCapabilities>,
-    /// `workspace/diagnostic/refresh`. LSP 3.17 calls this member `diagnostics`, but it is read and written as
-    /// `diagnostic` here: what a client sends as `diagnostics` is ignored. Since 3.17.
+    /// `workspace/diagnostic/refresh`. LSP 3.17 calls this member `diagnostics`, but it is read and
+    /// written as `diagnostic` here: what a client sends as `diagnostics` is ignored. Since 3.17.
     pub diagnostic: Option<DiagnosticWorkspaceClientCapabilities>,
 }
 

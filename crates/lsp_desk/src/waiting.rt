@@ -29,8 +29,8 @@ impl Waiting {
         }
     }
 
-    /// Awaits an answer after the others. After 2^64 tickets the numbers begin again; there is no place for
-    /// one while an answer of a greater one is awaited.
+    /// Awaits an answer after the others. After 2^64 tickets the numbers begin again; there is no
+    /// place for one while an answer of a greater one is awaited.
     pub(crate) fn push(&mut self, ticket: u64, id: Id) -> Result<(), NoMemory>
         ensures ok { OnOk result (show_waiting self.new
             ≡ show_waiting self.old ++ record { ticket = ticket; id = show_id id } ∷ []) }

@@ -24,9 +24,9 @@ run_stops test (x ∷ xs) c ys pass stops =
     let later : AllPass test xs = λ k d h. pass (suc k) d (omega arith) in
     rw here (omega (arith, run_stops test xs c ys later stops))
 
-pub behind_print_end : (e : LineEnd) (rest : List ℕ) → after_end (print_end e ++ rest) ≡ Some rest
-behind_print_end crlf rest = refl
-behind_print_end lf rest = refl
+pub after_print_end : (e : LineEnd) (rest : List ℕ) → after_end (print_end e ++ rest) ≡ Some rest
+after_print_end crlf rest = refl
+after_print_end lf rest = refl
 
 newline_ends : (e : LineEnd) (rest : List ℕ) → (c : ℕ) × (tail : List ℕ) × (print_end e ++ rest ≡ c ∷ tail) × (is_value_byte c ≡ false)
 newline_ends crlf rest = (13, 10 ∷ rest, refl, refl)
@@ -42,7 +42,7 @@ value_parts name raw e rest pass =
     let n = newline_ends e rest in
     let parts = run_parts is_value_byte raw n.0 n.1 pass n.3 in
     let whole : raw ++ (print_end e ++ rest) ≡ raw ++ n.0 ∷ n.1 = ap (λ t. raw ++ t) n.2 in
-    rw whole (rw (parts.0, parts.1) (ap (option_map (λ r. ((name, trim_ows raw), r))) (ap after_end (sym n.2) ∙ behind_print_end e rest)))
+    rw whole (rw (parts.0, parts.1) (ap (option_map (λ r. ((name, trim_ows raw), r))) (ap after_end (sym n.2) ∙ after_print_end e rest)))
 
 colon_stops : is_token_byte 58 ≡ false
 unfolding is_token_byte

@@ -13,7 +13,7 @@ pub fn by_transitions()
 {}
 
 /// Each transition moves forward or stops, save a search that finds its text where it begins, and
-/// an empty body.
+/// a body or a skip of no bytes.
 pub fn transitions_move()
     ensures { TransitionsMove }
 {}
@@ -44,7 +44,8 @@ pub fn messages_read()
     ensures { MessagesRead }
 {}
 
-/// What a list of calls encoded tells the messages that were encoded, if these can be read back.
+/// The frames of the messages that a list of calls encoded tell these messages, if they can be read
+/// back.
 pub fn encoded_read()
     ensures { EncodedRead }
 {}

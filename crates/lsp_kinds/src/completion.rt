@@ -87,7 +87,8 @@ impl Wire for InsertTextFormat {
     }
 }
 
-/// What a client does with whitespace in the text that it inserts. Since 3.16 (LSP 3.17, "Completion Request").
+/// What a client does with whitespace in the text that it inserts. Since 3.16 (LSP 3.17,
+/// "Completion Request").
 #[derive(Clone, Copy, PartialEq, Eq)]
 pub struct InsertTextMode(i32);
 
@@ -162,8 +163,8 @@ impl Wire for InsertTextMode {
     }
 }
 
-/// What a completion item is. Those after `REFERENCE` since 3.4: clients that don't name their kinds know only `TEXT`
-/// to `REFERENCE` (LSP 3.17, "Completion Request").
+/// What a completion item is. Those after `REFERENCE` since 3.4: clients that don't name their
+/// kinds know only `TEXT` to `REFERENCE` (LSP 3.17, "Completion Request").
 #[derive(Clone, Copy, PartialEq, Eq)]
 pub struct CompletionItemKind(i32);
 

@@ -242,7 +242,8 @@ impl Wire for InlayHintKind {
     }
 }
 
-/// What a client does where a server has no range to rename. Since 3.16 (LSP 3.17, "Rename Request").
+/// What a client does where a server has no range to rename. Since 3.16 (LSP 3.17, "Rename
+/// Request").
 #[derive(Clone, Copy, PartialEq, Eq)]
 pub struct PrepareSupportDefaultBehavior(i32);
 

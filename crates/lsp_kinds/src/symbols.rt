@@ -12,8 +12,8 @@ use std::alloc::Global;
 use std::fmt;
 use std::marker::Model;
 
-/// What a symbol is. Those after `ARRAY` since 3.4: clients that don't name their kinds know only `FILE` to `ARRAY`
-/// (LSP 3.17, "Document Symbols Request").
+/// What a symbol is. Those after `ARRAY` since 3.4: clients that don't name their kinds know only
+/// `FILE` to `ARRAY` (LSP 3.17, "Document Symbols Request").
 #[derive(Clone, Copy, PartialEq, Eq)]
 pub struct SymbolKind(i32);
 

@@ -8,8 +8,8 @@ use lsp_uri::Uri;
 use serde_json::Value;
 use std::alloc::Global;
 
-/// Parameters of `textDocument/prepareCallHierarchy`: the symbol whose callers or callees the user wants to explore,
-/// since 3.16 (LSP 3.17, "Prepare Call Hierarchy Request").
+/// Parameters of `textDocument/prepareCallHierarchy`: the symbol whose callers or callees the user
+/// wants to explore, since 3.16 (LSP 3.17, "Prepare Call Hierarchy Request").
 #[derive(Debug, PartialEq, Eq, Clone, Drop)]
 pub struct CallHierarchyPrepareParams {
     /// The document and a position on the symbol, usually that of the cursor.
@@ -39,14 +39,15 @@ impl Wire for CallHierarchyPrepareParams {
     }
 }
 
-/// A function or another symbol in a hierarchy of calls. The server returns it for `textDocument/prepareCallHierarchy`,
-/// and the client sends it back to ask for its callers or callees; since 3.16 (LSP 3.17, "Prepare Call Hierarchy
-/// Request").
+/// A function or another symbol in a hierarchy of calls. The server returns it for
+/// `textDocument/prepareCallHierarchy`, and the client sends it back to ask for its callers or
+/// callees; since 3.16 (LSP 3.17, "Prepare Call Hierarchy Request").
 #[derive(Debug, Clone, Drop)]
 pub struct CallHierarchyItem {
     /// What the client shows for the symbol, usually its identifier.
     pub name: String,
-    /// What sort of symbol it is, such as a function or a method. Clients usually show it as an icon.
+    /// What sort of symbol it is, such as a function or a method. Clients usually show it as an
+    /// icon.
     pub kind: SymbolKind,
     /// Marks on the symbol, such as `SymbolTag::DEPRECATED`.
     pub tags: Option<Vec<SymbolTag>>,
@@ -56,10 +57,11 @@ pub struct CallHierarchyItem {
     pub uri: Uri,
     /// The whole symbol, including its body and its comments, but no whitespace around it.
     pub range: Range,
-    /// What to select when the user goes to the symbol, usually its name. It must lie within `range`.
+    /// What to select when the user goes to the symbol, usually its name. It must lie within
+    /// `range`.
     pub selection_range: Range,
-    /// Any value, sent as the member `data`. The client returns it unchanged in `callHierarchy/incomingCalls` and
-    /// `callHierarchy/outgoingCalls`.
+    /// Any value, sent as the member `data`. The client returns it unchanged in
+    /// `callHierarchy/incomingCalls` and `callHierarchy/outgoingCalls`.
     pub payload: Option<Value>,
 }
 
@@ -97,16 +99,16 @@ impl Wire for CallHierarchyItem {
     }
 }
 
-/// Parameters of `callHierarchy/incomingCalls`: the symbol whose callers are wanted, since 3.16 (LSP 3.17, "Call
-/// Hierarchy Incoming Calls").
+/// Parameters of `callHierarchy/incomingCalls`: the symbol whose callers are wanted, since 3.16
+/// (LSP 3.17, "Call Hierarchy Incoming Calls").
 #[derive(Debug, Clone, Drop)]
 pub struct CallHierarchyIncomingCallsParams {
     /// The called symbol, as an item that the server returned earlier.
     pub item: CallHierarchyItem,
     /// The token for progress reports on this request, if the client sent one.
     pub work_done_progress_params: WorkDoneProgressParams,
-    /// The token for sending the callers in `$/progress` notifications, with an empty response after them, if the
-    /// client sent one.
+    /// The token for sending the callers in `$/progress` notifications, with an empty response
+    /// after them, if the client sent one.
     pub partial_result_params: PartialResultParams,
 }
 
@@ -137,8 +139,8 @@ impl Wire for CallHierarchyIncomingCallsParams {
     }
 }
 
-/// A caller and the places where it makes the call: an entry of the result of `callHierarchy/incomingCalls`, since 3.16
-/// (LSP 3.17, "Call Hierarchy Incoming Calls").
+/// A caller and the places where it makes the call: an entry of the result of
+/// `callHierarchy/incomingCalls`, since 3.16 (LSP 3.17, "Call Hierarchy Incoming Calls").
 #[derive(Debug, Clone, Drop)]
 pub struct CallHierarchyIncomingCall {
     /// The calling symbol.
@@ -169,16 +171,16 @@ impl Wire for CallHierarchyIncomingCall {
     }
 }
 
-/// Parameters of `callHierarchy/outgoingCalls`: the symbol whose callees are wanted, since 3.16 (LSP 3.17, "Call
-/// Hierarchy Outgoing Calls").
+/// Parameters of `callHierarchy/outgoingCalls`: the symbol whose callees are wanted, since 3.16
+/// (LSP 3.17, "Call Hierarchy Outgoing Calls").
 #[derive(Debug, Clone, Drop)]
 pub struct CallHierarchyOutgoingCallsParams {
     /// The calling symbol, as an item that the server returned earlier.
     pub item: CallHierarchyItem,
     /// The token for progress reports on this request, if the client sent one.
     pub work_done_progress_params: WorkDoneProgressParams,
-    /// The token for sending the callees in `$/progress` notifications, with an empty response after them, if the
-    /// client sent one.
+    /// The token for sending the callees in `$/progress` notifications, with an empty response
+    /// after them, if the client sent one.
     pub partial_result_params: PartialResultParams,
 }
 
@@ -209,14 +211,14 @@ impl Wire for CallHierarchyOutgoingCallsParams {
     }
 }
 
-/// A callee and the places where it is called: an entry of the result of `callHierarchy/outgoingCalls`, since 3.16 (LSP
-/// 3.17, "Call Hierarchy Outgoing Calls").
+/// A callee and the places where it is called: an entry of the result of
+/// `callHierarchy/outgoingCalls`, since 3.16 (LSP 3.17, "Call Hierarchy Outgoing Calls").
 #[derive(Debug, Clone, Drop)]
 pub struct CallHierarchyOutgoingCall {
     /// The called symbol.
     pub to: CallHierarchyItem,
-    /// Where the calls are, as ranges in the document of the caller, which is the item of the request, and not in that
-    /// of `to`.
+    /// Where the calls are, as ranges in the document of the caller, which is the item of the
+    /// request, and not in that of `to`.
     pub from_ranges: Vec<Range>,
 }
 

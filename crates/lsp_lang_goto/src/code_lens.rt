@@ -8,15 +8,16 @@ use lsp_shape::{Misfit, NoMemory, Reader, Wire, Writer};
 use serde_json::Value;
 use std::alloc::Global;
 
-/// Parameters of `textDocument/codeLens`: the document whose code lenses are wanted (LSP 3.17, "Code Lens Request").
+/// Parameters of `textDocument/codeLens`: the document whose code lenses are wanted (LSP 3.17,
+/// "Code Lens Request").
 #[derive(Debug, PartialEq, Eq, Clone, Drop)]
 pub struct CodeLensParams {
     /// The document to find code lenses in.
     pub text_document: TextDocumentIdentifier,
     /// The token for progress reports on this request, if the client sent one.
     pub work_done_progress_params: WorkDoneProgressParams,
-    /// The token for sending the code lenses in `$/progress` notifications, with an empty response after them, if the
-    /// client sent one.
+    /// The token for sending the code lenses in `$/progress` notifications, with an empty response
+    /// after them, if the client sent one.
     pub partial_result_params: PartialResultParams,
 }
 
@@ -44,8 +45,8 @@ impl Wire for CodeLensParams {
     }
 }
 
-/// A command that the client displays at a piece of code, such as `3 references` or `Run test`: an entry of the result
-/// of `textDocument/codeLens` (LSP 3.17, "Code Lens Request").
+/// A command that the client displays at a piece of code, such as `3 references` or `Run test`: an
+/// entry of the result of `textDocument/codeLens` (LSP 3.17, "Code Lens Request").
 #[derive(Debug, Clone, Drop)]
 pub struct CodeLens {
     /// The code that the lens belongs to. It should stay on a single line.

@@ -6,16 +6,16 @@ use lsp_shape::{Misfit, NoMemory, Reader, Wire, Writer};
 use serde_json::Value;
 use std::alloc::Global;
 
-/// Parameters of `textDocument/documentColor`: the document whose color values are wanted, since 3.6 (LSP 3.17,
-/// "Document Color Request").
+/// Parameters of `textDocument/documentColor`: the document whose color values are wanted, since
+/// 3.6 (LSP 3.17, "Document Color Request").
 #[derive(Debug, PartialEq, Eq, Clone, Drop)]
 pub struct DocumentColorParams {
     /// The document to find colors in.
     pub text_document: TextDocumentIdentifier,
     /// The token for progress reports on this request, if the client sent one.
     pub work_done_progress_params: WorkDoneProgressParams,
-    /// The token for sending the colors in `$/progress` notifications, with an empty response after them, if the client
-    /// sent one.
+    /// The token for sending the colors in `$/progress` notifications, with an empty response after
+    /// them, if the client sent one.
     pub partial_result_params: PartialResultParams,
 }
 

@@ -6,16 +6,16 @@ use lsp_shape::{Misfit, NoMemory, Reader, Wire, Writer};
 use serde_json::Value;
 use std::alloc::Global;
 
-/// Parameters of a request on a position in a document, for methods beyond LSP 3.17. No method of the standard is
-/// declared with this type.
+/// Parameters of a request on a position in a document, for methods beyond LSP 3.17. No method of
+/// the standard is declared with this type.
 #[derive(Debug, PartialEq, Eq, Clone, Drop)]
 pub struct GenericParams {
     /// The document and the position in it.
     pub text_document_position_params: TextDocumentPositionParams,
     /// The token for progress reports on this request, if the client sent one.
     pub work_done_progress_params: WorkDoneProgressParams,
-    /// The token for sending the result in parts in `$/progress` notifications, with an empty response after them, if
-    /// the client sent one.
+    /// The token for sending the result in parts in `$/progress` notifications, with an empty
+    /// response after them, if the client sent one.
     pub partial_result_params: PartialResultParams,
 }
 

@@ -10,16 +10,18 @@ use lsp_shape::{Misfit, NoMemory, Reader, Wire, Writer, attempt};
 use serde_json::Value;
 use std::alloc::Global;
 
-/// Parameters of `textDocument/definition`: the symbol whose definition is wanted. The requests for declarations, type
-/// definitions and implementations take the same parameters (LSP 3.17, "Goto Definition Request").
+/// Parameters of `textDocument/definition`: the symbol whose definition is wanted. The requests for
+/// declarations, type definitions and implementations take the same parameters (LSP 3.17, "Goto
+/// Definition Request").
 #[derive(Debug, PartialEq, Eq, Clone, Drop)]
 pub struct GotoDefinitionParams {
-    /// The document and a position on the symbol, usually that of the cursor or of the mouse pointer.
+    /// The document and a position on the symbol, usually that of the cursor or of the mouse
+    /// pointer.
     pub text_document_position_params: TextDocumentPositionParams,
     /// The token for progress reports on this request, if the client sent one.
     pub work_done_progress_params: WorkDoneProgressParams,
-    /// The token for sending the locations in `$/progress` notifications, with an empty response after them, if the
-    /// client sent one.
+    /// The token for sending the locations in `$/progress` notifications, with an empty response
+    /// after them, if the client sent one.
     pub partial_result_params: PartialResultParams,
 }
 
@@ -46,28 +48,29 @@ impl Wire for GotoDefinitionParams {
     }
 }
 
-/// Parameters of `textDocument/declaration`: the symbol whose declaration is wanted, since 3.14 (LSP 3.17, "Goto
-/// Declaration Request").
+/// Parameters of `textDocument/declaration`: the symbol whose declaration is wanted, since 3.14
+/// (LSP 3.17, "Goto Declaration Request").
 pub type GotoDeclarationParams = GotoDefinitionParams;
 
-/// Parameters of `textDocument/typeDefinition`: the symbol whose type's definition is wanted, since 3.6 (LSP 3.17,
-/// "Goto Type Definition Request").
+/// Parameters of `textDocument/typeDefinition`: the symbol whose type's definition is wanted, since
+/// 3.6 (LSP 3.17, "Goto Type Definition Request").
 pub type GotoTypeDefinitionParams = GotoDefinitionParams;
 
-/// Parameters of `textDocument/implementation`: the symbol whose implementations are wanted, since 3.6 (LSP 3.17, "Goto
-/// Implementation Request").
+/// Parameters of `textDocument/implementation`: the symbol whose implementations are wanted, since
+/// 3.6 (LSP 3.17, "Goto Implementation Request").
 pub type GotoImplementationParams = GotoTypeDefinitionParams;
 
-/// Result of `textDocument/definition`: where the symbol is defined. If the server finds nothing, the result may be
-/// null instead (LSP 3.17, "Goto Definition Request").
+/// Result of `textDocument/definition`: where the symbol is defined. If the server finds nothing,
+/// the result may be null instead (LSP 3.17, "Goto Definition Request").
 #[derive(Debug, PartialEq, Clone, Drop)]
 pub enum GotoDefinitionResponse {
     /// A single location.
     Scalar(Location),
     /// Any number of locations. An empty array is read as this variant.
     Array(Vec<Location>),
-    /// Locations that also give the range to underline where the user points, and the range to select at the target.
-    /// Only for clients with `linkSupport` for the request, such as `textDocument.definition.linkSupport`; since 3.14.
+    /// Locations that also give the range to underline where the user points, and the range to
+    /// select at the target. Only for clients with `linkSupport` for the request, such as
+    /// `textDocument.definition.linkSupport`; since 3.14.
     Link(Vec<LocationLink>),
 }
 
@@ -120,14 +123,15 @@ impl From<Vec<LocationLink>> for GotoDefinitionResponse {
     }
 }
 
-/// Result of `textDocument/declaration`: where the symbol is declared, since 3.14. If the server finds nothing, the
-/// result may be null instead (LSP 3.17, "Goto Declaration Request").
+/// Result of `textDocument/declaration`: where the symbol is declared, since 3.14. If the server
+/// finds nothing, the result may be null instead (LSP 3.17, "Goto Declaration Request").
 pub type GotoDeclarationResponse = GotoDefinitionResponse;
 
-/// Result of `textDocument/typeDefinition`: where the type of the symbol is defined, since 3.6. If the server finds
-/// nothing, the result may be null instead (LSP 3.17, "Goto Type Definition Request").
+/// Result of `textDocument/typeDefinition`: where the type of the symbol is defined, since 3.6. If
+/// the server finds nothing, the result may be null instead (LSP 3.17, "Goto Type Definition
+/// Request").
 pub type GotoTypeDefinitionResponse = GotoDefinitionResponse;
 
-/// Result of `textDocument/implementation`: where the symbol is implemented, since 3.6. If the server finds nothing,
-/// the result may be null instead (LSP 3.17, "Goto Implementation Request").
+/// Result of `textDocument/implementation`: where the symbol is implemented, since 3.6. If the
+/// server finds nothing, the result may be null instead (LSP 3.17, "Goto Implementation Request").
 pub type GotoImplementationResponse = GotoDefinitionResponse;

@@ -7,8 +7,8 @@ use lsp_shape::{Misfit, NoMemory, Reader, Wire, Writer, attempt};
 use serde_json::Value;
 use std::alloc::Global;
 
-/// Parameters of `textDocument/hover`: the position about which the client wants to show information (LSP 3.17, "Hover
-/// Request").
+/// Parameters of `textDocument/hover`: the position about which the client wants to show
+/// information (LSP 3.17, "Hover Request").
 #[derive(Debug, PartialEq, Eq, Clone, Drop)]
 pub struct HoverParams {
     /// The document and the position in it, usually that of the mouse pointer.
@@ -38,13 +38,15 @@ impl Wire for HoverParams {
     }
 }
 
-/// Result of `textDocument/hover`: information on a place in a document, such as the type and the documentation of a
-/// symbol. If there is nothing to show, the result may be null instead (LSP 3.17, "Hover Request").
+/// Result of `textDocument/hover`: information on a place in a document, such as the type and the
+/// documentation of a symbol. If there is nothing to show, the result may be null instead (LSP
+/// 3.17, "Hover Request").
 #[derive(Debug, PartialEq, Eq, Clone, Drop)]
 pub struct Hover {
     /// The text to show.
     pub contents: HoverContents,
-    /// The part of the document that the hover describes, which the client may highlight. Absent: it isn't stated.
+    /// The part of the document that the hover describes, which the client may highlight. Absent:
+    /// it isn't stated.
     pub range: Option<Range>,
 }
 
@@ -70,8 +72,8 @@ impl Wire for Hover {
     }
 }
 
-/// The text of a hover. Servers should use `Markup`, since LSP has deprecated the type `MarkedString` of the other
-/// variants (LSP 3.17, "Hover Request").
+/// The text of a hover. Servers should use `Markup`, since LSP has deprecated the type
+/// `MarkedString` of the other variants (LSP 3.17, "Hover Request").
 #[derive(Debug, PartialEq, Eq, Clone, Drop)]
 pub enum HoverContents {
     /// One Markdown text or one block of code.

@@ -7,15 +7,16 @@ use lsp_uri::Uri;
 use serde_json::Value;
 use std::alloc::Global;
 
-/// Parameters of `textDocument/documentLink`: the document whose links are wanted (LSP 3.17, "Document Link Request").
+/// Parameters of `textDocument/documentLink`: the document whose links are wanted (LSP 3.17,
+/// "Document Link Request").
 #[derive(Debug, PartialEq, Eq, Clone, Drop)]
 pub struct DocumentLinkParams {
     /// The document to find links in.
     pub text_document: TextDocumentIdentifier,
     /// The token for progress reports on this request, if the client sent one.
     pub work_done_progress_params: WorkDoneProgressParams,
-    /// The token for sending the links in `$/progress` notifications, with an empty response after them, if the client
-    /// sent one.
+    /// The token for sending the links in `$/progress` notifications, with an empty response after
+    /// them, if the client sent one.
     pub partial_result_params: PartialResultParams,
 }
 
@@ -51,10 +52,11 @@ pub struct DocumentLink {
     pub range: Range,
     /// Where the link leads. Absent: the client asks for it by `documentLink/resolve`.
     pub target: Option<Uri>,
-    /// A text shown when the user hovers over the link, since 3.15. The client may add how to follow the link. Only for
-    /// clients with `textDocument.documentLink.tooltipSupport`.
+    /// A text shown when the user hovers over the link, since 3.15. The client may add how to
+    /// follow the link. Only for clients with `textDocument.documentLink.tooltipSupport`.
     pub tooltip: Option<String>,
-    /// Any value, sent as the member `data`. The client returns it unchanged in `documentLink/resolve`.
+    /// Any value, sent as the member `data`. The client returns it unchanged in
+    /// `documentLink/resolve`.
     pub payload: Option<Value>,
 }
 

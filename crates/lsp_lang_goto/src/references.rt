@@ -7,16 +7,16 @@ use lsp_shape::{Misfit, NoMemory, Reader, Wire, Writer};
 use serde_json::Value;
 use std::alloc::Global;
 
-/// Parameters of `textDocument/references`: the symbol whose uses in the project are wanted (LSP 3.17, "Find References
-/// Request").
+/// Parameters of `textDocument/references`: the symbol whose uses in the project are wanted (LSP
+/// 3.17, "Find References Request").
 #[derive(Debug, PartialEq, Eq, Clone, Drop)]
 pub struct ReferenceParams {
     /// The document and a position on the symbol.
     pub text_document_position: TextDocumentPositionParams,
     /// The token for progress reports on this request, if the client sent one.
     pub work_done_progress_params: WorkDoneProgressParams,
-    /// The token for sending the references in `$/progress` notifications, with an empty response after them, if the
-    /// client sent one.
+    /// The token for sending the references in `$/progress` notifications, with an empty response
+    /// after them, if the client sent one.
     pub partial_result_params: PartialResultParams,
     /// Which references the result should include.
     pub context: ReferenceContext,
@@ -48,8 +48,8 @@ impl Wire for ReferenceParams {
     }
 }
 
-/// What the result of `textDocument/references` should include besides the uses of the symbol (LSP 3.17, "Find
-/// References Request").
+/// What the result of `textDocument/references` should include besides the uses of the symbol (LSP
+/// 3.17, "Find References Request").
 #[derive(Debug, PartialEq, Eq, Clone, Copy)]
 pub struct ReferenceContext {
     /// Whether the client wants the declaration of the symbol as well.
@@ -76,16 +76,16 @@ impl Wire for ReferenceContext {
     }
 }
 
-/// Parameters of `textDocument/documentHighlight`: the symbol whose occurrences in the same document the client wants
-/// to mark (LSP 3.17, "Document Highlights Request").
+/// Parameters of `textDocument/documentHighlight`: the symbol whose occurrences in the same
+/// document the client wants to mark (LSP 3.17, "Document Highlights Request").
 #[derive(Debug, PartialEq, Eq, Clone, Drop)]
 pub struct DocumentHighlightParams {
     /// The document and a position on the symbol, usually that of the cursor.
     pub text_document_position_params: TextDocumentPositionParams,
     /// The token for progress reports on this request, if the client sent one.
     pub work_done_progress_params: WorkDoneProgressParams,
-    /// The token for sending the highlights in `$/progress` notifications, with an empty response after them, if the
-    /// client sent one.
+    /// The token for sending the highlights in `$/progress` notifications, with an empty response
+    /// after them, if the client sent one.
     pub partial_result_params: PartialResultParams,
 }
 
@@ -112,8 +112,8 @@ impl Wire for DocumentHighlightParams {
     }
 }
 
-/// An occurrence that the client marks, such as another use of the variable at the cursor: an entry of the result of
-/// `textDocument/documentHighlight` (LSP 3.17, "Document Highlights Request").
+/// An occurrence that the client marks, such as another use of the variable at the cursor: an entry
+/// of the result of `textDocument/documentHighlight` (LSP 3.17, "Document Highlights Request").
 #[derive(Debug, PartialEq, Eq, Clone, Drop)]
 pub struct DocumentHighlight {
     /// The part of the document to mark.

@@ -13,16 +13,16 @@ use lsp_uri::Uri;
 use serde_json::Value;
 use std::alloc::Global;
 
-/// Parameters of `textDocument/documentSymbol`: the document whose symbols are wanted, for instance for an outline (LSP
-/// 3.17, "Document Symbols Request").
+/// Parameters of `textDocument/documentSymbol`: the document whose symbols are wanted, for instance
+/// for an outline (LSP 3.17, "Document Symbols Request").
 #[derive(Debug, PartialEq, Eq, Clone, Drop)]
 pub struct DocumentSymbolParams {
     /// The document to list the symbols of.
     pub text_document: TextDocumentIdentifier,
     /// The token for progress reports on this request, if the client sent one.
     pub work_done_progress_params: WorkDoneProgressParams,
-    /// The token for sending the symbols in `$/progress` notifications, with an empty response after them, if the
-    /// client sent one.
+    /// The token for sending the symbols in `$/progress` notifications, with an empty response
+    /// after them, if the client sent one.
     pub partial_result_params: PartialResultParams,
 }
 
@@ -50,8 +50,8 @@ impl Wire for DocumentSymbolParams {
     }
 }
 
-/// Result of `textDocument/documentSymbol`: the symbols of a document, as a flat array or as a tree. If there are none,
-/// the result may be null instead (LSP 3.17, "Document Symbols Request").
+/// Result of `textDocument/documentSymbol`: the symbols of a document, as a flat array or as a
+/// tree. If there are none, the result may be null instead (LSP 3.17, "Document Symbols Request").
 #[derive(Debug, PartialEq, Clone, Drop)]
 pub enum DocumentSymbolResponse {
     /// An array without nesting, which any client accepts. An empty array is read as this variant.
@@ -98,23 +98,25 @@ impl From<Vec<DocumentSymbol>> for DocumentSymbolResponse {
     }
 }
 
-/// A symbol and its location, without children: an entry of a result of `textDocument/documentSymbol` or
-/// `workspace/symbol` (LSP 3.17, "Document Symbols Request").
+/// A symbol and its location, without children: an entry of a result of
+/// `textDocument/documentSymbol` or `workspace/symbol` (LSP 3.17, "Document Symbols Request").
 #[derive(Debug, PartialEq, Eq, Clone, Drop)]
 pub struct SymbolInformation {
     /// What the client shows for the symbol, usually its identifier.
     pub name: String,
-    /// What sort of symbol it is, such as a class or a function. Clients usually show it as an icon.
+    /// What sort of symbol it is, such as a class or a function. Clients usually show it as an
+    /// icon.
     pub kind: SymbolKind,
     /// Marks on the symbol, such as `SymbolTag::DEPRECATED`; since 3.16.
     pub tags: Option<Vec<SymbolTag>>,
-    /// Whether the use of the symbol is discouraged. `tags` with `SymbolTag::DEPRECATED` replaces this field.
+    /// Whether the use of the symbol is discouraged. `tags` with `SymbolTag::DEPRECATED` replaces
+    /// this field.
     pub deprecated: Option<bool>,
-    /// The document of the symbol, and the range to show when the user picks it. The cursor goes to the start of the
-    /// range.
+    /// The document of the symbol, and the range to show when the user picks it. The cursor goes to
+    /// the start of the range.
     pub location: Location,
-    /// The name of what encloses the symbol, such as its class. It is only displayed: clients don't derive a tree from
-    /// it.
+    /// The name of what encloses the symbol, such as its class. It is only displayed: clients don't
+    /// derive a tree from it.
     pub container_name: Option<String>,
 }
 
@@ -148,12 +150,12 @@ impl Wire for SymbolInformation {
     }
 }
 
-/// Parameters of `workspace/symbol`: the text to search for among the symbols of the workspace (LSP 3.17, "Workspace
-/// Symbols Request").
+/// Parameters of `workspace/symbol`: the text to search for among the symbols of the workspace (LSP
+/// 3.17, "Workspace Symbols Request").
 #[derive(Debug, PartialEq, Eq, Clone, Drop)]
 pub struct WorkspaceSymbolParams {
-    /// The token for sending the symbols in `$/progress` notifications, with an empty response after them, if the
-    /// client sent one.
+    /// The token for sending the symbols in `$/progress` notifications, with an empty response
+    /// after them, if the client sent one.
     pub partial_result_params: PartialResultParams,
     /// The token for progress reports on this request, if the client sent one.
     pub work_done_progress_params: WorkDoneProgressParams,
@@ -200,15 +202,15 @@ impl Wire for WorkspaceSymbolParams {
     }
 }
 
-/// Result of `workspace/symbol`: the symbols found in the workspace. If there are none, the result may be null instead
-/// (LSP 3.17, "Workspace Symbols Request").
+/// Result of `workspace/symbol`: the symbols found in the workspace. If there are none, the result
+/// may be null instead (LSP 3.17, "Workspace Symbols Request").
 #[derive(Debug, Clone, Drop)]
 pub enum WorkspaceSymbolResponse {
-    /// Symbols with complete locations. An array is read as this variant if it is empty or if each of its locations has
-    /// a range.
+    /// Symbols with complete locations. An array is read as this variant if it is empty or if each
+    /// of its locations has a range.
     Flat(Vec<SymbolInformation>),
-    /// Symbols that may be completed later by `workspaceSymbol/resolve`, since 3.17. In spite of the variant's name,
-    /// this array is flat too.
+    /// Symbols that may be completed later by `workspaceSymbol/resolve`, since 3.17. In spite of
+    /// the variant's name, this array is flat too.
     Nested(Vec<WorkspaceSymbol>),
 }
 
@@ -233,23 +235,26 @@ impl Wire for WorkspaceSymbolResponse {
     }
 }
 
-/// A symbol found by `workspace/symbol`. Its range may be left to a later `workspaceSymbol/resolve`; since 3.17 (LSP
-/// 3.17, "Workspace Symbols Request").
+/// A symbol found by `workspace/symbol`. Its range may be left to a later
+/// `workspaceSymbol/resolve`; since 3.17 (LSP 3.17, "Workspace Symbols Request").
 #[derive(Debug, Clone, Drop)]
 pub struct WorkspaceSymbol {
     /// What the client shows for the symbol, usually its identifier.
     pub name: String,
-    /// What sort of symbol it is, such as a class or a function. Clients usually show it as an icon.
+    /// What sort of symbol it is, such as a class or a function. Clients usually show it as an
+    /// icon.
     pub kind: SymbolKind,
     /// Marks on the symbol, such as `SymbolTag::DEPRECATED`.
     pub tags: Option<Vec<SymbolTag>>,
-    /// The name of what encloses the symbol, such as its class. It is only displayed: clients don't derive a tree from
-    /// it.
+    /// The name of what encloses the symbol, such as its class. It is only displayed: clients don't
+    /// derive a tree from it.
     pub container_name: Option<String>,
-    /// `OneOf::Left` is the document with the range to show. `OneOf::Right` is the document alone, for a client with
-    /// `workspace.symbol.resolveSupport`, which asks for the range by `workspaceSymbol/resolve`.
+    /// `OneOf::Left` is the document with the range to show. `OneOf::Right` is the document alone,
+    /// for a client with `workspace.symbol.resolveSupport`, which asks for the range by
+    /// `workspaceSymbol/resolve`.
     pub location: OneOf<Location, WorkspaceLocation>,
-    /// Any value, sent as the member `data`. The client returns it unchanged in `workspaceSymbol/resolve`.
+    /// Any value, sent as the member `data`. The client returns it unchanged in
+    /// `workspaceSymbol/resolve`.
     pub payload: Option<LSPAny>,
 }
 
@@ -283,8 +288,8 @@ impl Wire for WorkspaceSymbol {
     }
 }
 
-/// The document of a symbol, without a range: the location of a `WorkspaceSymbol` that isn't resolved yet, since 3.17
-/// (LSP 3.17, "Workspace Symbols Request").
+/// The document of a symbol, without a range: the location of a `WorkspaceSymbol` that isn't
+/// resolved yet, since 3.17 (LSP 3.17, "Workspace Symbols Request").
 #[derive(Debug, PartialEq, Eq, Clone, Drop)]
 pub struct WorkspaceLocation {
     /// The document that contains the symbol.

@@ -16,24 +16,28 @@ use lsp_shape::{Misfit, NoMemory, Wire, field, find, optional, put, put_optional
 use serde_json::{Map, Value};
 use std::alloc::Global;
 
-/// A symbol and the symbols inside it: an entry of the result of `textDocument/documentSymbol`, since 3.10 (LSP 3.17,
-/// "Document Symbols Request").
+/// A symbol and the symbols inside it: an entry of the result of `textDocument/documentSymbol`,
+/// since 3.10 (LSP 3.17, "Document Symbols Request").
 #[derive(Debug, PartialEq, Eq, Clone, Drop)]
 pub struct DocumentSymbol {
-    /// What the client shows for the symbol, usually its identifier. It must not be empty or only whitespace.
+    /// What the client shows for the symbol, usually its identifier. It must not be empty or only
+    /// whitespace.
     pub name: String,
     /// More text for the user, such as the parameters of a function.
     pub detail: Option<String>,
-    /// What sort of symbol it is, such as a class or a function. Clients usually show it as an icon.
+    /// What sort of symbol it is, such as a class or a function. Clients usually show it as an
+    /// icon.
     pub kind: SymbolKind,
     /// Marks on the symbol, such as `SymbolTag::DEPRECATED`; since 3.16.
     pub tags: Option<Vec<SymbolTag>>,
-    /// Whether the use of the symbol is discouraged. `tags` with `SymbolTag::DEPRECATED` replaces this field.
+    /// Whether the use of the symbol is discouraged. `tags` with `SymbolTag::DEPRECATED` replaces
+    /// this field.
     pub deprecated: Option<bool>,
-    /// The whole symbol, including its body and its comments, but no whitespace around it. Clients use it to find the
-    /// symbol that the cursor is in.
+    /// The whole symbol, including its body and its comments, but no whitespace around it. Clients
+    /// use it to find the symbol that the cursor is in.
     pub range: Range,
-    /// What to select when the user goes to the symbol, usually its name. It must lie within `range`.
+    /// What to select when the user goes to the symbol, usually its name. It must lie within
+    /// `range`.
     pub selection_range: Range,
     /// The symbols inside this one, such as the methods of a class. Absent: there are none.
     pub children: Option<Vec<DocumentSymbol>>,

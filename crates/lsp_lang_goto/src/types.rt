@@ -10,8 +10,8 @@ use lsp_uri::Uri;
 use serde_json::Value;
 use std::alloc::Global;
 
-/// Parameters of `textDocument/prepareTypeHierarchy`: the type whose supertypes or subtypes the user wants to explore,
-/// since 3.17 (LSP 3.17, "Prepare Type Hierarchy Request").
+/// Parameters of `textDocument/prepareTypeHierarchy`: the type whose supertypes or subtypes the
+/// user wants to explore, since 3.17 (LSP 3.17, "Prepare Type Hierarchy Request").
 #[derive(Debug, PartialEq, Eq, Clone, Drop)]
 pub struct TypeHierarchyPrepareParams {
     /// The document and a position on the type, usually that of the cursor.
@@ -41,16 +41,16 @@ impl Wire for TypeHierarchyPrepareParams {
     }
 }
 
-/// Parameters of `typeHierarchy/supertypes`: the type whose supertypes are wanted, since 3.17 (LSP 3.17, "Type
-/// Hierarchy Supertypes").
+/// Parameters of `typeHierarchy/supertypes`: the type whose supertypes are wanted, since 3.17 (LSP
+/// 3.17, "Type Hierarchy Supertypes").
 #[derive(Debug, Clone, Drop)]
 pub struct TypeHierarchySupertypesParams {
     /// The type, as an item that the server returned earlier.
     pub item: TypeHierarchyItem,
     /// The token for progress reports on this request, if the client sent one.
     pub work_done_progress_params: WorkDoneProgressParams,
-    /// The token for sending the supertypes in `$/progress` notifications, with an empty response after them, if the
-    /// client sent one.
+    /// The token for sending the supertypes in `$/progress` notifications, with an empty response
+    /// after them, if the client sent one.
     pub partial_result_params: PartialResultParams,
 }
 
@@ -78,16 +78,16 @@ impl Wire for TypeHierarchySupertypesParams {
     }
 }
 
-/// Parameters of `typeHierarchy/subtypes`: the type whose subtypes are wanted, since 3.17 (LSP 3.17, "Type Hierarchy
-/// Subtypes").
+/// Parameters of `typeHierarchy/subtypes`: the type whose subtypes are wanted, since 3.17 (LSP
+/// 3.17, "Type Hierarchy Subtypes").
 #[derive(Debug, Clone, Drop)]
 pub struct TypeHierarchySubtypesParams {
     /// The type, as an item that the server returned earlier.
     pub item: TypeHierarchyItem,
     /// The token for progress reports on this request, if the client sent one.
     pub work_done_progress_params: WorkDoneProgressParams,
-    /// The token for sending the subtypes in `$/progress` notifications, with an empty response after them, if the
-    /// client sent one.
+    /// The token for sending the subtypes in `$/progress` notifications, with an empty response
+    /// after them, if the client sent one.
     pub partial_result_params: PartialResultParams,
 }
 
@@ -115,13 +115,15 @@ impl Wire for TypeHierarchySubtypesParams {
     }
 }
 
-/// A type in a hierarchy of types. The server returns it for `textDocument/prepareTypeHierarchy`, and the client sends
-/// it back to ask for its supertypes or subtypes; since 3.17 (LSP 3.17, "Prepare Type Hierarchy Request").
+/// A type in a hierarchy of types. The server returns it for `textDocument/prepareTypeHierarchy`,
+/// and the client sends it back to ask for its supertypes or subtypes; since 3.17 (LSP 3.17,
+/// "Prepare Type Hierarchy Request").
 #[derive(Debug, Clone, Drop)]
 pub struct TypeHierarchyItem {
     /// What the client shows for the type, usually its identifier.
     pub name: String,
-    /// What sort of type it is, such as a class or an interface. Clients usually show it as an icon.
+    /// What sort of type it is, such as a class or an interface. Clients usually show it as an
+    /// icon.
     pub kind: SymbolKind,
     /// Marks on the type, such as `SymbolTag::DEPRECATED`.
     pub tags: Option<Vec<SymbolTag>>,
@@ -133,8 +135,8 @@ pub struct TypeHierarchyItem {
     pub range: Range,
     /// What to select when the user goes to the type, usually its name. It must lie within `range`.
     pub selection_range: Range,
-    /// Any value, sent as the member `data`. The client returns it unchanged in `typeHierarchy/supertypes` and
-    /// `typeHierarchy/subtypes`.
+    /// Any value, sent as the member `data`. The client returns it unchanged in
+    /// `typeHierarchy/supertypes` and `typeHierarchy/subtypes`.
     pub payload: Option<LSPAny>,
 }
 

@@ -13,8 +13,8 @@ use lsp_shape::{Misfit, NoMemory, Reader, Wire, Writer, attempt};
 use serde_json::Value;
 use std::alloc::Global;
 
-/// Parameters of `textDocument/codeAction`: the code for which quick fixes, refactorings and the like are wanted (LSP
-/// 3.17, "Code Action Request").
+/// Parameters of `textDocument/codeAction`: the code for which quick fixes, refactorings and the
+/// like are wanted (LSP 3.17, "Code Action Request").
 #[derive(Debug, Clone, Drop)]
 pub struct CodeActionParams {
     /// The document that contains the code.
@@ -25,8 +25,8 @@ pub struct CodeActionParams {
     pub context: CodeActionContext,
     /// The token for progress reports on this request, if the client sent one.
     pub work_done_progress_params: WorkDoneProgressParams,
-    /// The token for sending the actions in `$/progress` notifications, with an empty response after them, if the
-    /// client sent one.
+    /// The token for sending the actions in `$/progress` notifications, with an empty response
+    /// after them, if the client sent one.
     pub partial_result_params: PartialResultParams,
 }
 
@@ -58,15 +58,15 @@ impl Wire for CodeActionParams {
     }
 }
 
-/// What a client adds to the range in `textDocument/codeAction`: diagnostics, and which actions it wants (LSP 3.17,
-/// "Code Action Request").
+/// What a client adds to the range in `textDocument/codeAction`: diagnostics, and which actions it
+/// wants (LSP 3.17, "Code Action Request").
 #[derive(Debug, Clone, Drop)]
 pub struct CodeActionContext {
-    /// The diagnostics that the client shows in the range. They may be outdated, so a server should rather rely on the
-    /// range.
+    /// The diagnostics that the client shows in the range. They may be outdated, so a server should
+    /// rather rely on the range.
     pub diagnostics: Vec<Diagnostic>,
-    /// The kinds of actions that the client wants; it discards others. A kind includes those below it, as `refactor`
-    /// includes `refactor.extract`. Absent: all kinds.
+    /// The kinds of actions that the client wants; it discards others. A kind includes those below
+    /// it, as `refactor` includes `refactor.extract`. Absent: all kinds.
     pub only: Option<Vec<CodeActionKind>>,
     /// Whether the user asked for actions or the client did so by itself, since 3.17.
     pub trigger_kind: Option<CodeActionTriggerKind>,
@@ -111,8 +111,8 @@ impl Wire for CodeActionContext {
     }
 }
 
-/// Result of `textDocument/codeAction`: the actions among which the user can choose. If there are none, the result may
-/// be null instead (LSP 3.17, "Code Action Request").
+/// Result of `textDocument/codeAction`: the actions among which the user can choose. If there are
+/// none, the result may be null instead (LSP 3.17, "Code Action Request").
 pub type CodeActionResponse = Vec<CodeActionOrCommand>;
 
 /// An entry of the result of `textDocument/codeAction` (LSP 3.17, "Code Action Request").
@@ -163,13 +163,15 @@ impl From<CodeAction> for CodeActionOrCommand {
     }
 }
 
-/// An action that the user can choose, such as a quick fix: an entry of the result of `textDocument/codeAction`, since
-/// 3.8. The client may ask for a missing edit by `codeAction/resolve`, since 3.16 (LSP 3.17, "Code Action Request").
+/// An action that the user can choose, such as a quick fix: an entry of the result of
+/// `textDocument/codeAction`, since 3.8. The client may ask for a missing edit by
+/// `codeAction/resolve`, since 3.16 (LSP 3.17, "Code Action Request").
 #[derive(Debug, Clone, Drop)]
 pub struct CodeAction {
     /// The short text by which the user recognizes the action.
     pub title: String,
-    /// What sort of action it is, such as `CodeActionKind::QUICKFIX()`. Clients filter and group actions by it.
+    /// What sort of action it is, such as `CodeActionKind::QUICKFIX()`. Clients filter and group
+    /// actions by it.
     pub kind: Option<CodeActionKind>,
     /// The diagnostics that taking the action should remove.
     pub diagnostics: Option<Vec<Diagnostic>>,
@@ -177,13 +179,14 @@ pub struct CodeAction {
     pub edit: Option<WorkspaceEdit>,
     /// A command that the client runs when the action is taken, after `edit` if that is present.
     pub command: Option<Command>,
-    /// Whether this is the best action of its kind here, which a client may apply by a shortcut; since 3.15.
+    /// Whether this is the best action of its kind here, which a client may apply by a shortcut;
+    /// since 3.15.
     pub is_preferred: Option<bool>,
-    /// If present, the action can't be taken at the moment, for the reason given. Only for clients with
-    /// `textDocument.codeAction.disabledSupport`, since 3.16.
+    /// If present, the action can't be taken at the moment, for the reason given. Only for clients
+    /// with `textDocument.codeAction.disabledSupport`, since 3.16.
     pub disabled: Option<CodeActionDisabled>,
-    /// Any value, sent as the member `data`. A client with `textDocument.codeAction.dataSupport` returns it unchanged
-    /// in `codeAction/resolve`; since 3.16.
+    /// Any value, sent as the member `data`. A client with `textDocument.codeAction.dataSupport`
+    /// returns it unchanged in `codeAction/resolve`; since 3.16.
     pub payload: Option<Value>,
 }
 
@@ -246,7 +249,8 @@ impl Wire for CodeAction {
     }
 }
 
-/// Marks a code action that can't be taken at the moment, since 3.16 (LSP 3.17, "Code Action Request").
+/// Marks a code action that can't be taken at the moment, since 3.16 (LSP 3.17, "Code Action
+/// Request").
 #[derive(Debug, PartialEq, Eq, Clone, Drop)]
 pub struct CodeActionDisabled {
     /// A text for the user that says why the action isn't available.

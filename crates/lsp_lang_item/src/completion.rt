@@ -16,16 +16,16 @@ use lsp_shape::{Misfit, NoMemory, Reader, Wire, Writer, attempt};
 use serde_json::Value;
 use std::alloc::Global;
 
-/// Parameters of `textDocument/completion`: where the user wants suggestions, and what made the client ask (LSP 3.17,
-/// "Completion Request").
+/// Parameters of `textDocument/completion`: where the user wants suggestions, and what made the
+/// client ask (LSP 3.17, "Completion Request").
 #[derive(Debug, PartialEq, Clone, Drop)]
 pub struct CompletionParams {
     /// The document and the position of the cursor in it.
     pub text_document_position: TextDocumentPositionParams,
     /// The token for progress reports on this request, if the client sent one.
     pub work_done_progress_params: WorkDoneProgressParams,
-    /// The token for sending the items in `$/progress` notifications, with an empty response after them, if the client
-    /// sent one.
+    /// The token for sending the items in `$/progress` notifications, with an empty response after
+    /// them, if the client sent one.
     pub partial_result_params: PartialResultParams,
     /// Why the client asks. Only sent if the client has `textDocument.completion.contextSupport`.
     pub context: Option<CompletionContext>,
@@ -60,10 +60,11 @@ impl Wire for CompletionParams {
 /// What made a client ask for completion, since 3.3 (LSP 3.17, "Completion Request").
 #[derive(Debug, PartialEq, Clone, Drop)]
 pub struct CompletionContext {
-    /// What led to the request: typing or an explicit command, a trigger character, or an earlier list that was
-    /// incomplete.
+    /// What led to the request: typing or an explicit command, a trigger character, or an earlier
+    /// list that was incomplete.
     pub trigger_kind: CompletionTriggerKind,
-    /// The single character that was typed. Only sent with `CompletionTriggerKind::TRIGGER_CHARACTER`.
+    /// The single character that was typed. Only sent with
+    /// `CompletionTriggerKind::TRIGGER_CHARACTER`.
     pub trigger_character: Option<String>,
 }
 
@@ -89,11 +90,12 @@ impl Wire for CompletionContext {
     }
 }
 
-/// Result of `textDocument/completion`: the suggestions. If there are none, the result may be null instead (LSP 3.17,
-/// "Completion Request").
+/// Result of `textDocument/completion`: the suggestions. If there are none, the result may be null
+/// instead (LSP 3.17, "Completion Request").
 #[derive(Debug, Clone, Drop)]
 pub enum CompletionResponse {
-    /// A complete array: while the user types on, the client filters these items without asking again.
+    /// A complete array: while the user types on, the client filters these items without asking
+    /// again.
     Array(Vec<CompletionItem>),
     /// Suggestions that may be marked as incomplete.
     List(CompletionList),
@@ -136,11 +138,13 @@ impl From<CompletionList> for CompletionResponse {
     }
 }
 
-/// An array of completion items that can be marked as incomplete: one form of the result of `textDocument/completion`.
-/// The member `itemDefaults` of 3.17 is not supported (LSP 3.17, "Completion Request").
+/// An array of completion items that can be marked as incomplete: one form of the result of
+/// `textDocument/completion`. The member `itemDefaults` of 3.17 is not supported (LSP 3.17,
+/// "Completion Request").
 #[derive(Debug, Clone, Drop)]
 pub struct CompletionList {
-    /// Whether there are suggestions that the list leaves out. If so, the client asks again while the user types on.
+    /// Whether there are suggestions that the list leaves out. If so, the client asks again while
+    /// the user types on.
     pub is_incomplete: bool,
     /// The suggestions.
     pub items: Vec<CompletionItem>,
@@ -181,54 +185,56 @@ impl Wire for CompletionList {
     }
 }
 
-/// A suggestion in the result of `textDocument/completion`. The client may ask for parts that are missing by
-/// `completionItem/resolve` (LSP 3.17, "Completion Request").
+/// A suggestion in the result of `textDocument/completion`. The client may ask for parts that are
+/// missing by `completionItem/resolve` (LSP 3.17, "Completion Request").
 #[derive(Debug, Clone, Drop)]
 pub struct CompletionItem {
-    /// The text that the user sees in the list. It is also used for sorting, filtering and inserting where the fields
-    /// for these are absent.
+    /// The text that the user sees in the list. It is also used for sorting, filtering and
+    /// inserting where the fields for these are absent.
     pub label: String,
-    /// More text beside the label. Only for clients with `textDocument.completion.completionItem.labelDetailsSupport`,
-    /// since 3.17.
+    /// More text beside the label. Only for clients with
+    /// `textDocument.completion.completionItem.labelDetailsSupport`, since 3.17.
     pub label_details: Option<CompletionItemLabelDetails>,
-    /// What sort of thing is suggested, such as a method or a keyword. Clients usually show it as an icon.
+    /// What sort of thing is suggested, such as a method or a keyword. Clients usually show it as
+    /// an icon.
     pub kind: Option<CompletionItemKind>,
     /// A short text on the suggestion, such as its type.
     pub detail: Option<String>,
     /// A longer text that explains the suggestion, as plain text or Markdown.
     pub documentation: Option<Documentation>,
-    /// Whether the use of the suggested symbol is discouraged. `tags` with `CompletionItemTag::DEPRECATED` replaces
-    /// this field.
+    /// Whether the use of the suggested symbol is discouraged. `tags` with
+    /// `CompletionItemTag::DEPRECATED` replaces this field.
     pub deprecated: Option<bool>,
-    /// Whether the item should be the selected one when the list opens. If several are marked, the client chooses. Only
-    /// for clients with `preselectSupport`; since 3.9.
+    /// Whether the item should be the selected one when the list opens. If several are marked, the
+    /// client chooses. Only for clients with `preselectSupport`; since 3.9.
     pub preselect: Option<bool>,
     /// The string by which the client orders the items. Absent: the label.
     pub sort_text: Option<String>,
     /// The string that the client compares with what the user has typed. Absent: the label.
     pub filter_text: Option<String>,
-    /// The string to insert if `text_edit` is absent; if this is absent too, the label. The client decides which text
-    /// at the cursor it replaces, so `text_edit` is more exact.
+    /// The string to insert if `text_edit` is absent; if this is absent too, the label. The client
+    /// decides which text at the cursor it replaces, so `text_edit` is more exact.
     pub insert_text: Option<String>,
-    /// Whether `insert_text` or the text of `text_edit` is plain text or a snippet. Absent: plain text. A snippet needs
-    /// a client with `textDocument.completion.completionItem.snippetSupport`.
+    /// Whether `insert_text` or the text of `text_edit` is plain text or a snippet. Absent: plain
+    /// text. A snippet needs a client with `textDocument.completion.completionItem.snippetSupport`.
     pub insert_text_format: Option<InsertTextFormat>,
-    /// What the client does with whitespace and indentation in the inserted text, since 3.16. Absent: what it states in
-    /// `textDocument.completion.insertTextMode`.
+    /// What the client does with whitespace and indentation in the inserted text, since 3.16.
+    /// Absent: what it states in `textDocument.completion.insertTextMode`.
     pub insert_text_mode: Option<InsertTextMode>,
-    /// The edit that puts the suggestion into the document, in place of `insert_text`. Its range must stay on one line
-    /// and contain the position of the request.
+    /// The edit that puts the suggestion into the document, in place of `insert_text`. Its range
+    /// must stay on one line and contain the position of the request.
     pub text_edit: Option<CompletionTextEdit>,
-    /// Edits elsewhere in the document that come with the suggestion, such as one that adds an import. They must
-    /// overlap neither the main edit nor one another.
+    /// Edits elsewhere in the document that come with the suggestion, such as one that adds an
+    /// import. They must overlap neither the main edit nor one another.
     pub additional_text_edits: Option<Vec<TextEdit>>,
-    /// A command that the client runs after the insertion. Further changes of the document belong in
-    /// `additional_text_edits`.
+    /// A command that the client runs after the insertion. Further changes of the document belong
+    /// in `additional_text_edits`.
     pub command: Option<Command>,
-    /// Characters that accept the item when typed, and are then inserted after it. Each string holds a single
-    /// character; since 3.2.
+    /// Characters that accept the item when typed, and are then inserted after it. Each string
+    /// holds a single character; since 3.2.
     pub commit_characters: Option<Vec<String>>,
-    /// Any value, sent as the member `data`. The client returns it unchanged in `completionItem/resolve`.
+    /// Any value, sent as the member `data`. The client returns it unchanged in
+    /// `completionItem/resolve`.
     pub payload: Option<Value>,
     /// Marks on the item, such as `CompletionItemTag::DEPRECATED`; since 3.15.
     pub tags: Option<Vec<CompletionItemTag>>,
@@ -379,8 +385,8 @@ impl Wire for CompletionItem {
     }
 }
 
-/// Text that a client adds to the label of a completion item, in a weaker style; since 3.17 (LSP 3.17, "Completion
-/// Request").
+/// Text that a client adds to the label of a completion item, in a weaker style; since 3.17 (LSP
+/// 3.17, "Completion Request").
 #[derive(Debug, PartialEq, Default, Clone, Drop)]
 pub struct CompletionItemLabelDetails {
     /// What follows the label immediately, without a space, such as the parameters of a function.
@@ -458,17 +464,17 @@ impl From<InsertReplaceEdit> for CompletionTextEdit {
     }
 }
 
-/// An edit for a completion in the middle of a word, where the user can either insert before the rest of the word or
-/// replace it; since 3.16 (LSP 3.17, "Completion Request").
+/// An edit for a completion in the middle of a word, where the user can either insert before the
+/// rest of the word or replace it; since 3.16 (LSP 3.17, "Completion Request").
 #[derive(Debug, PartialEq, Eq, Clone, Drop)]
 pub struct InsertReplaceEdit {
     /// The text that takes the place of either range.
     pub new_text: String,
-    /// The range that is overwritten when the user inserts, usually the word up to the cursor. It starts where
-    /// `replace` starts and lies within it.
+    /// The range that is overwritten when the user inserts, usually the word up to the cursor. It
+    /// starts where `replace` starts and lies within it.
     pub insert: Range,
-    /// The range that is overwritten when the user replaces, usually the whole word. Both ranges must stay on one line
-    /// and contain the position of the request.
+    /// The range that is overwritten when the user replaces, usually the whole word. Both ranges
+    /// must stay on one line and contain the position of the request.
     pub replace: Range,
 }
 

@@ -15,8 +15,8 @@ use lsp_shape::{Misfit, NoMemory, Reader, Wire, Writer, attempt};
 use serde_json::Value;
 use std::alloc::Global;
 
-/// Parameters of `textDocument/inlayHint`: the part of a document for which hints are wanted, since 3.17 (LSP 3.17,
-/// "Inlay Hint Request").
+/// Parameters of `textDocument/inlayHint`: the part of a document for which hints are wanted, since
+/// 3.17 (LSP 3.17, "Inlay Hint Request").
 #[derive(Debug, PartialEq, Eq, Clone, Drop)]
 pub struct InlayHintParams {
     /// The token for progress reports on this request, if the client sent one.
@@ -51,19 +51,21 @@ impl Wire for InlayHintParams {
     }
 }
 
-/// A note that a client draws between the characters of a document, such as an inferred type: an entry of the result of
-/// `textDocument/inlayHint`, since 3.17. What a client lists in `textDocument.inlayHint.resolveSupport` may be left to
-/// `inlayHint/resolve` (LSP 3.17, "Inlay Hint Request").
+/// A note that a client draws between the characters of a document, such as an inferred type: an
+/// entry of the result of `textDocument/inlayHint`, since 3.17. What a client lists in
+/// `textDocument.inlayHint.resolveSupport` may be left to `inlayHint/resolve` (LSP 3.17, "Inlay
+/// Hint Request").
 #[derive(Debug, Clone, Drop)]
 pub struct InlayHint {
     /// Where in the document the hint is drawn.
     pub position: Position,
     /// What the hint shows. It must not be empty.
     pub label: InlayHintLabel,
-    /// Whether the hint shows a type or the name of a parameter. Absent: the client decides how to draw it.
+    /// Whether the hint shows a type or the name of a parameter. Absent: the client decides how to
+    /// draw it.
     pub kind: Option<InlayHintKind>,
-    /// Edits that the client applies when the user accepts the hint. They should write what it shows into the text, so
-    /// that the hint can disappear.
+    /// Edits that the client applies when the user accepts the hint. They should write what it
+    /// shows into the text, so that the hint can disappear.
     pub text_edits: Option<Vec<TextEdit>>,
     /// What appears when the user hovers over the hint.
     pub tooltip: Option<InlayHintTooltip>,
@@ -71,7 +73,8 @@ pub struct InlayHint {
     pub padding_left: Option<bool>,
     /// Whether the client leaves some space after the hint. Absent: it doesn't.
     pub padding_right: Option<bool>,
-    /// Any value, sent as the member `data`. The client returns it unchanged in `inlayHint/resolve`.
+    /// Any value, sent as the member `data`. The client returns it unchanged in
+    /// `inlayHint/resolve`.
     pub payload: Option<LSPAny>,
 }
 
@@ -155,7 +158,8 @@ impl From<Vec<InlayHintLabelPart>> for InlayHintLabel {
     }
 }
 
-/// What appears when the user hovers over an inlay hint, since 3.17 (LSP 3.17, "Inlay Hint Request").
+/// What appears when the user hovers over an inlay hint, since 3.17 (LSP 3.17, "Inlay Hint
+/// Request").
 #[derive(Debug, Clone, Drop)]
 pub enum InlayHintTooltip {
     /// Plain text.
@@ -208,8 +212,8 @@ pub struct InlayHintLabelPart {
     pub value: String,
     /// What appears when the user hovers over the part.
     pub tooltip: Option<InlayHintLabelPartTooltip>,
-    /// The location of a symbol that the part stands for. The client can show the hover of that symbol and let the user
-    /// go to its definition.
+    /// The location of a symbol that the part stands for. The client can show the hover of that
+    /// symbol and let the user go to its definition.
     pub location: Option<Location>,
     /// A command for the part, which clients usually run on a click.
     pub command: Option<Command>,
@@ -258,7 +262,8 @@ impl Wire for InlayHintLabelPart {
     }
 }
 
-/// What appears when the user hovers over a part of an inlay hint, since 3.17 (LSP 3.17, "Inlay Hint Request").
+/// What appears when the user hovers over a part of an inlay hint, since 3.17 (LSP 3.17, "Inlay
+/// Hint Request").
 #[derive(Debug, PartialEq, Eq, Clone, Drop)]
 pub enum InlayHintLabelPartTooltip {
     /// Plain text.

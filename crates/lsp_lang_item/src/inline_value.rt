@@ -8,8 +8,8 @@ use lsp_shape::{Misfit, NoMemory, Reader, Wire, Writer, attempt};
 use serde_json::Value;
 use std::alloc::Global;
 
-/// Parameters of `textDocument/inlineValue`: the part of a document in which the client wants to show values while
-/// debugging, since 3.17 (LSP 3.17, "Inline Value Request").
+/// Parameters of `textDocument/inlineValue`: the part of a document in which the client wants to
+/// show values while debugging, since 3.17 (LSP 3.17, "Inline Value Request").
 #[derive(Debug, PartialEq, Eq, Clone, Drop)]
 pub struct InlineValueParams {
     /// The token for progress reports on this request, if the client sent one.
@@ -48,13 +48,14 @@ impl Wire for InlineValueParams {
     }
 }
 
-/// Where the debugged program has stopped, as a client sends it in `textDocument/inlineValue`, since 3.17 (LSP 3.17,
-/// "Inline Value Request").
+/// Where the debugged program has stopped, as a client sends it in `textDocument/inlineValue`,
+/// since 3.17 (LSP 3.17, "Inline Value Request").
 #[derive(Debug, PartialEq, Eq, Default, Clone, Drop)]
 pub struct InlineValueContext {
     /// The stack frame, by its id in the Debug Adapter Protocol (DAP).
     pub frame_id: i32,
-    /// The range in the document at which the program has stopped. Clients usually show the values on its last line.
+    /// The range in the document at which the program has stopped. Clients usually show the values
+    /// on its last line.
     pub stopped_location: Range,
 }
 
@@ -80,8 +81,8 @@ impl Wire for InlineValueContext {
     }
 }
 
-/// A value shown in the text of a document while debugging: an entry of the result of `textDocument/inlineValue`, since
-/// 3.17 (LSP 3.17, "Inline Value Request").
+/// A value shown in the text of a document while debugging: an entry of the result of
+/// `textDocument/inlineValue`, since 3.17 (LSP 3.17, "Inline Value Request").
 #[derive(Debug, PartialEq, Eq, Clone, Drop)]
 pub enum InlineValue {
     /// Text from the server, shown as it is.
@@ -188,10 +189,12 @@ impl Wire for InlineValueText {
     }
 }
 
-/// An inline value that the client finds by the name of a variable, since 3.17 (LSP 3.17, "Inline Value Request").
+/// An inline value that the client finds by the name of a variable, since 3.17 (LSP 3.17, "Inline
+/// Value Request").
 #[derive(Debug, PartialEq, Eq, Default, Clone, Drop)]
 pub struct InlineValueVariableLookup {
-    /// The variable in the document. The text of this range is the name to look up, unless `variable_name` is present.
+    /// The variable in the document. The text of this range is the name to look up, unless
+    /// `variable_name` is present.
     pub range: Range,
     /// The name to look up. Absent: the text in `range`.
     pub variable_name: Option<String>,
@@ -223,10 +226,12 @@ impl Wire for InlineValueVariableLookup {
     }
 }
 
-/// An inline value that the client finds by evaluating an expression, since 3.17 (LSP 3.17, "Inline Value Request").
+/// An inline value that the client finds by evaluating an expression, since 3.17 (LSP 3.17, "Inline
+/// Value Request").
 #[derive(Debug, PartialEq, Eq, Default, Clone, Drop)]
 pub struct InlineValueEvaluatableExpression {
-    /// The expression in the document. The text of this range is evaluated, unless `expression` is present.
+    /// The expression in the document. The text of this range is evaluated, unless `expression` is
+    /// present.
     pub range: Range,
     /// What to evaluate. Absent: the text in `range`.
     pub expression: Option<String>,

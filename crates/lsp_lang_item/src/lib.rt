@@ -1,4 +1,5 @@
-//! What the requests for items to pick from ask for, and their results: completion, code actions, hints.
+//! What the requests for items to pick from ask for, and their results: completion, code actions,
+//! hints.
 #![tactic(auto)]
 
 mod code_action;

@@ -6,13 +6,14 @@ use lsp_shape::{Misfit, NoMemory, Reader, Wire, Writer, attempt};
 use serde_json::Value;
 use std::alloc::Global;
 
-/// Parameters of `textDocument/rename`: the symbol to rename in the whole workspace, and its new name (LSP 3.17,
-/// "Rename Request").
+/// Parameters of `textDocument/rename`: the symbol to rename in the whole workspace, and its new
+/// name (LSP 3.17, "Rename Request").
 #[derive(Debug, PartialEq, Eq, Clone, Drop)]
 pub struct RenameParams {
     /// The document and a position on the symbol.
     pub text_document_position: TextDocumentPositionParams,
-    /// What the symbol should be called. If that isn't a valid name, the server responds with an error.
+    /// What the symbol should be called. If that isn't a valid name, the server responds with an
+    /// error.
     pub new_name: String,
     /// The token for progress reports on this request, if the client sent one.
     pub work_done_progress_params: WorkDoneProgressParams,
@@ -42,8 +43,9 @@ impl Wire for RenameParams {
     }
 }
 
-/// Result of `textDocument/prepareRename`: what would be renamed at the position of the request, since 3.12. If nothing
-/// can be renamed there, the result is null instead (LSP 3.17, "Prepare Rename Request").
+/// Result of `textDocument/prepareRename`: what would be renamed at the position of the request,
+/// since 3.12. If nothing can be renamed there, the result is null instead (LSP 3.17, "Prepare
+/// Rename Request").
 #[derive(Debug, PartialEq, Eq, Clone, Drop)]
 pub enum PrepareRenameResponse {
     /// The range of the name to replace. The user starts from the text in it.
@@ -55,8 +57,8 @@ pub enum PrepareRenameResponse {
         /// The text that the user starts from.
         placeholder: String,
     },
-    /// There is something to rename, and the client finds its range by itself. Only for clients with
-    /// `textDocument.rename.prepareSupportDefaultBehavior`, since 3.16.
+    /// There is something to rename, and the client finds its range by itself. Only for clients
+    /// with `textDocument.rename.prepareSupportDefaultBehavior`, since 3.16.
     DefaultBehavior {
         /// Normally true. LSP 3.17 gives false no meaning of its own.
         default_behavior: bool,

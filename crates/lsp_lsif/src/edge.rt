@@ -7,22 +7,24 @@ use lsp_shape::{Misfit, NoMemory, Reader, Wire, Writer, attempt, put_tag, tag};
 use serde_json::Value;
 use std::alloc::Global;
 
-/// A directed link of the graph that a dump describes, from one vertex to one or more others. In JSON, the member
-/// `label` gives the variant (LSIF 0.6).
+/// A directed link of the graph that a dump describes, from one vertex to one or more others. In
+/// JSON, the member `label` gives the variant (LSIF 0.6).
 #[derive(Debug, PartialEq, Drop)]
 pub enum Edge {
     /// From a project to its documents, or from a document to its ranges.
     Contains(EdgeDataMultiIn),
     /// From a range or a result set to the moniker of its symbol.
     Moniker(EdgeData),
-    /// From a moniker to another one of the same symbol, such as one that a package manager's scheme defines. LSIF 0.6
-    /// has the edge `attach` in its place.
+    /// From a moniker to another one of the same symbol, such as one that a package manager's
+    /// scheme defines. LSIF 0.6 has the edge `attach` in its place.
     NextMoniker(EdgeData),
-    /// From a range or a result set to the result set in which to look for results that it doesn't have itself.
+    /// From a range or a result set to the result set in which to look for results that it doesn't
+    /// have itself.
     Next(EdgeData),
     /// From a moniker to the package of its symbol.
     PackageInformation(EdgeData),
-    /// From a result, such as a `definitionResult`, to the ranges or the further results that it consists of.
+    /// From a result, such as a `definitionResult`, to the ranges or the further results that it
+    /// consists of.
     Item(Item),
     /// From a range or a result set to its `definitionResult`.
     Definition(EdgeData),
@@ -226,10 +228,11 @@ impl Wire for EdgeDataMultiIn {
 /// The edge `item`, from a result to the ranges or further results that it consists of (LSIF 0.6).
 #[derive(Debug, PartialEq, Drop)]
 pub struct Item {
-    /// The id of the document that the vertices in `in_vs` belong to. LSIF 0.6 names the member `shard`.
+    /// The id of the document that the vertices in `in_vs` belong to. LSIF 0.6 names the member
+    /// `shard`.
     pub document: Id,
-    /// What the vertices in `in_vs` are to the result. Absent if the result has items of one kind only, as a
-    /// `definitionResult` does.
+    /// What the vertices in `in_vs` are to the result. Absent if the result has items of one kind
+    /// only, as a `definitionResult` does.
     pub property: Option<ItemKind>,
     /// The result, and the vertices that are part of it.
     pub edge_data: EdgeDataMultiIn,
@@ -303,8 +306,8 @@ impl Wire for ItemKind {
     }
 }
 
-/// The place of a definition. No vertex here holds one: `item` edges lead from a `definitionResult` to its ranges (LSIF
-/// 0.6).
+/// The place of a definition. No vertex here holds one: `item` edges lead from a `definitionResult`
+/// to its ranges (LSIF 0.6).
 #[derive(Debug, PartialEq, Drop)]
 pub enum DefinitionResultType {
     /// One place.

@@ -8,12 +8,12 @@ use lsp_shape::{Misfit, NoMemory, Reader, Wire, Writer, put_tag, tag};
 use serde_json::Value;
 use std::alloc::Global;
 
-/// The id of a vertex or an edge, an integer or a string, by which other entries of the same dump refer to it (LSIF
-/// 0.6).
+/// The id of a vertex or an edge, an integer or a string, by which other entries of the same dump
+/// refer to it (LSIF 0.6).
 pub type Id = NumberOrString;
 
-/// One vertex or edge of an index dump, as a JSON object. A dump is a sequence of them, and each vertex stands before
-/// the edges that refer to it (LSIF 0.6).
+/// One vertex or edge of an index dump, as a JSON object. A dump is a sequence of them, and each
+/// vertex stands before the edges that refer to it (LSIF 0.6).
 #[derive(Debug, Drop)]
 pub struct Entry {
     /// The id of the vertex or edge, unique in the dump.
@@ -44,7 +44,8 @@ impl Wire for Entry {
     }
 }
 
-/// A vertex or an edge of the graph that a dump describes. In JSON, the member `type` distinguishes them (LSIF 0.6).
+/// A vertex or an edge of the graph that a dump describes. In JSON, the member `type` distinguishes
+/// them (LSIF 0.6).
 #[derive(Debug, Drop)]
 pub enum Element {
     /// A node, such as a document, a range or the result of a request. Its `type` is `vertex`.

@@ -15,11 +15,12 @@ use lsp_shape::{Misfit, NoMemory, Wire, field, find, put, put_value};
 use serde_json::{Map, Value};
 use std::alloc::Global;
 
-/// A symbol of a document and the symbols inside it, by the ids of their ranges: an entry of the result of a
-/// `documentSymbolResult` vertex (LSIF 0.6).
+/// A symbol of a document and the symbols inside it, by the ids of their ranges: an entry of the
+/// result of a `documentSymbolResult` vertex (LSIF 0.6).
 #[derive(Debug, PartialEq, Drop)]
 pub struct RangeBasedDocumentSymbol {
-    /// The id of the vertex of the range, whose tag describes the symbol, as a definition or a declaration.
+    /// The id of the vertex of the range, whose tag describes the symbol, as a definition or a
+    /// declaration.
     pub id: Id,
     /// The symbols inside this one. Absent: there are none. An empty array isn't written.
     pub children: Vec<RangeBasedDocumentSymbol>,

@@ -7,7 +7,8 @@ use lsp_shape::{Misfit, NoMemory, Reader, Wire, Writer, put_tag, tag};
 use serde_json::Value;
 use std::alloc::Global;
 
-/// What the text in the range of a `range` vertex is. In JSON, the member `type` gives the variant (LSIF 0.6).
+/// What the text in the range of a `range` vertex is. In JSON, the member `type` gives the variant
+/// (LSIF 0.6).
 #[derive(Debug, PartialEq, Drop)]
 pub enum RangeTag {
     /// The name of a symbol, where it is defined.
@@ -64,8 +65,8 @@ pub struct DefinitionTag {
     kind: SymbolKind,
     /// Whether the symbol is deprecated. Absent: it isn't. `false` isn't written.
     deprecated: bool,
-    /// The range of the whole definition with its comments, but without whitespace around it. It contains the range
-    /// that has the tag.
+    /// The range of the whole definition with its comments, but without whitespace around it. It
+    /// contains the range that has the tag.
     full_range: Range,
     /// More about the symbol, such as its signature.
     detail: Option<String>,
@@ -108,8 +109,8 @@ pub struct DeclarationTag {
     kind: SymbolKind,
     /// Whether the symbol is deprecated. Absent: it isn't. `false` is written too.
     deprecated: bool,
-    /// The range of the whole declaration with its comments, but without whitespace around it. It contains the range
-    /// that has the tag.
+    /// The range of the whole declaration with its comments, but without whitespace around it. It
+    /// contains the range that has the tag.
     full_range: Range,
     /// More about the symbol, such as its signature.
     detail: Option<String>,

@@ -12,7 +12,8 @@ use lsp_uri::Uri;
 use serde_json::Value;
 use std::alloc::Global;
 
-/// A node of the graph that a dump describes. In JSON, the member `label` gives the variant (LSIF 0.6).
+/// A node of the graph that a dump describes. In JSON, the member `label` gives the variant (LSIF
+/// 0.6).
 #[derive(Debug, Drop)]
 pub enum Vertex {
     /// What holds for the whole dump, such as the version of the format.
@@ -21,9 +22,11 @@ pub enum Vertex {
     Project(Project),
     /// A document, which contains ranges.
     Document(Document),
-    /// A range in a document, from which edges lead to the results of requests at its positions (LSIF 0.6, "Ranges").
+    /// A range in a document, from which edges lead to the results of requests at its positions
+    /// (LSIF 0.6, "Ranges").
     Range {
-        /// The start and the end of the range. Ranges of one document may be nested, but may not overlap otherwise.
+        /// The start and the end of the range. Ranges of one document may be nested, but may not
+        /// overlap otherwise.
         range: Range,
         /// What the text in the range is, such as a definition.
         tag: Option<RangeTag>,
@@ -36,17 +39,20 @@ pub enum Vertex {
     PackageInformation(PackageInformation),
     /// Marks where the data of a project or a document begins or ends in the dump.
     Event(Event),
-    /// The result of `textDocument/definition`. `item` edges lead from it to the ranges of the definitions.
+    /// The result of `textDocument/definition`. `item` edges lead from it to the ranges of the
+    /// definitions.
     DefinitionResult,
-    /// The result of `textDocument/declaration`. `item` edges lead from it to the ranges of the declarations.
+    /// The result of `textDocument/declaration`. `item` edges lead from it to the ranges of the
+    /// declarations.
     DeclarationResult,
-    /// The result of `textDocument/typeDefinition`. `item` edges lead from it to the ranges of the definitions of the
-    /// type.
+    /// The result of `textDocument/typeDefinition`. `item` edges lead from it to the ranges of the
+    /// definitions of the type.
     TypeDefinitionResult,
-    /// The result of `textDocument/references`. `item` edges lead from it to ranges, or to other results that it
-    /// includes.
+    /// The result of `textDocument/references`. `item` edges lead from it to ranges, or to other
+    /// results that it includes.
     ReferenceResult,
-    /// The result of `textDocument/implementation`. `item` edges lead from it to the ranges of the implementations.
+    /// The result of `textDocument/implementation`. `item` edges lead from it to the ranges of the
+    /// implementations.
     ImplementationResult,
     /// The result of `textDocument/foldingRange` for a document.
     FoldingRangeResult {
@@ -222,8 +228,8 @@ impl Wire for Vertex {
 /// The vertex `metaData`, which describes the dump as a whole (LSIF 0.6).
 #[derive(Debug, PartialEq, Drop)]
 pub struct MetaData {
-    /// The version of LSIF that the dump follows, such as `0.6.0`. Before 1.0, each new version may break readers of
-    /// the last.
+    /// The version of LSIF that the dump follows, such as `0.6.0`. Before 1.0, each new version may
+    /// break readers of the last.
     pub version: String,
     /// The URI of the root of the project that the dump was made for.
     pub project_root: Uri,
@@ -292,7 +298,8 @@ impl Wire for Encoding {
 pub struct ToolInfo {
     /// The name of the tool.
     pub name: String,
-    /// The arguments that the tool was run with. Absent: there are none. An empty array isn't written.
+    /// The arguments that the tool was run with. Absent: there are none. An empty array isn't
+    /// written.
     pub args: Vec<String>,
     /// The version of the tool.
     pub version: Option<String>,
@@ -322,8 +329,8 @@ impl Wire for ToolInfo {
     }
 }
 
-/// The vertex `project`: a project that the documents of the dump belong to, linked to them by `contains` edges (LSIF
-/// 0.6, "The Project vertex").
+/// The vertex `project`: a project that the documents of the dump belong to, linked to them by
+/// `contains` edges (LSIF 0.6, "The Project vertex").
 #[derive(Debug, PartialEq, Drop)]
 pub struct Project {
     /// The URI of the project file, such as a `tsconfig.json`.
@@ -393,7 +400,8 @@ impl Wire for Repository {
     }
 }
 
-/// The vertex `document`: a document that the dump describes, linked to its ranges by `contains` edges (LSIF 0.6).
+/// The vertex `document`: a document that the dump describes, linked to its ranges by `contains`
+/// edges (LSIF 0.6).
 #[derive(Debug, PartialEq, Drop)]
 pub struct Document {
     /// The URI of the document.
@@ -424,8 +432,8 @@ impl Wire for Document {
     }
 }
 
-/// The vertex `resultSet`, which holds the results that several ranges share. `next` edges lead from the ranges to it,
-/// and from it to the next set (LSIF 0.6, "Result Set").
+/// The vertex `resultSet`, which holds the results that several ranges share. `next` edges lead
+/// from the ranges to it, and from it to the next set (LSIF 0.6, "Result Set").
 #[derive(Debug, PartialEq, Drop)]
 pub struct ResultSet {
     /// A key that the tool gave the set.
@@ -452,8 +460,8 @@ impl Wire for ResultSet {
     }
 }
 
-/// The vertex `packageInformation`: a package of a package manager. `packageInformation` edges lead to it from the
-/// monikers of its symbols (LSIF 0.6).
+/// The vertex `packageInformation`: a package of a package manager. `packageInformation` edges lead
+/// to it from the monikers of its symbols (LSIF 0.6).
 #[derive(Debug, PartialEq, Drop)]
 pub struct PackageInformation {
     /// The name of the package.
@@ -500,7 +508,8 @@ impl Wire for PackageInformation {
     }
 }
 
-/// The vertex `$event`, which marks where the data of a project or a document begins or ends in the dump (LSIF 0.6).
+/// The vertex `$event`, which marks where the data of a project or a document begins or ends in the
+/// dump (LSIF 0.6).
 #[derive(Debug, PartialEq, Drop)]
 pub struct Event {
     /// Whether the data begins or ends.
@@ -602,7 +611,8 @@ impl Wire for EventScope {
 /// The symbols of a document in a `documentSymbolResult` vertex, in one of two forms (LSIF 0.6).
 #[derive(Debug, PartialEq, Drop)]
 pub enum DocumentSymbolOrRangeBasedVec {
-    /// Complete symbols, as in the result of `textDocument/documentSymbol`. An empty array is read as this variant.
+    /// Complete symbols, as in the result of `textDocument/documentSymbol`. An empty array is read
+    /// as this variant.
     DocumentSymbol(Vec<DocumentSymbol>),
     /// The ids of ranges, whose tags describe the symbols.
     RangeBased(Vec<RangeBasedDocumentSymbol>),

@@ -13,8 +13,8 @@ use lsp_uri::Uri;
 use serde_json::Value;
 use std::alloc::Global;
 
-/// The features that a client supports, as part of `InitializeParams`. An absent field means that it supports none of
-/// that group (LSP 3.17, "Initialize Request").
+/// The features that a client supports, as part of `InitializeParams`. An absent field means that
+/// it supports none of that group (LSP 3.17, "Initialize Request").
 #[derive(Debug, Default, Clone, Drop)]
 pub struct ClientCapabilities {
     /// Features of the workspace, such as edits, configuration and file operations.
@@ -61,29 +61,33 @@ impl Wire for ClientCapabilities {
     }
 }
 
-/// Parameters of `initialize`, the first request of a session, sent by the client (LSP 3.17, "Initialize Request").
+/// Parameters of `initialize`, the first request of a session, sent by the client (LSP 3.17,
+/// "Initialize Request").
 #[derive(Debug, Default, Clone, Drop)]
 pub struct InitializeParams {
-    /// The id of the process that started the server. Once that process is gone, the server should exit. `None`, sent
-    /// as `null`, if no process started it.
+    /// The id of the process that started the server. Once that process is gone, the server should
+    /// exit. `None`, sent as `null`, if no process started it.
     pub process_id: Option<u32>,
-    /// The path of the open folder. Absent or `null` if no folder is open. Deprecated: `root_uri` takes its place.
+    /// The path of the open folder. Absent or `null` if no folder is open. Deprecated: `root_uri`
+    /// takes its place.
     pub root_path: Option<String>,
-    /// The URI of the open folder, which takes precedence over `root_path`. `None`, sent as `null`, if no folder is
-    /// open. Deprecated: `workspace_folders` takes its place.
+    /// The URI of the open folder, which takes precedence over `root_path`. `None`, sent as `null`,
+    /// if no folder is open. Deprecated: `workspace_folders` takes its place.
     pub root_uri: Option<Uri>,
     /// Settings for the server, in a form that the server defines.
     pub initialization_options: Option<Value>,
     /// The features that the client supports.
     pub capabilities: ClientCapabilities,
-    /// How much the server reports with `$/logTrace` until `$/setTrace` changes it. Absent: nothing, as `off`.
+    /// How much the server reports with `$/logTrace` until `$/setTrace` changes it. Absent:
+    /// nothing, as `off`.
     pub trace: Option<TraceValue>,
-    /// The folders of the workspace. `None` if the client sends `null`, since it has none open, or nothing, since it
-    /// doesn't support workspace folders. Since 3.6.
+    /// The folders of the workspace. `None` if the client sends `null`, since it has none open, or
+    /// nothing, since it doesn't support workspace folders. Since 3.6.
     pub workspace_folders: Option<Vec<WorkspaceFolder>>,
     /// The name and version of the client, since 3.15.
     pub client_info: Option<ClientInfo>,
-    /// The language of the client's user interface, as an IETF language tag such as `en-GB`. Since 3.16.
+    /// The language of the client's user interface, as an IETF language tag such as `en-GB`. Since
+    /// 3.16.
     pub locale: Option<String>,
     /// The token for reports on the progress of the initialization. Absent: the client wants none.
     pub work_done_progress_params: WorkDoneProgressParams,

@@ -25,16 +25,18 @@ use lsp_shape::{Misfit, NoMemory, Reader, Wire, Writer};
 use serde_json::Value;
 use std::alloc::Global;
 
-/// The features that a server offers from the start, as part of `InitializeResult`. An absent field means that it
-/// doesn't offer that feature. It can register others later with `client/registerCapability`, where the client has
-/// `dynamic_registration` for them. Type hierarchies have no field here, so they can only be registered later (LSP
-/// 3.17, "Initialize Request").
+/// The features that a server offers from the start, as part of `InitializeResult`. An absent field
+/// means that it doesn't offer that feature. It can register others later with
+/// `client/registerCapability`, where the client has `dynamic_registration` for them. Type
+/// hierarchies have no field here, so they can only be registered later (LSP 3.17, "Initialize
+/// Request").
 #[derive(Debug, Default, Clone, Drop)]
 pub struct ServerCapabilities {
-    /// The unit of `character` in positions, one of those that the client offers as `general.positionEncodings`, since
-    /// 3.17. Absent: UTF-16 code units.
+    /// The unit of `character` in positions, one of those that the client offers as
+    /// `general.positionEncodings`, since 3.17. Absent: UTF-16 code units.
     pub position_encoding: Option<PositionEncodingKind>,
-    /// The messages that the server wants when text documents are opened, changed, saved and closed. Absent: none.
+    /// The messages that the server wants when text documents are opened, changed, saved and
+    /// closed. Absent: none.
     pub text_document_sync: Option<TextDocumentSyncCapability>,
     /// The notebooks on which the server wants notifications, since 3.17.
     pub notebook_document_sync: Option<
@@ -89,8 +91,8 @@ pub struct ServerCapabilities {
     /// Support for `textDocument/prepareCallHierarchy`, `callHierarchy/incomingCalls` and
     /// `callHierarchy/outgoingCalls`, since 3.16.
     pub call_hierarchy_provider: Option<CallHierarchyServerCapability>,
-    /// Support for semantic tokens: the requests `textDocument/semanticTokens/full`, `/full/delta` and `/range`, since
-    /// 3.16.
+    /// Support for semantic tokens: the requests `textDocument/semanticTokens/full`, `/full/delta`
+    /// and `/range`, since 3.16.
     pub semantic_tokens_provider: Option<SemanticTokensServerCapabilities>,
     /// Support for `textDocument/moniker`, since 3.16.
     pub moniker_provider: Option<OneOf<bool, MonikerServerCapabilities>>,
@@ -100,7 +102,8 @@ pub struct ServerCapabilities {
     pub inline_value_provider: Option<OneOf<bool, InlineValueServerCapabilities>>,
     /// Support for `textDocument/inlayHint`, and optionally for `inlayHint/resolve`, since 3.17.
     pub inlay_hint_provider: Option<OneOf<bool, InlayHintServerCapabilities>>,
-    /// Support for `textDocument/diagnostic`, and optionally for `workspace/diagnostic`, since 3.17.
+    /// Support for `textDocument/diagnostic`, and optionally for `workspace/diagnostic`, since
+    /// 3.17.
     pub diagnostic_provider: Option<DiagnosticServerCapabilities>,
     /// Features that aren't part of the standard, in a form that client and server agree on.
     pub experimental: Option<Value>,

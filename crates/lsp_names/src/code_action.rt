@@ -9,8 +9,8 @@ use serde_json::Value;
 use std::alloc::Global;
 use std::marker::Model;
 
-/// What a code action does, by names with dots between them, from the general to the special. Any other string is kept
-/// as it is (LSP 3.17, "Code Action Request").
+/// What a code action does, by names with dots between them, from the general to the special. Any
+/// other string is kept as it is (LSP 3.17, "Code Action Request").
 #[derive(Clone, Debug, PartialEq, Eq, PartialOrd, Ord, Hash, Drop)]
 pub struct CodeActionKind(KindText);
 

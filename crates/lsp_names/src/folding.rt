@@ -6,8 +6,8 @@ use no_memory::NoMemory;
 use serde_json::Value;
 use std::alloc::Global;
 
-/// What a range that can be folded holds. LSP allows any string; here only these three are read, and reading fails for
-/// others (LSP 3.17, "Folding Range Request").
+/// What a range that can be folded holds. LSP allows any string; here only these three are read,
+/// and reading fails for others (LSP 3.17, "Folding Range Request").
 #[derive(Clone, Debug, PartialEq, Eq, Drop)]
 pub enum FoldingRangeKind {
     /// A comment.

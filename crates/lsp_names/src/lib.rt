@@ -1,5 +1,5 @@
-//! The kinds of LSP 3.17 that are texts, and small types that stand in many others: texts for people, a trace's level,
-//! and what is folded, told and offered.
+//! The kinds of LSP 3.17 that are texts, and small types that stand in many others: texts for
+//! people, a trace's level, and what is folded, told and offered.
 #![tactic(auto)]
 #![allow(non_snake_case)]
 

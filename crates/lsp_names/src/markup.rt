@@ -101,7 +101,8 @@ impl Wire for LanguageString {
     }
 }
 
-/// A text for people, Markdown or code. LSP has deprecated it: use `MarkupContent` (LSP 3.17, "Hover Request").
+/// A text for people, Markdown or code. LSP has deprecated it: use `MarkupContent` (LSP 3.17,
+/// "Hover Request").
 #[derive(Clone, Debug, PartialEq, Eq, Drop)]
 pub enum MarkedString {
     /// Markdown.
@@ -151,8 +152,8 @@ impl Wire for MarkedString {
     }
 }
 
-/// What documents an item, such as a completion or a parameter (LSP 3.17, "Completion Request", "Signature Help
-/// Request").
+/// What documents an item, such as a completion or a parameter (LSP 3.17, "Completion Request",
+/// "Signature Help Request").
 #[derive(Clone, Debug, PartialEq, Eq, Drop)]
 pub enum Documentation {
     /// A string that is shown as it stands.

@@ -9,8 +9,8 @@ use serde_json::Value;
 use std::alloc::Global;
 use std::marker::Model;
 
-/// The encoding in whose code units a position's `character` is counted. Any other name is kept as it is. Since 3.17
-/// (LSP 3.17, "Position").
+/// The encoding in whose code units a position's `character` is counted. Any other name is kept as
+/// it is. Since 3.17 (LSP 3.17, "Position").
 #[derive(Clone, Debug, PartialEq, Eq, PartialOrd, Ord, Hash, Drop)]
 pub struct PositionEncodingKind(KindText);
 

@@ -6,8 +6,8 @@ use no_memory::NoMemory;
 use serde_json::Value;
 use std::alloc::Global;
 
-/// Whether a server reports work done progress for its requests, where the client sends a token. Since 3.15 (LSP 3.17,
-/// "Client Initiated Progress").
+/// Whether a server reports work done progress for its requests, where the client sends a token.
+/// Since 3.15 (LSP 3.17, "Client Initiated Progress").
 #[derive(Clone, Copy, Debug, PartialEq, Eq, Default)]
 pub struct WorkDoneProgressOptions {
     /// Whether it does. Absent: it doesn't.

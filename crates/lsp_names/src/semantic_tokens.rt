@@ -10,7 +10,8 @@ use serde_json::Value;
 use std::alloc::Global;
 use std::marker::Model;
 
-/// What a token of code is, by a name. Any other name is kept as it is. Since 3.16 (LSP 3.17, "Semantic Tokens").
+/// What a token of code is, by a name. Any other name is kept as it is. Since 3.16 (LSP 3.17,
+/// "Semantic Tokens").
 #[derive(Clone, Debug, PartialEq, Eq, PartialOrd, Ord, Hash, Drop)]
 pub struct SemanticTokenType(KindText);
 
@@ -232,8 +233,8 @@ impl Wire for SemanticTokenType {
     }
 }
 
-/// What else is to be said of a token of code, by a name. Any other name is kept as it is. Since 3.16 (LSP 3.17,
-/// "Semantic Tokens").
+/// What else is to be said of a token of code, by a name. Any other name is kept as it is. Since
+/// 3.16 (LSP 3.17, "Semantic Tokens").
 #[derive(Clone, Debug, PartialEq, Eq, PartialOrd, Ord, Hash, Drop)]
 pub struct SemanticTokenModifier(KindText);
 
@@ -364,8 +365,8 @@ impl Wire for SemanticTokenModifier {
     }
 }
 
-/// How the numbers of tokens are meant, by a name. Any other name is kept as it is. Since 3.16 (LSP 3.17, "Semantic
-/// Tokens").
+/// How the numbers of tokens are meant, by a name. Any other name is kept as it is. Since 3.16 (LSP
+/// 3.17, "Semantic Tokens").
 #[derive(Clone, Debug, PartialEq, Eq, PartialOrd, Ord, Hash, Drop)]
 pub struct TokenFormat(KindText);
 
@@ -433,8 +434,8 @@ impl Wire for TokenFormat {
     }
 }
 
-/// Whether tokens of a whole document are supported, and whether also as edits. Since 3.16 (LSP 3.17, "Semantic
-/// Tokens").
+/// Whether tokens of a whole document are supported, and whether also as edits. Since 3.16 (LSP
+/// 3.17, "Semantic Tokens").
 #[derive(Clone, Debug, PartialEq, Eq, Drop)]
 pub enum SemanticTokensFullOptions {
     /// Whether they are, without edits.

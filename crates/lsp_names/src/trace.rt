@@ -8,8 +8,8 @@ use no_memory::NoMemory;
 use serde_json::Value;
 use std::alloc::Global;
 
-/// How much a server reports with `$/logTrace`. At first `off`, unless `initialize` says otherwise (LSP 3.17,
-/// "TraceValue").
+/// How much a server reports with `$/logTrace`. At first `off`, unless `initialize` says otherwise
+/// (LSP 3.17, "TraceValue").
 #[derive(Clone, Copy, Debug, PartialEq, Eq)]
 pub enum TraceValue {
     /// No traces.

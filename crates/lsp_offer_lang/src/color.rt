@@ -9,16 +9,17 @@ use lsp_shape::{Misfit, NoMemory, Reader, Wire, Writer, attempt};
 use serde_json::Value;
 use std::alloc::Global;
 
-/// Whether a server supports `textDocument/documentColor` and `textDocument/colorPresentation`, as the capability
-/// `colorProvider`. Since 3.6 (LSP 3.17, "Document Color Request").
+/// Whether a server supports `textDocument/documentColor` and `textDocument/colorPresentation`, as
+/// the capability `colorProvider`. Since 3.6 (LSP 3.17, "Document Color Request").
 #[derive(Debug, PartialEq, Eq, Clone, Drop)]
 pub enum ColorProviderCapability {
     /// `true` if the requests are supported.
     Simple(bool),
-    /// The requests are supported, without a choice of documents. Every JSON object is read as this variant.
+    /// The requests are supported, without a choice of documents. Every JSON object is read as this
+    /// variant.
     ColorProvider(ColorProviderOptions),
-    /// The requests are supported for the selected documents. For sending only: such an object is read as
-    /// `ColorProvider`.
+    /// The requests are supported for the selected documents. For sending only: such an object is
+    /// read as `ColorProvider`.
     Options(StaticTextDocumentColorProviderOptions),
 }
 
@@ -73,8 +74,8 @@ impl From<bool> for ColorProviderCapability {
     }
 }
 
-/// Says that colors are supported, without further options: an empty JSON object, since 3.6 (LSP 3.17, "Document Color
-/// Request").
+/// Says that colors are supported, without further options: an empty JSON object, since 3.6 (LSP
+/// 3.17, "Document Color Request").
 #[derive(Debug, PartialEq, Eq, Clone, Drop)]
 pub struct ColorProviderOptions {}
 
@@ -95,14 +96,15 @@ impl Wire for ColorProviderOptions {
     }
 }
 
-/// The documents for which a server offers colors or folding ranges, and the id of that registration (LSP 3.17,
-/// "Document Color Request").
+/// The documents for which a server offers colors or folding ranges, and the id of that
+/// registration (LSP 3.17, "Document Color Request").
 #[derive(Debug, PartialEq, Eq, Clone, Drop)]
 pub struct StaticTextDocumentColorProviderOptions {
-    /// The documents that the registration applies to. `None`, sent as `null`: those that the client selects itself.
+    /// The documents that the registration applies to. `None`, sent as `null`: those that the
+    /// client selects itself.
     pub document_selector: Option<DocumentSelector>,
-    /// The id with which the server can unregister the feature later, using `client/unregisterCapability`. Absent: it
-    /// can't.
+    /// The id with which the server can unregister the feature later, using
+    /// `client/unregisterCapability`. Absent: it can't.
     pub id: Option<String>,
 }
 
@@ -131,16 +133,17 @@ impl Wire for StaticTextDocumentColorProviderOptions {
     }
 }
 
-/// Whether a server supports `textDocument/foldingRange`, as the capability `foldingRangeProvider`. Since 3.10 (LSP
-/// 3.17, "Folding Range Request").
+/// Whether a server supports `textDocument/foldingRange`, as the capability `foldingRangeProvider`.
+/// Since 3.10 (LSP 3.17, "Folding Range Request").
 #[derive(Debug, PartialEq, Eq, Clone, Drop)]
 pub enum FoldingRangeProviderCapability {
     /// `true` if the request is supported.
     Simple(bool),
-    /// The request is supported, without a choice of documents. Every JSON object is read as this variant.
+    /// The request is supported, without a choice of documents. Every JSON object is read as this
+    /// variant.
     FoldingProvider(FoldingProviderOptions),
-    /// The request is supported for the selected documents. For sending only: such an object is read as
-    /// `FoldingProvider`.
+    /// The request is supported for the selected documents. For sending only: such an object is
+    /// read as `FoldingProvider`.
     Options(StaticTextDocumentColorProviderOptions),
 }
 
@@ -196,8 +199,8 @@ impl From<bool> for FoldingRangeProviderCapability {
     }
 }
 
-/// Says that folding ranges are supported, without further options: an empty JSON object, since 3.10 (LSP 3.17,
-/// "Folding Range Request").
+/// Says that folding ranges are supported, without further options: an empty JSON object, since
+/// 3.10 (LSP 3.17, "Folding Range Request").
 #[derive(Debug, PartialEq, Eq, Clone, Drop)]
 pub struct FoldingProviderOptions {}
 

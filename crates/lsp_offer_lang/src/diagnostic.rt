@@ -7,13 +7,15 @@ use lsp_shape::{Misfit, NoMemory, Reader, Wire, Writer, attempt};
 use serde_json::Value;
 use std::alloc::Global;
 
-/// How a server supports `textDocument/diagnostic` and `workspace/diagnostic`, by which the client asks for
-/// diagnostics, as the capability `diagnosticProvider`. Since 3.17 (LSP 3.17, "Pull Diagnostics").
+/// How a server supports `textDocument/diagnostic` and `workspace/diagnostic`, by which the client
+/// asks for diagnostics, as the capability `diagnosticProvider`. Since 3.17 (LSP 3.17, "Pull
+/// Diagnostics").
 #[derive(Debug, PartialEq, Eq, Clone, Drop)]
 pub enum DiagnosticServerCapabilities {
     /// The requests are supported, with these options.
     Options(DiagnosticOptions),
-    /// The requests are supported for the selected documents. For sending only: such an object is read as `Options`.
+    /// The requests are supported for the selected documents. For sending only: such an object is
+    /// read as `Options`.
     RegistrationOptions(DiagnosticRegistrationOptions),
 }
 
@@ -40,11 +42,12 @@ impl Wire for DiagnosticServerCapabilities {
     }
 }
 
-/// Options for `textDocument/diagnostic` and `workspace/diagnostic`, since 3.17 (LSP 3.17, "Pull Diagnostics").
+/// Options for `textDocument/diagnostic` and `workspace/diagnostic`, since 3.17 (LSP 3.17, "Pull
+/// Diagnostics").
 #[derive(Debug, PartialEq, Eq, Default, Clone, Drop)]
 pub struct DiagnosticOptions {
-    /// A name for the diagnostics of this registration, which the client repeats in its requests. Absent: they have
-    /// none.
+    /// A name for the diagnostics of this registration, which the client repeats in its requests.
+    /// Absent: they have none.
     pub identifier: Option<String>,
     /// Whether a change in one document can alter the diagnostics of another.
     pub inter_file_dependencies: bool,
@@ -80,16 +83,16 @@ impl Wire for DiagnosticOptions {
     }
 }
 
-/// Options for registering `textDocument/diagnostic`, in `ServerCapabilities` or while the server runs. Since 3.17 (LSP
-/// 3.17, "Pull Diagnostics").
+/// Options for registering `textDocument/diagnostic`, in `ServerCapabilities` or while the server
+/// runs. Since 3.17 (LSP 3.17, "Pull Diagnostics").
 #[derive(Debug, PartialEq, Eq, Default, Clone, Drop)]
 pub struct DiagnosticRegistrationOptions {
     /// The documents for which diagnostics are offered.
     pub text_document_registration_options: TextDocumentRegistrationOptions,
     /// The options for the requests.
     pub diagnostic_options: DiagnosticOptions,
-    /// The id for unregistering what is registered in `ServerCapabilities`. A dynamic registration has its id in
-    /// `Registration`.
+    /// The id for unregistering what is registered in `ServerCapabilities`. A dynamic registration
+    /// has its id in `Registration`.
     pub static_registration_options: StaticRegistrationOptions,
 }
 

@@ -9,8 +9,9 @@ use lsp_shape::{Misfit, NoMemory, Reader, Wire, Writer, attempt};
 use serde_json::Value;
 use std::alloc::Global;
 
-/// Whether a server supports `textDocument/prepareCallHierarchy` and the requests for incoming and outgoing calls, as
-/// the capability `callHierarchyProvider`. Since 3.16 (LSP 3.17, "Prepare Call Hierarchy Request").
+/// Whether a server supports `textDocument/prepareCallHierarchy` and the requests for incoming and
+/// outgoing calls, as the capability `callHierarchyProvider`. Since 3.16 (LSP 3.17, "Prepare Call
+/// Hierarchy Request").
 #[derive(Debug, PartialEq, Eq, Clone, Copy)]
 pub enum CallHierarchyServerCapability {
     /// `true` if the requests are supported.
@@ -56,8 +57,8 @@ impl From<bool> for CallHierarchyServerCapability {
     }
 }
 
-/// Options for `textDocument/prepareCallHierarchy` and the requests for incoming and outgoing calls, since 3.16 (LSP
-/// 3.17, "Prepare Call Hierarchy Request").
+/// Options for `textDocument/prepareCallHierarchy` and the requests for incoming and outgoing
+/// calls, since 3.16 (LSP 3.17, "Prepare Call Hierarchy Request").
 #[derive(Debug, PartialEq, Eq, Default, Clone, Copy)]
 pub struct CallHierarchyOptions {
     /// Whether the server can report progress on these requests.
@@ -83,8 +84,8 @@ impl Wire for CallHierarchyOptions {
     }
 }
 
-/// Options for `textDocument/prepareTypeHierarchy` and the requests for supertypes and subtypes, since 3.17 (LSP 3.17,
-/// "Prepare Type Hierarchy Request").
+/// Options for `textDocument/prepareTypeHierarchy` and the requests for supertypes and subtypes,
+/// since 3.17 (LSP 3.17, "Prepare Type Hierarchy Request").
 #[derive(Debug, PartialEq, Eq, Default, Clone, Drop)]
 pub struct TypeHierarchyOptions {
     /// Whether the server can report progress on these requests.
@@ -110,17 +111,17 @@ impl Wire for TypeHierarchyOptions {
     }
 }
 
-/// Options for registering `textDocument/prepareTypeHierarchy` while the server runs. LSP 3.17 also has the server
-/// capability `typeHierarchyProvider`, for which `ServerCapabilities` has no field. Since 3.17 (LSP 3.17, "Prepare Type
-/// Hierarchy Request").
+/// Options for registering `textDocument/prepareTypeHierarchy` while the server runs. LSP 3.17 also
+/// has the server capability `typeHierarchyProvider`, for which `ServerCapabilities` has no field.
+/// Since 3.17 (LSP 3.17, "Prepare Type Hierarchy Request").
 #[derive(Debug, PartialEq, Eq, Default, Clone, Drop)]
 pub struct TypeHierarchyRegistrationOptions {
     /// The documents for which type hierarchies are offered.
     pub text_document_registration_options: TextDocumentRegistrationOptions,
     /// The options for the requests.
     pub type_hierarchy_options: TypeHierarchyOptions,
-    /// The id for static registration, which `ServerCapabilities` has no field for. A dynamic registration has its id
-    /// in `Registration`.
+    /// The id for static registration, which `ServerCapabilities` has no field for. A dynamic
+    /// registration has its id in `Registration`.
     pub static_registration_options: StaticRegistrationOptions,
 }
 

@@ -7,13 +7,14 @@ use lsp_shape::{Misfit, NoMemory, Reader, Wire, Writer, attempt};
 use serde_json::Value;
 use std::alloc::Global;
 
-/// How a server supports `textDocument/inlayHint`, in place of a boolean in `ServerCapabilities`. Since 3.17 (LSP 3.17,
-/// "Inlay Hint Request").
+/// How a server supports `textDocument/inlayHint`, in place of a boolean in `ServerCapabilities`.
+/// Since 3.17 (LSP 3.17, "Inlay Hint Request").
 #[derive(Debug, PartialEq, Eq, Clone, Drop)]
 pub enum InlayHintServerCapabilities {
     /// The request is supported, with these options.
     Options(InlayHintOptions),
-    /// The request is supported for the selected documents. For sending only: such an object is read as `Options`.
+    /// The request is supported for the selected documents. For sending only: such an object is
+    /// read as `Options`.
     RegistrationOptions(InlayHintRegistrationOptions),
 }
 
@@ -45,8 +46,8 @@ impl Wire for InlayHintServerCapabilities {
 pub struct InlayHintOptions {
     /// Whether the server can report progress on the request.
     pub work_done_progress_options: WorkDoneProgressOptions,
-    /// Whether `inlayHint/resolve` is supported, by which the client asks for further details of a hint when it needs
-    /// them.
+    /// Whether `inlayHint/resolve` is supported, by which the client asks for further details of a
+    /// hint when it needs them.
     pub resolve_provider: Option<bool>,
 }
 
@@ -72,16 +73,16 @@ impl Wire for InlayHintOptions {
     }
 }
 
-/// Options for registering `textDocument/inlayHint`, in `ServerCapabilities` or while the server runs. Since 3.17 (LSP
-/// 3.17, "Inlay Hint Request").
+/// Options for registering `textDocument/inlayHint`, in `ServerCapabilities` or while the server
+/// runs. Since 3.17 (LSP 3.17, "Inlay Hint Request").
 #[derive(Debug, PartialEq, Eq, Default, Clone, Drop)]
 pub struct InlayHintRegistrationOptions {
     /// The options for the request.
     pub inlay_hint_options: InlayHintOptions,
     /// The documents for which inlay hints are offered.
     pub text_document_registration_options: TextDocumentRegistrationOptions,
-    /// The id for unregistering what is registered in `ServerCapabilities`. A dynamic registration has its id in
-    /// `Registration`.
+    /// The id for unregistering what is registered in `ServerCapabilities`. A dynamic registration
+    /// has its id in `Registration`.
     pub static_registration_options: StaticRegistrationOptions,
 }
 
@@ -110,13 +111,14 @@ impl Wire for InlayHintRegistrationOptions {
     }
 }
 
-/// How a server supports `textDocument/inlineValue`, in place of a boolean in `ServerCapabilities`. Since 3.17 (LSP
-/// 3.17, "Inline Value Request").
+/// How a server supports `textDocument/inlineValue`, in place of a boolean in `ServerCapabilities`.
+/// Since 3.17 (LSP 3.17, "Inline Value Request").
 #[derive(Debug, PartialEq, Eq, Clone, Drop)]
 pub enum InlineValueServerCapabilities {
     /// The request is supported, with these options.
     Options(InlineValueOptions),
-    /// The request is supported for the selected documents. For sending only: such an object is read as `Options`.
+    /// The request is supported for the selected documents. For sending only: such an object is
+    /// read as `Options`.
     RegistrationOptions(InlineValueRegistrationOptions),
 }
 
@@ -169,16 +171,16 @@ impl Wire for InlineValueOptions {
     }
 }
 
-/// Options for registering `textDocument/inlineValue`, in `ServerCapabilities` or while the server runs. Since 3.17
-/// (LSP 3.17, "Inline Value Request").
+/// Options for registering `textDocument/inlineValue`, in `ServerCapabilities` or while the server
+/// runs. Since 3.17 (LSP 3.17, "Inline Value Request").
 #[derive(Debug, PartialEq, Eq, Default, Clone, Drop)]
 pub struct InlineValueRegistrationOptions {
     /// The options for the request.
     pub inline_value_options: InlineValueOptions,
     /// The documents for which inline values are offered.
     pub text_document_registration_options: TextDocumentRegistrationOptions,
-    /// The id for unregistering what is registered in `ServerCapabilities`. A dynamic registration has its id in
-    /// `Registration`.
+    /// The id for unregistering what is registered in `ServerCapabilities`. A dynamic registration
+    /// has its id in `Registration`.
     pub static_registration_options: StaticRegistrationOptions,
 }
 

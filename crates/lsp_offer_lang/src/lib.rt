@@ -1,4 +1,5 @@
-//! What a server offers for text documents, and the options of its registrations: from hierarchies to diagnostics.
+//! What a server offers for text documents, and the options of its registrations: from hierarchies
+//! to diagnostics.
 #![tactic(auto)]
 
 mod color;

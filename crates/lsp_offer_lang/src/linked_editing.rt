@@ -7,15 +7,16 @@ use lsp_shape::{Misfit, NoMemory, Reader, Wire, Writer, attempt};
 use serde_json::Value;
 use std::alloc::Global;
 
-/// Whether a server supports `textDocument/linkedEditingRange`, as the capability `linkedEditingRangeProvider`. Since
-/// 3.16 (LSP 3.17, "Linked Editing Range").
+/// Whether a server supports `textDocument/linkedEditingRange`, as the capability
+/// `linkedEditingRangeProvider`. Since 3.16 (LSP 3.17, "Linked Editing Range").
 #[derive(Debug, PartialEq, Eq, Clone, Drop)]
 pub enum LinkedEditingRangeServerCapabilities {
     /// `true` if the request is supported.
     Simple(bool),
     /// The request is supported, with these options.
     Options(LinkedEditingRangeOptions),
-    /// The request is supported for the selected documents. For sending only: such an object is read as `Options`.
+    /// The request is supported for the selected documents. For sending only: such an object is
+    /// read as `Options`.
     RegistrationOptions(LinkedEditingRangeRegistrationOptions),
 }
 
@@ -77,16 +78,16 @@ impl Wire for LinkedEditingRangeOptions {
     }
 }
 
-/// Options for registering `textDocument/linkedEditingRange`, in `ServerCapabilities` or while the server runs. Since
-/// 3.16 (LSP 3.17, "Linked Editing Range").
+/// Options for registering `textDocument/linkedEditingRange`, in `ServerCapabilities` or while the
+/// server runs. Since 3.16 (LSP 3.17, "Linked Editing Range").
 #[derive(Debug, PartialEq, Eq, Clone, Drop)]
 pub struct LinkedEditingRangeRegistrationOptions {
     /// The documents for which linked editing is offered.
     pub text_document_registration_options: TextDocumentRegistrationOptions,
     /// The options for the request.
     pub linked_editing_range_options: LinkedEditingRangeOptions,
-    /// The id for unregistering what is registered in `ServerCapabilities`. A dynamic registration has its id in
-    /// `Registration`.
+    /// The id for unregistering what is registered in `ServerCapabilities`. A dynamic registration
+    /// has its id in `Registration`.
     pub static_registration_options: StaticRegistrationOptions,
 }
 

@@ -7,13 +7,14 @@ use lsp_shape::{Misfit, NoMemory, Reader, Wire, Writer, attempt};
 use serde_json::Value;
 use std::alloc::Global;
 
-/// How a server supports `textDocument/moniker`, in place of a boolean in `ServerCapabilities`. Since 3.16 (LSP 3.17,
-/// "Monikers").
+/// How a server supports `textDocument/moniker`, in place of a boolean in `ServerCapabilities`.
+/// Since 3.16 (LSP 3.17, "Monikers").
 #[derive(Debug, PartialEq, Eq, Clone, Drop)]
 pub enum MonikerServerCapabilities {
     /// The request is supported, with these options.
     Options(MonikerOptions),
-    /// The request is supported for the selected documents. For sending only: such an object is read as `Options`.
+    /// The request is supported for the selected documents. For sending only: such an object is
+    /// read as `Options`.
     RegistrationOptions(MonikerRegistrationOptions),
 }
 
@@ -66,8 +67,8 @@ impl Wire for MonikerOptions {
     }
 }
 
-/// Options for registering `textDocument/moniker`, in `ServerCapabilities` or while the server runs. Since 3.16 (LSP
-/// 3.17, "Monikers").
+/// Options for registering `textDocument/moniker`, in `ServerCapabilities` or while the server
+/// runs. Since 3.16 (LSP 3.17, "Monikers").
 #[derive(Debug, PartialEq, Eq, Clone, Drop)]
 pub struct MonikerRegistrationOptions {
     /// The documents for which monikers are offered.

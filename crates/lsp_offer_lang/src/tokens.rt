@@ -11,13 +11,14 @@ use lsp_shape::{Misfit, NoMemory, Reader, Wire, Writer, attempt};
 use serde_json::Value;
 use std::alloc::Global;
 
-/// Which requests for semantic tokens a server supports, and how it numbers the token types and modifiers, as the
-/// capability `semanticTokensProvider`. Since 3.16 (LSP 3.17, "Semantic Tokens").
+/// Which requests for semantic tokens a server supports, and how it numbers the token types and
+/// modifiers, as the capability `semanticTokensProvider`. Since 3.16 (LSP 3.17, "Semantic Tokens").
 #[derive(Debug, PartialEq, Eq, Clone, Drop)]
 pub enum SemanticTokensServerCapabilities {
     /// The options, without a choice of documents.
     SemanticTokensOptions(SemanticTokensOptions),
-    /// The options, for the selected documents. For sending only: such an object is read as `SemanticTokensOptions`.
+    /// The options, for the selected documents. For sending only: such an object is read as
+    /// `SemanticTokensOptions`.
     SemanticTokensRegistrationOptions(SemanticTokensRegistrationOptions),
 }
 
@@ -70,8 +71,8 @@ impl From<SemanticTokensRegistrationOptions> for SemanticTokensServerCapabilitie
     }
 }
 
-/// The legend of a server and the `textDocument/semanticTokens` requests that it supports, since 3.16 (LSP 3.17,
-/// "Semantic Tokens").
+/// The legend of a server and the `textDocument/semanticTokens` requests that it supports, since
+/// 3.16 (LSP 3.17, "Semantic Tokens").
 #[derive(Debug, PartialEq, Eq, Clone, Drop)]
 pub struct SemanticTokensOptions {
     /// Whether the server can report progress on these requests.
@@ -80,8 +81,8 @@ pub struct SemanticTokensOptions {
     pub legend: SemanticTokensLegend,
     /// Whether `textDocument/semanticTokens/range` is supported. Absent: it isn't.
     pub range: Option<bool>,
-    /// Whether `textDocument/semanticTokens/full` is supported, and whether `textDocument/semanticTokens/full/delta` is
-    /// too. Absent: neither.
+    /// Whether `textDocument/semanticTokens/full` is supported, and whether
+    /// `textDocument/semanticTokens/full/delta` is too. Absent: neither.
     pub full: Option<SemanticTokensFullOptions>,
 }
 
@@ -129,16 +130,16 @@ impl Wire for SemanticTokensOptions {
     }
 }
 
-/// Options for registering semantic tokens, in `ServerCapabilities` or while the server runs, with the method
-/// `textDocument/semanticTokens`. Since 3.16 (LSP 3.17, "Semantic Tokens").
+/// Options for registering semantic tokens, in `ServerCapabilities` or while the server runs, with
+/// the method `textDocument/semanticTokens`. Since 3.16 (LSP 3.17, "Semantic Tokens").
 #[derive(Debug, PartialEq, Eq, Clone, Drop)]
 pub struct SemanticTokensRegistrationOptions {
     /// The documents for which semantic tokens are offered.
     pub text_document_registration_options: TextDocumentRegistrationOptions,
     /// The legend, and the supported requests.
     pub semantic_tokens_options: SemanticTokensOptions,
-    /// The id for unregistering what is registered in `ServerCapabilities`. A dynamic registration has its id in
-    /// `Registration`.
+    /// The id for unregistering what is registered in `ServerCapabilities`. A dynamic registration
+    /// has its id in `Registration`.
     pub static_registration_options: StaticRegistrationOptions,
 }
 
@@ -170,13 +171,14 @@ impl Wire for SemanticTokensRegistrationOptions {
     }
 }
 
-/// The numbering of token types and modifiers in the results of a server, since 3.16 (LSP 3.17, "Semantic Tokens").
+/// The numbering of token types and modifiers in the results of a server, since 3.16 (LSP 3.17,
+/// "Semantic Tokens").
 #[derive(Debug, PartialEq, Eq, Clone, Drop)]
 pub struct SemanticTokensLegend {
     /// The token types. The type of a token is sent as a zero-based index into this array.
     pub token_types: Vec<SemanticTokenType>,
-    /// The token modifiers. The modifiers of a token are sent as the bits of an integer: bit `n`, where the lowest bit
-    /// is 0, stands for the item at the zero-based index `n`.
+    /// The token modifiers. The modifiers of a token are sent as the bits of an integer: bit `n`,
+    /// where the lowest bit is 0, stands for the item at the zero-based index `n`.
     pub token_modifiers: Vec<SemanticTokenModifier>,
 }
 

@@ -8,13 +8,14 @@ use lsp_shape::{Misfit, NoMemory, Reader, Wire, Writer, attempt};
 use serde_json::Value;
 use std::alloc::Global;
 
-/// Whether a server supports `textDocument/codeAction`, as the capability `codeActionProvider` (LSP 3.17, "Code Action
-/// Request").
+/// Whether a server supports `textDocument/codeAction`, as the capability `codeActionProvider` (LSP
+/// 3.17, "Code Action Request").
 #[derive(Debug, PartialEq, Eq, Clone, Drop)]
 pub enum CodeActionProviderCapability {
     /// `true` if the request is supported.
     Simple(bool),
-    /// The request is supported, with these options. Only for clients that support `CodeAction` values.
+    /// The request is supported, with these options. Only for clients that support `CodeAction`
+    /// values.
     Options(CodeActionOptions),
 }
 
@@ -55,16 +56,18 @@ impl From<bool> for CodeActionProviderCapability {
     }
 }
 
-/// What a server offers for `textDocument/codeAction`. Since 3.11 (LSP 3.17, "Code Action Request").
+/// What a server offers for `textDocument/codeAction`. Since 3.11 (LSP 3.17, "Code Action
+/// Request").
 #[derive(Debug, PartialEq, Eq, Default, Clone, Drop)]
 pub struct CodeActionOptions {
-    /// The kinds of actions that the server may return, either general ones, such as `refactor`, or each in detail.
-    /// Absent: it doesn't say.
+    /// The kinds of actions that the server may return, either general ones, such as `refactor`, or
+    /// each in detail. Absent: it doesn't say.
     pub code_action_kinds: Option<Vec<CodeActionKind>>,
-    /// Whether the server reports work done progress for these requests where the client sends a token. Since 3.15.
+    /// Whether the server reports work done progress for these requests where the client sends a
+    /// token. Since 3.15.
     pub work_done_progress_options: WorkDoneProgressOptions,
-    /// Whether `codeAction/resolve` is supported, by which the client asks for further details of an action. Since
-    /// 3.16.
+    /// Whether `codeAction/resolve` is supported, by which the client asks for further details of
+    /// an action. Since 3.16.
     pub resolve_provider: Option<bool>,
 }
 
@@ -92,11 +95,12 @@ impl Wire for CodeActionOptions {
     }
 }
 
-/// What a server offers for `textDocument/codeLens`, as the capability `codeLensProvider` (LSP 3.17, "Code Lens
-/// Request").
+/// What a server offers for `textDocument/codeLens`, as the capability `codeLensProvider` (LSP
+/// 3.17, "Code Lens Request").
 #[derive(Debug, PartialEq, Eq, Clone, Copy)]
 pub struct CodeLensOptions {
-    /// Whether `codeLens/resolve` is supported, by which the client asks for the command of a code lens.
+    /// Whether `codeLens/resolve` is supported, by which the client asks for the command of a code
+    /// lens.
     pub resolve_provider: Option<bool>,
 }
 
@@ -120,13 +124,15 @@ impl Wire for CodeLensOptions {
     }
 }
 
-/// What a server offers for `textDocument/documentLink`, as the capability `documentLinkProvider` (LSP 3.17, "Document
-/// Link Request").
+/// What a server offers for `textDocument/documentLink`, as the capability `documentLinkProvider`
+/// (LSP 3.17, "Document Link Request").
 #[derive(Debug, PartialEq, Eq, Clone, Drop)]
 pub struct DocumentLinkOptions {
-    /// Whether `documentLink/resolve` is supported, by which the client asks for the target of a link.
+    /// Whether `documentLink/resolve` is supported, by which the client asks for the target of a
+    /// link.
     pub resolve_provider: Option<bool>,
-    /// Whether the server reports work done progress for these requests where the client sends a token. Since 3.15.
+    /// Whether the server reports work done progress for these requests where the client sends a
+    /// token. Since 3.15.
     pub work_done_progress_options: WorkDoneProgressOptions,
 }
 

@@ -7,18 +7,20 @@ use lsp_shape::{Misfit, NoMemory, Reader, Wire, Writer};
 use serde_json::Value;
 use std::alloc::Global;
 
-/// What a server offers for `textDocument/completion`, as the capability `completionProvider` (LSP 3.17, "Completion
-/// Request").
+/// What a server offers for `textDocument/completion`, as the capability `completionProvider` (LSP
+/// 3.17, "Completion Request").
 #[derive(Debug, PartialEq, Eq, Default, Clone, Drop)]
 pub struct CompletionOptions {
-    /// Whether `completionItem/resolve` is supported, by which the client asks for further details of an item.
+    /// Whether `completionItem/resolve` is supported, by which the client asks for further details
+    /// of an item.
     pub resolve_provider: Option<bool>,
-    /// Characters after which the client requests completion automatically, such as `.`. Characters of identifiers need
-    /// not be listed.
+    /// Characters after which the client requests completion automatically, such as `.`. Characters
+    /// of identifiers need not be listed.
     pub trigger_characters: Option<Vec<String>>,
     /// Characters that accept an item when typed, unless the item lists its own. Since 3.2.
     pub all_commit_characters: Option<Vec<String>>,
-    /// Whether the server reports work done progress for these requests where the client sends a token. Since 3.15.
+    /// Whether the server reports work done progress for these requests where the client sends a
+    /// token. Since 3.15.
     pub work_done_progress_options: WorkDoneProgressOptions,
     /// What the server supports in a single completion item. Since 3.17.
     pub completion_item: Option<CompletionOptionsCompletionItem>,
@@ -52,11 +54,12 @@ impl Wire for CompletionOptions {
     }
 }
 
-/// What a server supports in a completion item, as the capability `completionProvider.completionItem`. Since 3.17 (LSP
-/// 3.17, "Completion Request").
+/// What a server supports in a completion item, as the capability
+/// `completionProvider.completionItem`. Since 3.17 (LSP 3.17, "Completion Request").
 #[derive(Debug, PartialEq, Eq, Default, Clone, Drop)]
 pub struct CompletionOptionsCompletionItem {
-    /// Whether the server understands label details in the item of a `completionItem/resolve` request.
+    /// Whether the server understands label details in the item of a `completionItem/resolve`
+    /// request.
     pub label_details_support: Option<bool>,
 }
 
@@ -80,7 +83,8 @@ impl Wire for CompletionOptionsCompletionItem {
     }
 }
 
-/// The options with which a server registers `textDocument/completion` (LSP 3.17, "Completion Request").
+/// The options with which a server registers `textDocument/completion` (LSP 3.17, "Completion
+/// Request").
 #[derive(Debug, PartialEq, Clone, Drop)]
 pub struct CompletionRegistrationOptions {
     /// The documents that the registration applies to.

@@ -8,11 +8,12 @@ use lsp_shape::{Misfit, NoMemory, Reader, Wire, Writer};
 use serde_json::Value;
 use std::alloc::Global;
 
-/// What a server offers for `textDocument/formatting`, as the capability `documentFormattingProvider` (LSP 3.17,
-/// "Document Formatting Request").
+/// What a server offers for `textDocument/formatting`, as the capability
+/// `documentFormattingProvider` (LSP 3.17, "Document Formatting Request").
 #[derive(Debug, PartialEq, Eq, Default, Clone, Drop)]
 pub struct DocumentFormattingOptions {
-    /// Whether the server reports work done progress for these requests where the client sends a token. Since 3.15.
+    /// Whether the server reports work done progress for these requests where the client sends a
+    /// token. Since 3.15.
     pub work_done_progress_options: WorkDoneProgressOptions,
 }
 
@@ -35,11 +36,12 @@ impl Wire for DocumentFormattingOptions {
     }
 }
 
-/// What a server offers for `textDocument/rangeFormatting`, as the capability `documentRangeFormattingProvider` (LSP
-/// 3.17, "Document Range Formatting Request").
+/// What a server offers for `textDocument/rangeFormatting`, as the capability
+/// `documentRangeFormattingProvider` (LSP 3.17, "Document Range Formatting Request").
 #[derive(Debug, PartialEq, Eq, Clone, Drop)]
 pub struct DocumentRangeFormattingOptions {
-    /// Whether the server reports work done progress for these requests where the client sends a token. Since 3.15.
+    /// Whether the server reports work done progress for these requests where the client sends a
+    /// token. Since 3.15.
     pub work_done_progress_options: WorkDoneProgressOptions,
 }
 
@@ -62,8 +64,8 @@ impl Wire for DocumentRangeFormattingOptions {
     }
 }
 
-/// What a server offers for `textDocument/onTypeFormatting`, as the capability `documentOnTypeFormattingProvider` (LSP
-/// 3.17, "Document on Type Formatting Request").
+/// What a server offers for `textDocument/onTypeFormatting`, as the capability
+/// `documentOnTypeFormattingProvider` (LSP 3.17, "Document on Type Formatting Request").
 #[derive(Debug, PartialEq, Eq, Clone, Drop)]
 pub struct DocumentOnTypeFormattingOptions {
     /// A character after which the client requests formatting, such as `}`.
@@ -107,11 +109,12 @@ impl Wire for DocumentOnTypeFormattingOptions {
     }
 }
 
-/// The options with which a server registers `textDocument/onTypeFormatting` (LSP 3.17, "Document on Type Formatting
-/// Request").
+/// The options with which a server registers `textDocument/onTypeFormatting` (LSP 3.17, "Document
+/// on Type Formatting Request").
 #[derive(Debug, PartialEq, Eq, Clone, Drop)]
 pub struct DocumentOnTypeFormattingRegistrationOptions {
-    /// The documents that the registration applies to. `None`, sent as `null`: those that the client selects itself.
+    /// The documents that the registration applies to. `None`, sent as `null`: those that the
+    /// client selects itself.
     pub document_selector: Option<DocumentSelector>,
     /// A character after which the client requests formatting, such as `}`.
     pub first_trigger_character: String,
@@ -120,7 +123,8 @@ pub struct DocumentOnTypeFormattingRegistrationOptions {
 }
 
 impl DocumentOnTypeFormattingRegistrationOptions {
-    /// The default value: an empty string as first character, no further ones, and no document selector.
+    /// The default value: an empty string as first character, no further ones, and no document
+    /// selector.
     pub fn default(alloc: Global) -> DocumentOnTypeFormattingRegistrationOptions
         ensures document_selector { result.document_selector ≡ None }
         ensures first_trigger_character { string_bytes result.first_trigger_character ≡ [] }
@@ -161,13 +165,15 @@ impl Wire for DocumentOnTypeFormattingRegistrationOptions {
     }
 }
 
-/// What a server offers for `textDocument/rename`, as the capability `renameProvider`. Only for clients with the
-/// capability `prepare_support`; others get a boolean (LSP 3.17, "Rename Request").
+/// What a server offers for `textDocument/rename`, as the capability `renameProvider`. Only for
+/// clients with the capability `prepare_support`; others get a boolean (LSP 3.17, "Rename
+/// Request").
 #[derive(Debug, PartialEq, Eq, Clone, Drop)]
 pub struct RenameOptions {
     /// Whether `textDocument/prepareRename` is supported. Since 3.12.
     pub prepare_provider: Option<bool>,
-    /// Whether the server reports work done progress for these requests where the client sends a token. Since 3.15.
+    /// Whether the server reports work done progress for these requests where the client sends a
+    /// token. Since 3.15.
     pub work_done_progress_options: WorkDoneProgressOptions,
 }
 

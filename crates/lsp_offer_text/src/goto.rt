@@ -10,14 +10,15 @@ use lsp_shape::{Misfit, NoMemory, Reader, Wire, Writer, attempt};
 use serde_json::Value;
 use std::alloc::Global;
 
-/// The documents and the id of a registration that a server makes in its response to `initialize` (LSP 3.17, "Register
-/// Capability").
+/// The documents and the id of a registration that a server makes in its response to `initialize`
+/// (LSP 3.17, "Register Capability").
 #[derive(Debug, PartialEq, Eq, Clone, Drop)]
 pub struct StaticTextDocumentRegistrationOptions {
-    /// The documents that the registration applies to. `None`, sent as `null`: those that the client selects itself.
+    /// The documents that the registration applies to. `None`, sent as `null`: those that the
+    /// client selects itself.
     pub document_selector: Option<DocumentSelector>,
-    /// The id with which the server can unregister the feature later, using `client/unregisterCapability`. Absent: it
-    /// can't.
+    /// The id with which the server can unregister the feature later, using
+    /// `client/unregisterCapability`. Absent: it can't.
     pub id: Option<String>,
 }
 
@@ -46,8 +47,8 @@ impl Wire for StaticTextDocumentRegistrationOptions {
     }
 }
 
-/// Whether a server supports `textDocument/implementation`, as the capability `implementationProvider`. Since 3.6 (LSP
-/// 3.17, "Goto Implementation Request").
+/// Whether a server supports `textDocument/implementation`, as the capability
+/// `implementationProvider`. Since 3.6 (LSP 3.17, "Goto Implementation Request").
 #[derive(Debug, PartialEq, Eq, Clone, Drop)]
 pub enum ImplementationProviderCapability {
     /// `true` if the request is supported.
@@ -98,8 +99,8 @@ impl From<bool> for ImplementationProviderCapability {
     }
 }
 
-/// Whether a server supports `textDocument/typeDefinition`, as the capability `typeDefinitionProvider`. Since 3.6 (LSP
-/// 3.17, "Goto Type Definition Request").
+/// Whether a server supports `textDocument/typeDefinition`, as the capability
+/// `typeDefinitionProvider`. Since 3.6 (LSP 3.17, "Goto Type Definition Request").
 #[derive(Debug, PartialEq, Eq, Clone, Drop)]
 pub enum TypeDefinitionProviderCapability {
     /// `true` if the request is supported.
@@ -150,15 +151,16 @@ impl From<bool> for TypeDefinitionProviderCapability {
     }
 }
 
-/// Whether a server supports `textDocument/declaration`, as the capability `declarationProvider`. Since 3.14 (LSP 3.17,
-/// "Goto Declaration Request").
+/// Whether a server supports `textDocument/declaration`, as the capability `declarationProvider`.
+/// Since 3.14 (LSP 3.17, "Goto Declaration Request").
 #[derive(Debug, PartialEq, Eq, Clone, Drop)]
 pub enum DeclarationCapability {
     /// `true` if the request is supported.
     Simple(bool),
     /// The request is supported for the selected documents.
     RegistrationOptions(DeclarationRegistrationOptions),
-    /// The request is supported, with these options. For sending only: such an object is read as `RegistrationOptions`.
+    /// The request is supported, with these options. For sending only: such an object is read as
+    /// `RegistrationOptions`.
     Options(DeclarationOptions),
 }
 
@@ -187,15 +189,16 @@ impl Wire for DeclarationCapability {
     }
 }
 
-/// The options with which a server registers `textDocument/declaration`. Since 3.14 (LSP 3.17, "Goto Declaration
-/// Request").
+/// The options with which a server registers `textDocument/declaration`. Since 3.14 (LSP 3.17,
+/// "Goto Declaration Request").
 #[derive(Debug, PartialEq, Eq, Clone, Drop)]
 pub struct DeclarationRegistrationOptions {
     /// What the server offers for the documents of the registration.
     pub declaration_options: DeclarationOptions,
     /// The documents that the registration applies to.
     pub text_document_registration_options: TextDocumentRegistrationOptions,
-    /// The id with which the server can unregister the feature later, using `client/unregisterCapability`.
+    /// The id with which the server can unregister the feature later, using
+    /// `client/unregisterCapability`.
     pub static_registration_options: StaticRegistrationOptions,
 }
 
@@ -224,10 +227,12 @@ impl Wire for DeclarationRegistrationOptions {
     }
 }
 
-/// What a server offers for `textDocument/declaration`. Since 3.14 (LSP 3.17, "Goto Declaration Request").
+/// What a server offers for `textDocument/declaration`. Since 3.14 (LSP 3.17, "Goto Declaration
+/// Request").
 #[derive(Debug, PartialEq, Eq, Clone, Drop)]
 pub struct DeclarationOptions {
-    /// Whether the server reports work done progress for these requests where the client sends a token. Since 3.15.
+    /// Whether the server reports work done progress for these requests where the client sends a
+    /// token. Since 3.15.
     pub work_done_progress_options: WorkDoneProgressOptions,
 }
 
@@ -250,11 +255,12 @@ impl Wire for DeclarationOptions {
     }
 }
 
-/// What a server offers for `textDocument/definition`, as the capability `definitionProvider` (LSP 3.17, "Goto
-/// Definition Request").
+/// What a server offers for `textDocument/definition`, as the capability `definitionProvider` (LSP
+/// 3.17, "Goto Definition Request").
 #[derive(Debug, PartialEq, Eq, Clone, Drop)]
 pub struct DefinitionOptions {
-    /// Whether the server reports work done progress for these requests where the client sends a token. Since 3.15.
+    /// Whether the server reports work done progress for these requests where the client sends a
+    /// token. Since 3.15.
     pub work_done_progress_options: WorkDoneProgressOptions,
 }
 
@@ -277,11 +283,12 @@ impl Wire for DefinitionOptions {
     }
 }
 
-/// What a server offers for `textDocument/references`, as the capability `referencesProvider` (LSP 3.17, "Find
-/// References Request").
+/// What a server offers for `textDocument/references`, as the capability `referencesProvider` (LSP
+/// 3.17, "Find References Request").
 #[derive(Debug, PartialEq, Eq, Clone, Drop)]
 pub struct ReferencesOptions {
-    /// Whether the server reports work done progress for these requests where the client sends a token. Since 3.15.
+    /// Whether the server reports work done progress for these requests where the client sends a
+    /// token. Since 3.15.
     pub work_done_progress_options: WorkDoneProgressOptions,
 }
 
@@ -304,11 +311,12 @@ impl Wire for ReferencesOptions {
     }
 }
 
-/// What a server offers for `textDocument/documentHighlight`, as the capability `documentHighlightProvider` (LSP 3.17,
-/// "Document Highlights Request").
+/// What a server offers for `textDocument/documentHighlight`, as the capability
+/// `documentHighlightProvider` (LSP 3.17, "Document Highlights Request").
 #[derive(Debug, PartialEq, Eq, Clone, Drop)]
 pub struct DocumentHighlightOptions {
-    /// Whether the server reports work done progress for these requests where the client sends a token. Since 3.15.
+    /// Whether the server reports work done progress for these requests where the client sends a
+    /// token. Since 3.15.
     pub work_done_progress_options: WorkDoneProgressOptions,
 }
 
@@ -331,15 +339,16 @@ impl Wire for DocumentHighlightOptions {
     }
 }
 
-/// The options with which a server registers a feature that has no options of its own. The standard has no type of this
-/// name (LSP 3.17, "Register Capability").
+/// The options with which a server registers a feature that has no options of its own. The standard
+/// has no type of this name (LSP 3.17, "Register Capability").
 #[derive(Debug, PartialEq, Eq, Clone, Drop)]
 pub struct GenericRegistrationOptions {
     /// The documents that the registration applies to.
     pub text_document_registration_options: TextDocumentRegistrationOptions,
     /// What the server offers for the documents of the registration.
     pub options: GenericOptions,
-    /// The id with which the server can unregister the feature later, using `client/unregisterCapability`.
+    /// The id with which the server can unregister the feature later, using
+    /// `client/unregisterCapability`.
     pub static_registration_options: StaticRegistrationOptions,
 }
 
@@ -368,11 +377,12 @@ impl Wire for GenericRegistrationOptions {
     }
 }
 
-/// What a server offers for a feature that has no options of its own. The standard has no type of this name (LSP 3.17,
-/// "Work Done Progress").
+/// What a server offers for a feature that has no options of its own. The standard has no type of
+/// this name (LSP 3.17, "Work Done Progress").
 #[derive(Debug, PartialEq, Eq, Clone, Drop)]
 pub struct GenericOptions {
-    /// Whether the server reports work done progress for these requests where the client sends a token. Since 3.15.
+    /// Whether the server reports work done progress for these requests where the client sends a
+    /// token. Since 3.15.
     pub work_done_progress_options: WorkDoneProgressOptions,
 }
 

@@ -9,7 +9,8 @@ use lsp_shape::{Misfit, NoMemory, Reader, Wire, Writer, attempt};
 use serde_json::Value;
 use std::alloc::Global;
 
-/// Whether a server supports `textDocument/hover`, as the capability `hoverProvider` (LSP 3.17, "Hover Request").
+/// Whether a server supports `textDocument/hover`, as the capability `hoverProvider` (LSP 3.17,
+/// "Hover Request").
 #[derive(Debug, PartialEq, Eq, Clone, Drop)]
 pub enum HoverProviderCapability {
     /// `true` if the request is supported.
@@ -58,7 +59,8 @@ impl From<bool> for HoverProviderCapability {
 /// What a server offers for `textDocument/hover` (LSP 3.17, "Hover Request").
 #[derive(Debug, PartialEq, Eq, Default, Clone, Drop)]
 pub struct HoverOptions {
-    /// Whether the server reports work done progress for these requests where the client sends a token. Since 3.15.
+    /// Whether the server reports work done progress for these requests where the client sends a
+    /// token. Since 3.15.
     pub work_done_progress_options: WorkDoneProgressOptions,
 }
 

@@ -1,4 +1,5 @@
-//! What a server offers for text documents, and the options of its registrations: from opening to renaming.
+//! What a server offers for text documents, and the options of its registrations: from opening to
+//! renaming.
 #![tactic(auto)]
 
 mod code_action;

@@ -9,16 +9,16 @@ use lsp_shape::{Misfit, NoMemory, Reader, Wire, Writer, attempt};
 use serde_json::Value;
 use std::alloc::Global;
 
-/// Whether a server supports `textDocument/selectionRange`, as the capability `selectionRangeProvider`. Since 3.15 (LSP
-/// 3.17, "Selection Range Request").
+/// Whether a server supports `textDocument/selectionRange`, as the capability
+/// `selectionRangeProvider`. Since 3.15 (LSP 3.17, "Selection Range Request").
 #[derive(Debug, PartialEq, Eq, Clone, Drop)]
 pub enum SelectionRangeProviderCapability {
     /// `true` if the request is supported.
     Simple(bool),
     /// The request is supported, with these options.
     Options(SelectionRangeOptions),
-    /// The request is supported for the selected documents. For sending only: such an object is read as `Options`,
-    /// without the documents and the id.
+    /// The request is supported for the selected documents. For sending only: such an object is
+    /// read as `Options`, without the documents and the id.
     RegistrationOptions(SelectionRangeRegistrationOptions),
 }
 
@@ -79,10 +79,12 @@ impl From<bool> for SelectionRangeProviderCapability {
     }
 }
 
-/// What a server offers for `textDocument/selectionRange`. Since 3.15 (LSP 3.17, "Selection Range Request").
+/// What a server offers for `textDocument/selectionRange`. Since 3.15 (LSP 3.17, "Selection Range
+/// Request").
 #[derive(Debug, PartialEq, Eq, Default, Clone, Drop)]
 pub struct SelectionRangeOptions {
-    /// Whether the server reports work done progress for these requests where the client sends a token. Since 3.15.
+    /// Whether the server reports work done progress for these requests where the client sends a
+    /// token. Since 3.15.
     pub work_done_progress_options: WorkDoneProgressOptions,
 }
 
@@ -105,8 +107,8 @@ impl Wire for SelectionRangeOptions {
     }
 }
 
-/// The options with which a server registers `textDocument/selectionRange`. Since 3.15 (LSP 3.17, "Selection Range
-/// Request").
+/// The options with which a server registers `textDocument/selectionRange`. Since 3.15 (LSP 3.17,
+/// "Selection Range Request").
 #[derive(Debug, PartialEq, Eq, Clone, Drop)]
 pub struct SelectionRangeRegistrationOptions {
     /// What the server offers for the documents of the registration.

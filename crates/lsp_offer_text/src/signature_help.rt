@@ -7,16 +7,17 @@ use lsp_shape::{Misfit, NoMemory, Reader, Wire, Writer};
 use serde_json::Value;
 use std::alloc::Global;
 
-/// What a server offers for `textDocument/signatureHelp`, as the capability `signatureHelpProvider` (LSP 3.17,
-/// "Signature Help Request").
+/// What a server offers for `textDocument/signatureHelp`, as the capability `signatureHelpProvider`
+/// (LSP 3.17, "Signature Help Request").
 #[derive(Debug, PartialEq, Eq, Default, Clone, Drop)]
 pub struct SignatureHelpOptions {
     /// Characters after which the client requests signature help automatically, such as `(`.
     pub trigger_characters: Option<Vec<String>>,
-    /// Further characters after which the client requests signature help again while it is already shown, as it does
-    /// after the trigger characters. Since 3.15.
+    /// Further characters after which the client requests signature help again while it is already
+    /// shown, as it does after the trigger characters. Since 3.15.
     pub retrigger_characters: Option<Vec<String>>,
-    /// Whether the server reports work done progress for these requests where the client sends a token. Since 3.15.
+    /// Whether the server reports work done progress for these requests where the client sends a
+    /// token. Since 3.15.
     pub work_done_progress_options: WorkDoneProgressOptions,
 }
 
@@ -44,9 +45,9 @@ impl Wire for SignatureHelpOptions {
     }
 }
 
-/// The options with which a server registers `textDocument/signatureHelp`. LSP 3.17 also has trigger characters here;
-/// this type has none, so a server that needs them names them in `SignatureHelpOptions` (LSP 3.17, "Signature Help
-/// Request").
+/// The options with which a server registers `textDocument/signatureHelp`. LSP 3.17 also has
+/// trigger characters here; this type has none, so a server that needs them names them in
+/// `SignatureHelpOptions` (LSP 3.17, "Signature Help Request").
 #[derive(Debug, PartialEq, Eq, Clone, Drop)]
 pub struct SignatureHelpRegistrationOptions {
     /// The documents that the registration applies to.

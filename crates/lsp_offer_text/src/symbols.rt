@@ -6,13 +6,15 @@ use lsp_shape::{Misfit, NoMemory, Reader, Wire, Writer};
 use serde_json::Value;
 use std::alloc::Global;
 
-/// What a server offers for `textDocument/documentSymbol`, as the capability `documentSymbolProvider` (LSP 3.17,
-/// "Document Symbols Request").
+/// What a server offers for `textDocument/documentSymbol`, as the capability
+/// `documentSymbolProvider` (LSP 3.17, "Document Symbols Request").
 #[derive(Debug, PartialEq, Eq, Clone, Drop)]
 pub struct DocumentSymbolOptions {
-    /// A name for this server's outline, which the client shows when a document has several outlines. Since 3.16.
+    /// A name for this server's outline, which the client shows when a document has several
+    /// outlines. Since 3.16.
     pub label: Option<String>,
-    /// Whether the server reports work done progress for these requests where the client sends a token. Since 3.15.
+    /// Whether the server reports work done progress for these requests where the client sends a
+    /// token. Since 3.15.
     pub work_done_progress_options: WorkDoneProgressOptions,
 }
 
@@ -38,14 +40,15 @@ impl Wire for DocumentSymbolOptions {
     }
 }
 
-/// What a server offers for `workspace/symbol`, as the capability `workspaceSymbolProvider` (LSP 3.17, "Workspace
-/// Symbols Request").
+/// What a server offers for `workspace/symbol`, as the capability `workspaceSymbolProvider` (LSP
+/// 3.17, "Workspace Symbols Request").
 #[derive(Debug, PartialEq, Eq, Clone, Drop)]
 pub struct WorkspaceSymbolOptions {
-    /// Whether the server reports work done progress for these requests where the client sends a token. Since 3.15.
+    /// Whether the server reports work done progress for these requests where the client sends a
+    /// token. Since 3.15.
     pub work_done_progress_options: WorkDoneProgressOptions,
-    /// Whether `workspaceSymbol/resolve` is supported, by which the client asks for further details of a symbol. Since
-    /// 3.17.
+    /// Whether `workspaceSymbol/resolve` is supported, by which the client asks for further details
+    /// of a symbol. Since 3.17.
     pub resolve_provider: Option<bool>,
 }
 

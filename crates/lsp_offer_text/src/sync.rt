@@ -10,11 +10,12 @@ use lsp_shape::{Misfit, NoMemory, Reader, Wire, Writer, attempt};
 use serde_json::Value;
 use std::alloc::Global;
 
-/// Which notifications about text documents a server asks for, as the capability `textDocumentSync`. Absent: none (LSP
-/// 3.17, "Text Document Synchronization").
+/// Which notifications about text documents a server asks for, as the capability
+/// `textDocumentSync`. Absent: none (LSP 3.17, "Text Document Synchronization").
 #[derive(Debug, PartialEq, Eq, Clone, Drop)]
 pub enum TextDocumentSyncCapability {
-    /// How changes are sent, and no further detail. Versions of the protocol before 3.0 have only this form.
+    /// How changes are sent, and no further detail. Versions of the protocol before 3.0 have only
+    /// this form.
     Kind(TextDocumentSyncKind),
     /// Which notifications the server asks for, one by one.
     Options(TextDocumentSyncOptions),
@@ -57,8 +58,8 @@ impl From<TextDocumentSyncKind> for TextDocumentSyncCapability {
     }
 }
 
-/// Which notifications and requests about text documents a server asks for, one by one. An absent field means that the
-/// server doesn't ask for them (LSP 3.17, "Text Document Synchronization").
+/// Which notifications and requests about text documents a server asks for, one by one. An absent
+/// field means that the server doesn't ask for them (LSP 3.17, "Text Document Synchronization").
 #[derive(Debug, PartialEq, Eq, Default, Clone, Drop)]
 pub struct TextDocumentSyncOptions {
     /// Whether to send `textDocument/didOpen` and `textDocument/didClose`.
@@ -101,8 +102,8 @@ impl Wire for TextDocumentSyncOptions {
     }
 }
 
-/// Whether a server asks for `textDocument/didSave`, as `textDocumentSync.save` in its capabilities (LSP 3.17,
-/// "DidSaveTextDocument Notification").
+/// Whether a server asks for `textDocument/didSave`, as `textDocumentSync.save` in its capabilities
+/// (LSP 3.17, "DidSaveTextDocument Notification").
 #[derive(Debug, PartialEq, Eq, Clone, Drop)]
 pub enum TextDocumentSyncSaveOptions {
     /// `true` if the server asks for the notification.
@@ -175,12 +176,15 @@ impl Wire for SaveOptions {
     }
 }
 
-/// The options with which a server registers `textDocument/didChange` (LSP 3.17, "DidChangeTextDocument Notification").
+/// The options with which a server registers `textDocument/didChange` (LSP 3.17,
+/// "DidChangeTextDocument Notification").
 #[derive(Debug, PartialEq, Eq, Clone, Drop)]
 pub struct TextDocumentChangeRegistrationOptions {
-    /// The documents that the registration applies to. `None`, sent as `null`: those that the client selects itself.
+    /// The documents that the registration applies to. `None`, sent as `null`: those that the
+    /// client selects itself.
     pub document_selector: Option<DocumentSelector>,
-    /// Whether changes are sent as the whole text, with `FULL`, or as the parts that changed, with `INCREMENTAL`.
+    /// Whether changes are sent as the whole text, with `FULL`, or as the parts that changed, with
+    /// `INCREMENTAL`.
     pub sync_kind: TextDocumentSyncKind,
 }
 
@@ -209,7 +213,8 @@ impl Wire for TextDocumentChangeRegistrationOptions {
     }
 }
 
-/// The options with which a server registers `textDocument/didSave` (LSP 3.17, "DidSaveTextDocument Notification").
+/// The options with which a server registers `textDocument/didSave` (LSP 3.17, "DidSaveTextDocument
+/// Notification").
 #[derive(Debug, PartialEq, Eq, Clone, Drop)]
 pub struct TextDocumentSaveRegistrationOptions {
     /// Whether the notification is to hold the whole text of the document.

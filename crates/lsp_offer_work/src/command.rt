@@ -7,8 +7,8 @@ use lsp_shape::{Misfit, NoMemory, Reader, Wire, Writer};
 use serde_json::Value;
 use std::alloc::Global;
 
-/// The commands that a server executes on `workspace/executeCommand`, as the capability `executeCommandProvider` (LSP
-/// 3.17, "Execute a command").
+/// The commands that a server executes on `workspace/executeCommand`, as the capability
+/// `executeCommandProvider` (LSP 3.17, "Execute a command").
 #[derive(Debug, PartialEq, Eq, Clone, Drop)]
 pub struct ExecuteCommandOptions {
     /// The identifiers of the commands, which `workspace/executeCommand` has in `command`.
@@ -52,8 +52,8 @@ impl Wire for ExecuteCommandOptions {
     }
 }
 
-/// Options for registering `workspace/executeCommand` while the server runs, with `client/registerCapability` (LSP
-/// 3.17, "Execute a command").
+/// Options for registering `workspace/executeCommand` while the server runs, with
+/// `client/registerCapability` (LSP 3.17, "Execute a command").
 #[derive(Debug, PartialEq, Eq, Clone, Drop)]
 pub struct ExecuteCommandRegistrationOptions {
     /// The identifiers of the commands, which `workspace/executeCommand` has in `command`.

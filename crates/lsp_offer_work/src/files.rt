@@ -6,24 +6,28 @@ use lsp_shape::{Misfit, NoMemory, Reader, Wire, Writer};
 use serde_json::Value;
 use std::alloc::Global;
 
-/// The messages on file operations that a server wants, as part of `WorkspaceServerCapabilities`; an absent field means
-/// that it doesn't want that message. Since 3.16 (LSP 3.17, "Initialize Request").
+/// The messages on file operations that a server wants, as part of `WorkspaceServerCapabilities`;
+/// an absent field means that it doesn't want that message. Since 3.16 (LSP 3.17, "Initialize
+/// Request").
 #[derive(Debug, PartialEq, Eq, Default, Clone, Drop)]
 pub struct WorkspaceFileOperationsServerCapabilities {
-    /// The files and folders for which the client sends the notification `workspace/didCreateFiles` once they are
-    /// created.
+    /// The files and folders for which the client sends the notification `workspace/didCreateFiles`
+    /// once they are created.
     pub did_create: Option<FileOperationRegistrationOptions>,
-    /// The files and folders for which the client sends the request `workspace/willCreateFiles` before it creates them.
+    /// The files and folders for which the client sends the request `workspace/willCreateFiles`
+    /// before it creates them.
     pub will_create: Option<FileOperationRegistrationOptions>,
-    /// The files and folders for which the client sends the notification `workspace/didRenameFiles` once they are
-    /// renamed.
+    /// The files and folders for which the client sends the notification `workspace/didRenameFiles`
+    /// once they are renamed.
     pub did_rename: Option<FileOperationRegistrationOptions>,
-    /// The files and folders for which the client sends the request `workspace/willRenameFiles` before it renames them.
+    /// The files and folders for which the client sends the request `workspace/willRenameFiles`
+    /// before it renames them.
     pub will_rename: Option<FileOperationRegistrationOptions>,
-    /// The files and folders for which the client sends the notification `workspace/didDeleteFiles` once they are
-    /// deleted.
+    /// The files and folders for which the client sends the notification `workspace/didDeleteFiles`
+    /// once they are deleted.
     pub did_delete: Option<FileOperationRegistrationOptions>,
-    /// The files and folders for which the client sends the request `workspace/willDeleteFiles` before it deletes them.
+    /// The files and folders for which the client sends the request `workspace/willDeleteFiles`
+    /// before it deletes them.
     pub will_delete: Option<FileOperationRegistrationOptions>,
 }
 
@@ -60,8 +64,8 @@ impl Wire for WorkspaceFileOperationsServerCapabilities {
     }
 }
 
-/// The files and folders for which a server wants a message on file operations, such as `workspace/willRenameFiles`.
-/// Since 3.16 (LSP 3.17, "WillCreateFiles Request").
+/// The files and folders for which a server wants a message on file operations, such as
+/// `workspace/willRenameFiles`. Since 3.16 (LSP 3.17, "WillCreateFiles Request").
 #[derive(Debug, PartialEq, Eq, Clone, Drop)]
 pub struct FileOperationRegistrationOptions {
     /// The files and folders. Those that match any of the filters are included.
@@ -102,12 +106,12 @@ impl Wire for FileOperationRegistrationOptions {
     }
 }
 
-/// Selects files and folders by the scheme and the path of their URIs, which both have to match. Since 3.16 (LSP 3.17,
-/// "WillCreateFiles Request").
+/// Selects files and folders by the scheme and the path of their URIs, which both have to match.
+/// Since 3.16 (LSP 3.17, "WillCreateFiles Request").
 #[derive(Debug, PartialEq, Eq, Clone, Drop)]
 pub struct FileOperationFilter {
-    /// The scheme of the URI, such as `file`. Absent: any scheme. `None` is sent as `null`, which LSP doesn't have here
-    /// and clients may not understand.
+    /// The scheme of the URI, such as `file`. Absent: any scheme. `None` is sent as `null`, which
+    /// LSP doesn't have here and clients may not understand.
     pub scheme: Option<String>,
     /// The pattern for the path.
     pub pattern: FileOperationPattern,
@@ -150,7 +154,8 @@ impl Wire for FileOperationFilter {
     }
 }
 
-/// Restricts a `FileOperationPattern` to files or to folders, since 3.16 (LSP 3.17, "WillCreateFiles Request").
+/// Restricts a `FileOperationPattern` to files or to folders, since 3.16 (LSP 3.17,
+/// "WillCreateFiles Request").
 #[derive(Debug, PartialEq, Eq, Clone, Drop)]
 pub enum FileOperationPatternKind {
     /// Only files match.
@@ -182,7 +187,8 @@ impl Wire for FileOperationPatternKind {
     }
 }
 
-/// How a `FileOperationPattern` is compared with a path, since 3.16 (LSP 3.17, "WillCreateFiles Request").
+/// How a `FileOperationPattern` is compared with a path, since 3.16 (LSP 3.17, "WillCreateFiles
+/// Request").
 #[derive(Debug, PartialEq, Eq, Default, Clone, Drop)]
 pub struct FileOperationPatternOptions {
     /// Whether upper and lower case letters count as equal.
@@ -209,8 +215,8 @@ impl Wire for FileOperationPatternOptions {
     }
 }
 
-/// A glob pattern for the paths of files and folders, in a `FileOperationFilter`. Since 3.16 (LSP 3.17,
-/// "WillCreateFiles Request").
+/// A glob pattern for the paths of files and folders, in a `FileOperationFilter`. Since 3.16 (LSP
+/// 3.17, "WillCreateFiles Request").
 #[derive(Debug, PartialEq, Eq, Clone, Drop)]
 pub struct FileOperationPattern {
     /// The pattern, such as `**/*.ts`, in the syntax described for `Pattern`.

@@ -5,8 +5,8 @@ use lsp_shape::{Misfit, NoMemory, Reader, Wire, Writer, attempt};
 use serde_json::Value;
 use std::alloc::Global;
 
-/// The notebooks on which a server wants the `notebookDocument/did..` notifications, as the capability
-/// `notebookDocumentSync`. Since 3.17 (LSP 3.17, "Notebook Document Synchronization").
+/// The notebooks on which a server wants the `notebookDocument/did..` notifications, as the
+/// capability `notebookDocumentSync`. Since 3.17 (LSP 3.17, "Notebook Document Synchronization").
 #[derive(Debug, PartialEq, Eq, Clone, Drop)]
 pub struct NotebookDocumentSyncOptions {
     /// The notebooks, and which of their cells are sent.
@@ -37,16 +37,17 @@ impl Wire for NotebookDocumentSyncOptions {
     }
 }
 
-/// Options for registering the synchronization of notebooks, in `ServerCapabilities` or while the server runs, with the
-/// method `notebookDocument/sync`. Since 3.17 (LSP 3.17, "Notebook Document Synchronization").
+/// Options for registering the synchronization of notebooks, in `ServerCapabilities` or while the
+/// server runs, with the method `notebookDocument/sync`. Since 3.17 (LSP 3.17, "Notebook Document
+/// Synchronization").
 #[derive(Debug, PartialEq, Eq, Clone, Drop)]
 pub struct NotebookDocumentSyncRegistrationOptions {
     /// The notebooks, and which of their cells are sent.
     pub notebook_selector: Vec<NotebookSelector>,
     /// Whether the client is to send `notebookDocument/didSave`. Absent: it isn't.
     pub save: Option<bool>,
-    /// The id for unregistering what is registered in `ServerCapabilities`. A dynamic registration has its id in
-    /// `Registration`.
+    /// The id for unregistering what is registered in `ServerCapabilities`. A dynamic registration
+    /// has its id in `Registration`.
     pub id: Option<String>,
 }
 
@@ -77,13 +78,15 @@ impl Wire for NotebookDocumentSyncRegistrationOptions {
     }
 }
 
-/// Selects the text documents of notebook cells, as LSP allows in a document selector; the type `DocumentSelector` has
-/// no place for it. Since 3.17 (LSP 3.17, "Notebook Document Synchronization").
+/// Selects the text documents of notebook cells, as LSP allows in a document selector; the type
+/// `DocumentSelector` has no place for it. Since 3.17 (LSP 3.17, "Notebook Document
+/// Synchronization").
 #[derive(Debug, PartialEq, Eq, Clone, Drop)]
 pub struct NotebookCellTextDocumentFilter {
     /// The notebook that contains the cell.
     pub notebook: Notebook,
-    /// The language id of the cell's text document, such as `python`. Absent or `*` means any language.
+    /// The language id of the cell's text document, such as `python`. Absent or `*` means any
+    /// language.
     pub language: Option<String>,
 }
 
@@ -109,8 +112,8 @@ impl Wire for NotebookCellTextDocumentFilter {
     }
 }
 
-/// Selects notebooks and the cells of them that are synchronized, by the notebook, by the cells, or by both. Since 3.17
-/// (LSP 3.17, "Notebook Document Synchronization").
+/// Selects notebooks and the cells of them that are synchronized, by the notebook, by the cells, or
+/// by both. Since 3.17 (LSP 3.17, "Notebook Document Synchronization").
 #[derive(Debug, PartialEq, Eq, Clone, Drop)]
 pub enum NotebookSelector {
     /// Selects by the notebook, and optionally by its cells.
@@ -120,9 +123,11 @@ pub enum NotebookSelector {
         /// The cells to synchronize. Absent: all cells of the notebook.
         cells: Option<Vec<NotebookCellSelector>>,
     },
-    /// Selects by the cells, and optionally by the notebook. A selector with both is read as `ByNotebook`.
+    /// Selects by the cells, and optionally by the notebook. A selector with both is read as
+    /// `ByNotebook`.
     ByCells {
-        /// The notebooks, by their type or by a filter. Absent: every notebook that has a matching cell.
+        /// The notebooks, by their type or by a filter. Absent: every notebook that has a matching
+        /// cell.
         notebook: Option<Notebook>,
         /// The cells to synchronize.
         cells: Vec<NotebookCellSelector>,
@@ -225,7 +230,8 @@ impl Wire for NotebookSelector {
     }
 }
 
-/// Selects cells of a notebook, in a `NotebookSelector`. Since 3.17 (LSP 3.17, "Notebook Document Synchronization").
+/// Selects cells of a notebook, in a `NotebookSelector`. Since 3.17 (LSP 3.17, "Notebook Document
+/// Synchronization").
 #[derive(Debug, PartialEq, Eq, Clone, Drop)]
 pub struct NotebookCellSelector {
     /// The language id of the cell's text document, such as `python`.
@@ -252,7 +258,8 @@ impl Wire for NotebookCellSelector {
     }
 }
 
-/// Selects notebooks by their type or by a filter, since 3.17 (LSP 3.17, "Notebook Document Synchronization").
+/// Selects notebooks by their type or by a filter, since 3.17 (LSP 3.17, "Notebook Document
+/// Synchronization").
 #[derive(Debug, PartialEq, Eq, Clone, Drop)]
 pub enum Notebook {
     /// The type of the notebook, such as `jupyter-notebook`, or `*` for every notebook.
@@ -282,8 +289,8 @@ impl Wire for Notebook {
     }
 }
 
-/// Selects notebooks by type, URI scheme and path: at least one is present, and all that are present have to match.
-/// Since 3.17 (LSP 3.17, "Notebook Document Synchronization").
+/// Selects notebooks by type, URI scheme and path: at least one is present, and all that are
+/// present have to match. Since 3.17 (LSP 3.17, "Notebook Document Synchronization").
 #[derive(Debug, PartialEq, Eq, Clone, Drop)]
 pub enum NotebookDocumentFilter {
     /// A filter that has the type at least.
@@ -304,8 +311,8 @@ pub enum NotebookDocumentFilter {
         /// A glob pattern for its path. Absent: any path.
         pattern: Option<String>,
     },
-    /// A filter that has the pattern at least. One with a type too is read as `ByType`, and one with a scheme as
-    /// `ByScheme`.
+    /// A filter that has the pattern at least. One with a type too is read as `ByType`, and one
+    /// with a scheme as `ByScheme`.
     ByPattern {
         /// The type of the notebook, such as `jupyter-notebook`. Absent: any type.
         notebook_type: Option<String>,

@@ -5,16 +5,16 @@ use lsp_shape::{Misfit, NoMemory, Reader, Wire, Writer};
 use serde_json::Value;
 use std::alloc::Global;
 
-/// A feature that a server registers while it runs, as an item of a `client/registerCapability` request (LSP 3.17,
-/// "Register Capability").
+/// A feature that a server registers while it runs, as an item of a `client/registerCapability`
+/// request (LSP 3.17, "Register Capability").
 #[derive(Debug, Clone, Drop)]
 pub struct Registration {
     /// An id that the server chooses, and repeats when it unregisters the feature.
     pub id: String,
     /// The method or capability, such as `workspace/didChangeWatchedFiles`.
     pub method: String,
-    /// The options that belong to the method, as JSON: for `textDocument/hover`, a `HoverRegistrationOptions`. Absent
-    /// if the method needs none.
+    /// The options that belong to the method, as JSON: for `textDocument/hover`, a
+    /// `HoverRegistrationOptions`. Absent if the method needs none.
     pub register_options: Option<Value>,
 }
 
@@ -42,7 +42,8 @@ impl Wire for Registration {
     }
 }
 
-/// Parameters of the request `client/registerCapability`, sent by the server (LSP 3.17, "Register Capability").
+/// Parameters of the request `client/registerCapability`, sent by the server (LSP 3.17, "Register
+/// Capability").
 #[derive(Debug, Clone, Drop)]
 pub struct RegistrationParams {
     /// The features to register.
@@ -69,8 +70,8 @@ impl Wire for RegistrationParams {
     }
 }
 
-/// A registration that a server ends, as an item of a `client/unregisterCapability` request (LSP 3.17, "Unregister
-/// Capability").
+/// A registration that a server ends, as an item of a `client/unregisterCapability` request (LSP
+/// 3.17, "Unregister Capability").
 #[derive(Debug, PartialEq, Eq, Clone, Drop)]
 pub struct Unregistration {
     /// The id under which the feature was registered.
@@ -101,7 +102,8 @@ impl Wire for Unregistration {
     }
 }
 
-/// Parameters of the request `client/unregisterCapability`, sent by the server (LSP 3.17, "Unregister Capability").
+/// Parameters of the request `client/unregisterCapability`, sent by the server (LSP 3.17,
+/// "Unregister Capability").
 #[derive(Debug, PartialEq, Eq, Clone, Drop)]
 pub struct UnregistrationParams {
     /// The registrations to end. The standard itself spells this name so.

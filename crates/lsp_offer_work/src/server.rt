@@ -6,7 +6,8 @@ use lsp_shape::{Misfit, NoMemory, Reader, Wire, Writer};
 use serde_json::Value;
 use std::alloc::Global;
 
-/// The name and version of a server, as part of `InitializeResult`. Since 3.15 (LSP 3.17, "Initialize Request").
+/// The name and version of a server, as part of `InitializeResult`. Since 3.15 (LSP 3.17,
+/// "Initialize Request").
 #[derive(Debug, PartialEq, Eq, Clone, Drop)]
 pub struct ServerInfo {
     /// The name by which the server calls itself.
@@ -50,7 +51,8 @@ impl Wire for ServerInfo {
     }
 }
 
-/// The `data` of the error with which a server refuses the request `initialize` (LSP 3.17, "Initialize Request").
+/// The `data` of the error with which a server refuses the request `initialize` (LSP 3.17,
+/// "Initialize Request").
 #[derive(Debug, PartialEq, Eq, Default, Clone, Drop)]
 pub struct InitializeError {
     /// Whether the client, when it shows the error to the user, offers to send `initialize` again.

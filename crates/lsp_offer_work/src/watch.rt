@@ -10,8 +10,9 @@ use lsp_uri::Uri;
 use serde_json::Value;
 use std::alloc::Global;
 
-/// Options for registering `workspace/didChangeWatchedFiles` with `client/registerCapability`. `ServerCapabilities` has
-/// no field for watched files (LSP 3.17, "DidChangeWatchedFiles Notification").
+/// Options for registering `workspace/didChangeWatchedFiles` with `client/registerCapability`.
+/// `ServerCapabilities` has no field for watched files (LSP 3.17, "DidChangeWatchedFiles
+/// Notification").
 #[derive(Debug, PartialEq, Eq, PartialOrd, Ord, Clone, Drop)]
 pub struct DidChangeWatchedFilesRegistrationOptions {
     /// The files to watch, and the events to report.
@@ -41,8 +42,8 @@ impl Wire for DidChangeWatchedFilesRegistrationOptions {
     }
 }
 
-/// A set of files, and the events on them that the client reports with `workspace/didChangeWatchedFiles` (LSP 3.17,
-/// "DidChangeWatchedFiles Notification").
+/// A set of files, and the events on them that the client reports with
+/// `workspace/didChangeWatchedFiles` (LSP 3.17, "DidChangeWatchedFiles Notification").
 #[derive(Debug, PartialEq, Eq, PartialOrd, Ord, Clone, Drop)]
 pub struct FileSystemWatcher {
     /// The pattern that the watched files match.
@@ -73,13 +74,14 @@ impl Wire for FileSystemWatcher {
     }
 }
 
-/// The files that a `FileSystemWatcher` watches, by a pattern for their paths. Since 3.17; before, it was always a
-/// string (LSP 3.17, "DidChangeWatchedFiles Notification").
+/// The files that a `FileSystemWatcher` watches, by a pattern for their paths. Since 3.17; before,
+/// it was always a string (LSP 3.17, "DidChangeWatchedFiles Notification").
 #[derive(Debug, PartialEq, Eq, PartialOrd, Ord, Clone, Drop)]
 pub enum GlobPattern {
     /// A pattern alone, such as `**/*.toml`.
     String(Pattern),
-    /// A pattern relative to a base URI. Only for clients with the capability `relative_pattern_support`.
+    /// A pattern relative to a base URI. Only for clients with the capability
+    /// `relative_pattern_support`.
     Relative(RelativePattern),
 }
 
@@ -120,7 +122,8 @@ impl From<RelativePattern> for GlobPattern {
     }
 }
 
-/// A glob pattern for paths relative to a base URI, since 3.17 (LSP 3.17, "DidChangeWatchedFiles Notification").
+/// A glob pattern for paths relative to a base URI, since 3.17 (LSP 3.17, "DidChangeWatchedFiles
+/// Notification").
 #[derive(Debug, PartialEq, Eq, PartialOrd, Ord, Clone, Drop)]
 pub struct RelativePattern {
     /// The base: a workspace folder, or another absolute URI.
@@ -151,7 +154,7 @@ impl Wire for RelativePattern {
     }
 }
 
-/// A glob pattern for paths: `*` matches one or more characters within a segment, `?` one character, `**` any number of
-/// segments, even none, `{a,b}` either alternative, `[a-z]` and `[!a-z]` a character in and outside a range (LSP 3.17,
-/// "DidChangeWatchedFiles Notification").
+/// A glob pattern for paths: `*` matches one or more characters within a segment, `?` one
+/// character, `**` any number of segments, even none, `{a,b}` either alternative, `[a-z]` and
+/// `[!a-z]` a character in and outside a range (LSP 3.17, "DidChangeWatchedFiles Notification").
 pub type Pattern = String;

@@ -9,8 +9,9 @@ use serde_json::Value;
 use std::alloc::Global;
 use std::ops::BitOr;
 
-/// The events on files that are watched, as a set: `WatchKind::Create | WatchKind::Delete`. Its other operations are
-/// those of `bitflags::Flags` (LSP 3.17, "DidChangeWatchedFiles Notification").
+/// The events on files that are watched, as a set: `WatchKind::Create | WatchKind::Delete`. Its
+/// other operations are those of `bitflags::Flags` (LSP 3.17, "DidChangeWatchedFiles
+/// Notification").
 #[derive(Debug, PartialEq, Eq, PartialOrd, Ord, Hash, Clone, Copy)]
 pub struct WatchKind(u8);
 
@@ -37,7 +38,8 @@ impl WatchKind {
         },
     ];
 
-    /// The set of these bits: 1, 2 and 4 in any union. None for any other bit, that is, for each number above 7.
+    /// The set of these bits: 1, 2 and 4 in any union. None for any other bit, that is, for each
+    /// number above 7.
     #[tactic(auto, using(std::proofs::lemmas::Grind::and_numeral), unfolding(crate::specs::WatchKind::watch_kinds, bitflags::specs::Sets::known_from))]
     pub fn from_bits(bits: u8) -> Option<WatchKind>
         ensures set { IfSome result (λ kind. bits_of kind ≡ bits) }

@@ -7,7 +7,8 @@ use lsp_shape::{Misfit, NoMemory, Reader, Wire, Writer};
 use serde_json::Value;
 use std::alloc::Global;
 
-/// What a server supports for the workspace as a whole, as the capability `workspace` (LSP 3.17, "Initialize Request").
+/// What a server supports for the workspace as a whole, as the capability `workspace` (LSP 3.17,
+/// "Initialize Request").
 #[derive(Debug, PartialEq, Eq, Default, Clone, Drop)]
 pub struct WorkspaceServerCapabilities {
     /// Support for a workspace with several folders, since 3.6.
@@ -38,13 +39,14 @@ impl Wire for WorkspaceServerCapabilities {
     }
 }
 
-/// How a server supports a workspace with several folders, since 3.6 (LSP 3.17, "Workspace folders request").
+/// How a server supports a workspace with several folders, since 3.6 (LSP 3.17, "Workspace folders
+/// request").
 #[derive(Debug, PartialEq, Eq, Default, Clone, Drop)]
 pub struct WorkspaceFoldersServerCapabilities {
     /// Whether it supports such a workspace.
     pub supported: Option<bool>,
-    /// Whether the client is to send `workspace/didChangeWorkspaceFolders`. A string means that it is, and serves as
-    /// the id for unregistering the notification later.
+    /// Whether the client is to send `workspace/didChangeWorkspaceFolders`. A string means that it
+    /// is, and serves as the id for unregistering the notification later.
     pub change_notifications: Option<OneOf<bool, String>>,
 }
 

@@ -53,7 +53,8 @@ abbrev pub IsOwn : List Event → Result Data ErrorData → Type 0
 IsOwn h body = (body ≡ Ok null) ⊎ ((body ≡ invalid) ⊎ ((body ≡ internal) ⊎ ((v : Data) × (body ≡ Ok v) × HasAnswered h v)))
 
 -- A response of the proxy's own comes at the editor's request under its id. Any other is the body of the response
--- that the server gives now: the first to that request of the editor, or one to an `initialize` that waited.
+-- that the server gives now: the first to that request of the editor, or any, where the editor has sent an
+-- `initialize` under that id.
 abbrev pub Origin : ℕ → List Event → Event → ℕ → IdData → Result Data ErrorData → Type 0
 Origin editors h e k i body =
     ((is_request_of k i e ≡ true) × IsOwn h body)

@@ -33,7 +33,8 @@ fn add_waiting(opening: &mut Opening, asker: Asker) -> Result<(), NoMemory>
     }
 }
 
-// The server's requests of an editor that leaves are forgotten: where it is the lowest, all are its.
+// The server's requests of an editor that leaves are forgotten: where it is the lowest, all are
+// its.
 fn drop_requests(editors: &[Presence], requested: &mut Table, k: u32)
     requires few { length editors.now < 2 ^ 32 }
     requires of_lowest { AreOf (lowest editors.now) requested.old }

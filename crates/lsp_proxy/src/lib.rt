@@ -1,5 +1,5 @@
-//! Several editors before one language server: a proxy passes their messages on, and keeps apart the
-//! ids of their requests.
+//! Several editors before one language server: a proxy passes their messages on, and keeps apart
+//! the ids of their requests.
 //!
 //! What it sends for a message is `from_editor` and `from_server` of `specs/Proxy.antt`, row by row
 //! the table in `README.md`. `law` has what holds over any list of messages.

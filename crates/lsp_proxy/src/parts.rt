@@ -95,8 +95,8 @@ fn cancel(alloc: Global, n: u64) -> Result<Message, NoMemory>
     Ok(Message::Request(builder.finish()))
 }
 
-/// The cancel of the request that was passed on under this id, if there is one and a cancel can name
-/// it.
+/// The cancel of the request that was passed on under this id, if there is one and a cancel can
+/// name it.
 pub(crate) fn cancels(alloc: Global, side: Side, place: Option<u64>) -> Result<Sent, NoMemory>
     ensures { IfOk result (λ sent. all_sent sent.items ≡ cancel_passed side place) }
 {

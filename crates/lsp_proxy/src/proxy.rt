@@ -22,8 +22,8 @@ pub(crate) enum Opening {
     Opened(Value),
 }
 
-/// A proxy between editors and one language server. It passes on their messages, and keeps apart the
-/// ids of their requests.
+/// A proxy between editors and one language server. It passes on their messages, and keeps apart
+/// the ids of their requests.
 #[derive(Drop)]
 pub struct Proxy {
     pub(crate) alloc: Global,

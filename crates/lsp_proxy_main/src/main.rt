@@ -34,7 +34,8 @@ fn main(rt: HostRuntime) -> ExitCode {
     let mut sink = WriteSink::new(output);
     let status = run_proxy(rt.alloc(), &arguments, &mut source, &mut sink);
 
-    // After a failure some of what was written may still wait here; nothing can be told of a second one.
+    // After a failure some of what was written may still wait here; nothing can be told of a second
+    // one.
     let _ = sink.flush();
     ExitCode::from(status)
 }

@@ -22,7 +22,7 @@ pub enum Status {
     WriteFault = 4,
     /// The most reads that can be counted were made.
     ReadsSpent = 5,
-    /// There was no memory.
+    /// Out of memory.
     NoMemory = 6,
 }
 

@@ -6,8 +6,9 @@ use lsp_shape::{Misfit, NoMemory, Reader, Wire, Writer};
 use serde_json::Value;
 use std::alloc::Global;
 
-/// The data of the error `ServerCancelled` (-32802), with which a server ends a request for diagnostics. Without it,
-/// the client sends the request again. Since 3.17 (LSP 3.17, "Pull Diagnostics").
+/// The data of the error `ServerCancelled` (-32802), with which a server ends a request for
+/// diagnostics. Without it, the client sends the request again. Since 3.17 (LSP 3.17, "Pull
+/// Diagnostics").
 #[derive(Debug, PartialEq, Clone, Drop)]
 pub struct DiagnosticServerCancellationData {
     /// Whether the client should send the request again.

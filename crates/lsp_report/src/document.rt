@@ -12,21 +12,23 @@ use serde_json::Value;
 use std::alloc::Global;
 use std::collections::HashMap;
 
-/// The parameters of `textDocument/diagnostic`, with which a client asks for the diagnostics of a document. Since 3.17
-/// (LSP 3.17, "Pull Diagnostics").
+/// The parameters of `textDocument/diagnostic`, with which a client asks for the diagnostics of a
+/// document. Since 3.17 (LSP 3.17, "Pull Diagnostics").
 #[derive(Debug, PartialEq, Eq, Clone, Drop)]
 pub struct DocumentDiagnosticParams {
     /// The document whose diagnostics are requested.
     pub text_document: TextDocumentIdentifier,
     /// The identifier that the server gave in its registration. Absent: it gave none.
     pub identifier: Option<String>,
-    /// The result id of the last report that the client received for this document. Absent: there is none.
+    /// The result id of the last report that the client received for this document. Absent: there
+    /// is none.
     pub previous_result_id: Option<String>,
-    /// The token, chosen by the client, under which the server may report work done progress with `$/progress`. Absent:
-    /// the client asks for none. Since 3.15.
+    /// The token, chosen by the client, under which the server may report work done progress with
+    /// `$/progress`. Absent: the client asks for none. Since 3.15.
     pub work_done_progress_params: WorkDoneProgressParams,
-    /// The token, chosen by the client, under which the server may send the result in parts with `$/progress`, and then
-    /// an empty response. Absent: the response has the whole result. Since 3.15.
+    /// The token, chosen by the client, under which the server may send the result in parts with
+    /// `$/progress`, and then an empty response. Absent: the response has the whole result. Since
+    /// 3.15.
     pub partial_result_params: PartialResultParams,
 }
 
@@ -58,7 +60,8 @@ impl Wire for DocumentDiagnosticParams {
     }
 }
 
-/// The result of `textDocument/diagnostic`, or a later part of it. Since 3.17 (LSP 3.17, "Pull Diagnostics").
+/// The result of `textDocument/diagnostic`, or a later part of it. Since 3.17 (LSP 3.17, "Pull
+/// Diagnostics").
 #[derive(Debug, Clone, Drop)]
 pub enum DocumentDiagnosticReportResult {
     /// The report on the document. If the result is sent in parts, this is the first part.
@@ -106,8 +109,8 @@ impl From<DocumentDiagnosticReportPartialResult> for DocumentDiagnosticReportRes
     }
 }
 
-/// The report on a document and on related ones, as the result of `textDocument/diagnostic`. Since 3.17 (LSP 3.17,
-/// "Pull Diagnostics").
+/// The report on a document and on related ones, as the result of `textDocument/diagnostic`. Since
+/// 3.17 (LSP 3.17, "Pull Diagnostics").
 #[derive(Debug, Clone, Drop)]
 pub enum DocumentDiagnosticReport {
     /// All diagnostics of the document.
@@ -163,8 +166,8 @@ impl From<RelatedUnchangedDocumentDiagnosticReport> for DocumentDiagnosticReport
     }
 }
 
-/// The report on a related document, as part of the result of `textDocument/diagnostic`. Since 3.17 (LSP 3.17, "Pull
-/// Diagnostics").
+/// The report on a related document, as part of the result of `textDocument/diagnostic`. Since 3.17
+/// (LSP 3.17, "Pull Diagnostics").
 #[derive(Debug, Clone, Drop)]
 pub enum DocumentDiagnosticReportKind {
     /// All diagnostics of the document.
@@ -220,11 +223,12 @@ impl From<UnchangedDocumentDiagnosticReport> for DocumentDiagnosticReportKind {
     }
 }
 
-/// All diagnostics of a document, and reports on related documents. Since 3.17 (LSP 3.17, "Pull Diagnostics").
+/// All diagnostics of a document, and reports on related documents. Since 3.17 (LSP 3.17, "Pull
+/// Diagnostics").
 #[derive(Debug, Clone, Drop)]
 pub struct RelatedFullDocumentDiagnosticReport {
-    /// Reports on other documents that this one affects, by URI. Only for clients with the capability
-    /// `relatedDocumentSupport`.
+    /// Reports on other documents that this one affects, by URI. Only for clients with the
+    /// capability `relatedDocumentSupport`.
     pub related_documents: Option<HashMap<Uri, DocumentDiagnosticReportKind>>,
     /// The diagnostics of the document. Its fields are part of the same JSON object.
     pub full_document_diagnostic_report: FullDocumentDiagnosticReport,
@@ -271,12 +275,12 @@ impl Wire for RelatedFullDocumentDiagnosticReport {
     }
 }
 
-/// The statement that a document's diagnostics have not changed since the last report, and reports on related
-/// documents. Since 3.17 (LSP 3.17, "Pull Diagnostics").
+/// The statement that a document's diagnostics have not changed since the last report, and reports
+/// on related documents. Since 3.17 (LSP 3.17, "Pull Diagnostics").
 #[derive(Debug, Clone, Drop)]
 pub struct RelatedUnchangedDocumentDiagnosticReport {
-    /// Reports on other documents that this one affects, by URI. Only for clients with the capability
-    /// `relatedDocumentSupport`.
+    /// Reports on other documents that this one affects, by URI. Only for clients with the
+    /// capability `relatedDocumentSupport`.
     pub related_documents: Option<HashMap<Uri, DocumentDiagnosticReportKind>>,
     /// The result id for the document. Its fields are part of the same JSON object.
     pub unchanged_document_diagnostic_report: UnchangedDocumentDiagnosticReport,
@@ -312,8 +316,8 @@ impl Wire for RelatedUnchangedDocumentDiagnosticReport {
 /// All diagnostics of a document. Since 3.17 (LSP 3.17, "Pull Diagnostics").
 #[derive(Debug, Clone, Drop)]
 pub struct FullDocumentDiagnosticReport {
-    /// An id of the server's choice for this result, which the client sends back in its next request for the document.
-    /// Absent: the next report can't be an unchanged one.
+    /// An id of the server's choice for this result, which the client sends back in its next
+    /// request for the document. Absent: the next report can't be an unchanged one.
     pub result_id: Option<String>,
     /// The diagnostics. An empty array means that there are none.
     pub items: Vec<Diagnostic>,
@@ -354,11 +358,13 @@ impl Wire for FullDocumentDiagnosticReport {
     }
 }
 
-/// The statement that a document's diagnostics have not changed since the last report. Only in response to a request
-/// that holds a previous result id. Since 3.17 (LSP 3.17, "Pull Diagnostics").
+/// The statement that a document's diagnostics have not changed since the last report. Only in
+/// response to a request that holds a previous result id. Since 3.17 (LSP 3.17, "Pull
+/// Diagnostics").
 #[derive(Debug, PartialEq, Clone, Drop)]
 pub struct UnchangedDocumentDiagnosticReport {
-    /// An id of the server's choice, which the client sends back in its next request for the document.
+    /// An id of the server's choice, which the client sends back in its next request for the
+    /// document.
     pub result_id: String,
 }
 
@@ -385,8 +391,8 @@ impl Wire for UnchangedDocumentDiagnosticReport {
     }
 }
 
-/// A later part of the result of `textDocument/diagnostic`, sent with `$/progress` after a first part with the report
-/// itself. Since 3.17 (LSP 3.17, "Pull Diagnostics").
+/// A later part of the result of `textDocument/diagnostic`, sent with `$/progress` after a first
+/// part with the report itself. Since 3.17 (LSP 3.17, "Pull Diagnostics").
 #[derive(Debug, Default, Clone, Drop)]
 pub struct DocumentDiagnosticReportPartialResult {
     /// Reports on related documents, by URI.

@@ -11,8 +11,8 @@ use lsp_uri::Uri;
 use serde_json::Value;
 use std::alloc::Global;
 
-/// A notebook, as the server receives it in `notebookDocument/didOpen`. Since 3.17 (LSP 3.17, "Notebook Document
-/// Synchronization").
+/// A notebook, as the server receives it in `notebookDocument/didOpen`. Since 3.17 (LSP 3.17,
+/// "Notebook Document Synchronization").
 #[derive(Debug, Clone, Drop)]
 pub struct NotebookDocument {
     /// The URI of the notebook.
@@ -60,12 +60,13 @@ impl Wire for NotebookDocument {
 pub struct NotebookCell {
     /// Whether the cell is markup or code.
     pub kind: NotebookCellKind,
-    /// The URI of the text document with the cell's text. It identifies the cell, since no two cells share one.
+    /// The URI of the text document with the cell's text. It identifies the cell, since no two
+    /// cells share one.
     pub document: Uri,
     /// Further data that the client stores with the cell.
     pub metadata: Option<LSPObject>,
-    /// How the cell was last executed. Only from clients with the capability `executionSummaryReport`. Absent: it isn't
-    /// stated.
+    /// How the cell was last executed. Only from clients with the capability
+    /// `executionSummaryReport`. Absent: it isn't stated.
     pub execution_summary: Option<ExecutionSummary>,
 }
 
@@ -95,10 +96,12 @@ impl Wire for NotebookCell {
     }
 }
 
-/// How a cell of a notebook was last executed. Since 3.17 (LSP 3.17, "Notebook Document Synchronization").
+/// How a cell of a notebook was last executed. Since 3.17 (LSP 3.17, "Notebook Document
+/// Synchronization").
 #[derive(Debug, PartialEq, Eq, Clone, Drop)]
 pub struct ExecutionSummary {
-    /// A number that increases with each execution in the notebook, and so gives the order of executions.
+    /// A number that increases with each execution in the notebook, and so gives the order of
+    /// executions.
     pub execution_order: u32,
     /// Whether the execution succeeded. Absent: the client doesn't know.
     pub success: Option<bool>,
@@ -126,8 +129,8 @@ impl Wire for ExecutionSummary {
     }
 }
 
-/// The parameters of `notebookDocument/didOpen`, which a client sends when a notebook is opened. Since 3.17 (LSP 3.17,
-/// "Notebook Document Synchronization").
+/// The parameters of `notebookDocument/didOpen`, which a client sends when a notebook is opened.
+/// Since 3.17 (LSP 3.17, "Notebook Document Synchronization").
 #[derive(Debug, Clone, Drop)]
 pub struct DidOpenNotebookDocumentParams {
     /// The opened notebook.
@@ -158,8 +161,8 @@ impl Wire for DidOpenNotebookDocumentParams {
     }
 }
 
-/// The parameters of `notebookDocument/didChange`, which a client sends when a notebook or the text of its cells has
-/// changed. Since 3.17 (LSP 3.17, "Notebook Document Synchronization").
+/// The parameters of `notebookDocument/didChange`, which a client sends when a notebook or the text
+/// of its cells has changed. Since 3.17 (LSP 3.17, "Notebook Document Synchronization").
 #[derive(Debug, Clone, Drop)]
 pub struct DidChangeNotebookDocumentParams {
     /// The changed notebook, with its version after the changes.
@@ -190,7 +193,8 @@ impl Wire for DidChangeNotebookDocumentParams {
     }
 }
 
-/// The URI of a notebook together with a version. Since 3.17 (LSP 3.17, "Notebook Document Synchronization").
+/// The URI of a notebook together with a version. Since 3.17 (LSP 3.17, "Notebook Document
+/// Synchronization").
 #[derive(Debug, PartialEq, Eq, Clone, Drop)]
 pub struct VersionedNotebookDocumentIdentifier {
     /// The version of the notebook.
@@ -255,13 +259,14 @@ impl Wire for NotebookDocumentChangeEvent {
     }
 }
 
-/// What has changed in the cells of a notebook. Since 3.17 (LSP 3.17, "Notebook Document Synchronization").
+/// What has changed in the cells of a notebook. Since 3.17 (LSP 3.17, "Notebook Document
+/// Synchronization").
 #[derive(Debug, Clone, Drop)]
 pub struct NotebookDocumentCellChange {
     /// Cells that were added or removed. Absent: none.
     pub structure: Option<NotebookDocumentCellChangeStructure>,
-    /// Cells with new properties, such as their kind, metadata or execution summary. Absent: none. In JSON the name is
-    /// `data`.
+    /// Cells with new properties, such as their kind, metadata or execution summary. Absent: none.
+    /// In JSON the name is `data`.
     pub payload: Option<Vec<NotebookCell>>,
     /// Changes to the text of cells. Absent: none.
     pub text_content: Option<Vec<NotebookDocumentChangeTextContent>>,
@@ -291,7 +296,8 @@ impl Wire for NotebookDocumentCellChange {
     }
 }
 
-/// The changes to the text of one cell of a notebook. Since 3.17 (LSP 3.17, "Notebook Document Synchronization").
+/// The changes to the text of one cell of a notebook. Since 3.17 (LSP 3.17, "Notebook Document
+/// Synchronization").
 #[derive(Debug, PartialEq, Eq, Clone, Drop)]
 pub struct NotebookDocumentChangeTextContent {
     /// The text document of the cell, with its version after the changes.
@@ -325,7 +331,8 @@ impl Wire for NotebookDocumentChangeTextContent {
     }
 }
 
-/// The cells that were added to or removed from a notebook. Since 3.17 (LSP 3.17, "Notebook Document Synchronization").
+/// The cells that were added to or removed from a notebook. Since 3.17 (LSP 3.17, "Notebook
+/// Document Synchronization").
 #[derive(Debug, Clone, Drop)]
 pub struct NotebookDocumentCellChangeStructure {
     /// The change to the array of cells.
@@ -363,8 +370,8 @@ impl Wire for NotebookDocumentCellChangeStructure {
     }
 }
 
-/// A change to the array of cells of a notebook: some are removed, and others put in their place. Since 3.17 (LSP 3.17,
-/// "Notebook Document Synchronization").
+/// A change to the array of cells of a notebook: some are removed, and others put in their place.
+/// Since 3.17 (LSP 3.17, "Notebook Document Synchronization").
 #[derive(Debug, Clone, Drop)]
 pub struct NotebookCellArrayChange {
     /// The zero-based index of the first cell that is removed, or where cells are inserted.
@@ -399,8 +406,8 @@ impl Wire for NotebookCellArrayChange {
     }
 }
 
-/// The parameters of `notebookDocument/didSave`, which a client sends when a notebook has been saved. Since 3.17 (LSP
-/// 3.17, "Notebook Document Synchronization").
+/// The parameters of `notebookDocument/didSave`, which a client sends when a notebook has been
+/// saved. Since 3.17 (LSP 3.17, "Notebook Document Synchronization").
 #[derive(Debug, PartialEq, Eq, Clone, Drop)]
 pub struct DidSaveNotebookDocumentParams {
     /// The saved notebook.
@@ -454,8 +461,8 @@ impl Wire for NotebookDocumentIdentifier {
     }
 }
 
-/// The parameters of `notebookDocument/didClose`, which a client sends when a notebook is closed. Since 3.17 (LSP 3.17,
-/// "Notebook Document Synchronization").
+/// The parameters of `notebookDocument/didClose`, which a client sends when a notebook is closed.
+/// Since 3.17 (LSP 3.17, "Notebook Document Synchronization").
 #[derive(Debug, PartialEq, Eq, Clone, Drop)]
 pub struct DidCloseNotebookDocumentParams {
     /// The closed notebook.

@@ -11,19 +11,21 @@ use lsp_uri::Uri;
 use serde_json::Value;
 use std::alloc::Global;
 
-/// The parameters of `workspace/diagnostic`, with which a client asks for the diagnostics of the whole workspace. Since
-/// 3.17 (LSP 3.17, "Pull Diagnostics").
+/// The parameters of `workspace/diagnostic`, with which a client asks for the diagnostics of the
+/// whole workspace. Since 3.17 (LSP 3.17, "Pull Diagnostics").
 #[derive(Debug, PartialEq, Eq, Clone, Drop)]
 pub struct WorkspaceDiagnosticParams {
     /// The identifier that the server gave in its registration. Absent: it gave none.
     pub identifier: Option<String>,
-    /// The result ids of the last reports that the client received, one for each document for which it has one.
+    /// The result ids of the last reports that the client received, one for each document for which
+    /// it has one.
     pub previous_result_ids: Vec<PreviousResultId>,
-    /// The token, chosen by the client, under which the server may report work done progress with `$/progress`. Absent:
-    /// the client asks for none. Since 3.15.
+    /// The token, chosen by the client, under which the server may report work done progress with
+    /// `$/progress`. Absent: the client asks for none. Since 3.15.
     pub work_done_progress_params: WorkDoneProgressParams,
-    /// The token, chosen by the client, under which the server may send the result in parts with `$/progress`, and then
-    /// an empty response. Absent: the response has the whole result. Since 3.15.
+    /// The token, chosen by the client, under which the server may send the result in parts with
+    /// `$/progress`, and then an empty response. Absent: the response has the whole result. Since
+    /// 3.15.
     pub partial_result_params: PartialResultParams,
 }
 
@@ -53,8 +55,8 @@ impl Wire for WorkspaceDiagnosticParams {
     }
 }
 
-/// The result id of the last report on a document, in the parameters of `workspace/diagnostic`. Since 3.17 (LSP 3.17,
-/// "Pull Diagnostics").
+/// The result id of the last report on a document, in the parameters of `workspace/diagnostic`.
+/// Since 3.17 (LSP 3.17, "Pull Diagnostics").
 #[derive(Debug, PartialEq, Eq, Clone, Drop)]
 pub struct PreviousResultId {
     /// The URI of the document.
@@ -85,7 +87,8 @@ impl Wire for PreviousResultId {
     }
 }
 
-/// The result of `workspace/diagnostic`, or a later part of it. Since 3.17 (LSP 3.17, "Pull Diagnostics").
+/// The result of `workspace/diagnostic`, or a later part of it. Since 3.17 (LSP 3.17, "Pull
+/// Diagnostics").
 #[derive(Debug, Clone, Drop)]
 pub enum WorkspaceDiagnosticReportResult {
     /// The report on the workspace. If the result is sent in parts, this is the first part.
@@ -133,8 +136,8 @@ impl From<WorkspaceDiagnosticReportPartialResult> for WorkspaceDiagnosticReportR
     }
 }
 
-/// Reports on documents of the workspace, as the result of `workspace/diagnostic`. Since 3.17 (LSP 3.17, "Pull
-/// Diagnostics").
+/// Reports on documents of the workspace, as the result of `workspace/diagnostic`. Since 3.17 (LSP
+/// 3.17, "Pull Diagnostics").
 #[derive(Debug, Clone, Drop)]
 pub struct WorkspaceDiagnosticReport {
     /// One report for each document.
@@ -172,7 +175,8 @@ impl Wire for WorkspaceDiagnosticReport {
     }
 }
 
-/// The report on one document, in the result of `workspace/diagnostic`. Since 3.17 (LSP 3.17, "Pull Diagnostics").
+/// The report on one document, in the result of `workspace/diagnostic`. Since 3.17 (LSP 3.17, "Pull
+/// Diagnostics").
 #[derive(Debug, Clone, Drop)]
 pub enum WorkspaceDocumentDiagnosticReport {
     /// All diagnostics of the document.
@@ -234,13 +238,14 @@ impl From<WorkspaceUnchangedDocumentDiagnosticReport> for WorkspaceDocumentDiagn
     }
 }
 
-/// All diagnostics of one document, in the result of `workspace/diagnostic`. Since 3.17 (LSP 3.17, "Pull Diagnostics").
+/// All diagnostics of one document, in the result of `workspace/diagnostic`. Since 3.17 (LSP 3.17,
+/// "Pull Diagnostics").
 #[derive(Debug, Clone, Drop)]
 pub struct WorkspaceFullDocumentDiagnosticReport {
     /// The URI of the document.
     pub uri: Uri,
-    /// The version of the document that the diagnostics belong to. `None`, sent as `null`, if the document isn't open
-    /// in the client.
+    /// The version of the document that the diagnostics belong to. `None`, sent as `null`, if the
+    /// document isn't open in the client.
     pub version: Option<i64>,
     /// The diagnostics of the document. Its fields are part of the same JSON object.
     pub full_document_diagnostic_report: FullDocumentDiagnosticReport,
@@ -275,14 +280,14 @@ impl Wire for WorkspaceFullDocumentDiagnosticReport {
     }
 }
 
-/// The statement that one document's diagnostics have not changed since the last report, in the result of
-/// `workspace/diagnostic`. Since 3.17 (LSP 3.17, "Pull Diagnostics").
+/// The statement that one document's diagnostics have not changed since the last report, in the
+/// result of `workspace/diagnostic`. Since 3.17 (LSP 3.17, "Pull Diagnostics").
 #[derive(Debug, PartialEq, Clone, Drop)]
 pub struct WorkspaceUnchangedDocumentDiagnosticReport {
     /// The URI of the document.
     pub uri: Uri,
-    /// The version of the document that the diagnostics belong to. `None`, sent as `null`, if the document isn't open
-    /// in the client.
+    /// The version of the document that the diagnostics belong to. `None`, sent as `null`, if the
+    /// document isn't open in the client.
     pub version: Option<i64>,
     /// The result id for the document. Its fields are part of the same JSON object.
     pub unchanged_document_diagnostic_report: UnchangedDocumentDiagnosticReport,

@@ -6,7 +6,8 @@ use std::alloc::{AllocError, Global};
 use std::error::Error;
 use std::fmt;
 
-// How much is told of a line, and of each of the texts, so that a test's failure has room for all three.
+// How much is told of a line, and of each of the texts, so that a test's failure has room for all
+// three.
 const HEAD: usize = 80;
 
 const PIECE: usize = 150;
@@ -25,6 +26,7 @@ pub enum RowError {
         /// What came in its place, from there.
         found: String,
     },
+    /// Out of memory.
     NoMemory,
 }
 

@@ -1,4 +1,5 @@
-//! Tables of texts that tell what a type of the protocol is read from and what is written of it, for tests.
+//! Tables of texts that tell what a type of the protocol is read from and what is written of it,
+//! for tests.
 //!
 //! A table has a line for each text:
 //!

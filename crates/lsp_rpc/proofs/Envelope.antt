@@ -15,9 +15,9 @@ number_text-of_integer (pos n) = refl
 number_text-of_integer (negsuc n) = refl
 
 -- a member after others
-behind : (k : List ℕ) (o : Option Data) (ms : Members) → members_text true (with_member k o ms) ≡ next_member (44 ∷ (quoted k ++ 58 ∷ [])) o ++ members_text true ms
-behind k None ms = refl
-behind k (Some d) ms =
+after_member : (k : List ℕ) (o : Option Data) (ms : Members) → members_text true (with_member k o ms) ≡ next_member (44 ∷ (quoted k ++ 58 ∷ [])) o ++ members_text true ms
+after_member k None ms = refl
+after_member k (Some d) ms =
     ap (λ s. 44 ∷ s) (sym (append_assoc (quoted k) (58 ∷ []) (compact_text d ++ members_text true ms)) ∙ sym (append_assoc (quoted k ++ 58 ∷ []) (compact_text d) (members_text true ms)))
 
 three : (a b c d : List ℕ) → ((a ++ b) ++ c) ++ d ≡ a ++ (b ++ (c ++ d))
@@ -34,7 +34,7 @@ unfolding escape_byte
 error_text-error_data e =
     five (codes "{\"code\":") (signed_decimal (code_number e.code)) (codes ",\"message\":") (compact_text (string e.message)) (next_member (codes ",\"data\":") e.payload) (codes "}")
     ∙ ap (λ s. codes "{\"code\":" ++ (s ++ (codes ",\"message\":" ++ (compact_text (string e.message) ++ (next_member (codes ",\"data\":") e.payload ++ codes "}"))))) (sym (number_text-of_integer (code_number e.code)))
-    ∙ ap (λ s. codes "{\"code\":" ++ (number_text (of_integer (code_number e.code)) ++ (codes ",\"message\":" ++ (compact_text (string e.message) ++ s)))) (sym (behind (codes "data") e.payload no_members))
+    ∙ ap (λ s. codes "{\"code\":" ++ (number_text (of_integer (code_number e.code)) ++ (codes ",\"message\":" ++ (compact_text (string e.message) ++ s)))) (sym (after_member (codes "data") e.payload no_members))
 
 body_text-body_members : (b : Result Data ErrorData) (i : Data)
     → ((codes "{\"jsonrpc\":\"2.0\"" ++ body_text b) ++ codes ",\"id\":") ++ compact_text i ++ codes "}" ≡ 123 ∷ (quoted (codes "jsonrpc") ++ 58 ∷ (quoted (codes "2.0") ++ members_text true (body_members b (member (codes "id") i no_members))))
@@ -52,5 +52,5 @@ unfolding escape_byte
 message_text-message_data (response r) = body_text-body_members r.body (id_data r.id)
 message_text-message_data (request r) =
     four (codes "{\"jsonrpc\":\"2.0\",\"method\":") (compact_text (string r.method)) (next_member (codes ",\"params\":") r.params) (next_member (codes ",\"id\":") (option_map id_data r.id)) (codes "}")
-    ∙ ap (λ s. codes "{\"jsonrpc\":\"2.0\",\"method\":" ++ (compact_text (string r.method) ++ (next_member (codes ",\"params\":") r.params ++ s))) (sym (behind (codes "id") (option_map id_data r.id) no_members))
-    ∙ ap (λ s. codes "{\"jsonrpc\":\"2.0\",\"method\":" ++ (compact_text (string r.method) ++ s)) (sym (behind (codes "params") r.params (with_member (codes "id") (option_map id_data r.id) no_members)))
+    ∙ ap (λ s. codes "{\"jsonrpc\":\"2.0\",\"method\":" ++ (compact_text (string r.method) ++ (next_member (codes ",\"params\":") r.params ++ s))) (sym (after_member (codes "id") (option_map id_data r.id) no_members))
+    ∙ ap (λ s. codes "{\"jsonrpc\":\"2.0\",\"method\":" ++ (compact_text (string r.method) ++ s)) (sym (after_member (codes "params") r.params (with_member (codes "id") (option_map id_data r.id) no_members)))

@@ -3,8 +3,8 @@
 //!
 //! Contracts see an id, an error, a request, a response and a message as plain data, in which a
 //! string is its bytes and a JSON value is what `serde_json` shows of it: `show_id` and its like in
-//! `specs/Shown.antt`. `specs/Message.antt` says which message a value is and how one is written, and
-//! `specs/Back.antt` which messages are read back from their text.
+//! `specs/Shown.antt`. `specs/Message.antt` says which message a value is and how one is written,
+//! and `specs/Back.antt` which messages are read back from their text.
 #![tactic(auto)]
 
 mod code;

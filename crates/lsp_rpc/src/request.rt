@@ -107,8 +107,8 @@ impl Request {
         Ok(out)
     }
 
-    /// The request that the text is, also where it could be read as a response. The text is one JSON
-    /// value with no float in it.
+    /// The request that the text is, also where it could be read as a response. The text is one
+    /// JSON value with no float in it.
     pub fn from_text(alloc: Global, text: &str) -> Result<Request, TextFault>
         ensures found { IfOk result
             (λ r. option_and_then clean_request (read text.now) ≡ Some (request (show_request r))) }

@@ -11,7 +11,7 @@ is_object params = is_some (as_object params)
 abbrev pub has_capabilities : Data → Bool
 has_capabilities params = is_some (option_and_then as_object (get (codes "capabilities") params))
 
--- the argument of a list of one
+-- the argument of an array of one
 abbrev pub sole : Items → Option Data
 sole no_items = None
 sole (item value no_items) = Some value
@@ -37,6 +37,6 @@ abbrev pub command_with : List ℕ → Option Data → Option CommandData
 command_with name None = Some (command name None)
 command_with name (Some arguments) = option_map (λ list. command name (sole list)) (as_array arguments)
 
--- `ExecuteCommandParams` are an object with a text `command`
+-- `ExecuteCommandParams` are an object with a string `command`
 abbrev pub command_in : Data → Option CommandData
 command_in params = option_and_then (λ name. command_with name (get (codes "arguments") params)) (option_and_then as_str (get (codes "command") params))

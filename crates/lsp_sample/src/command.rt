@@ -32,7 +32,7 @@ pub struct Waiting {
 const MOST_POLLS: u64 = 1000;
 
 /// The command that the params of `workspace/executeCommand` are, where they are an object with a
-/// text `command` and, if `arguments` is there, a list of these.
+/// string `command` and, if `arguments` is there, an array.
 pub(crate) fn read_command(params: &Value) -> Result<Option<Command>, NoMemory>
     ensures { IfOk result (λ o. option_map show_command o ≡ command_in (view params.now)) }
 {
@@ -87,7 +87,7 @@ fn wait(argument: Option<&Value>) -> Command
     }
 }
 
-// The value of a list of one.
+// The value of an array of one.
 fn sole(values: &Vec<Value>) -> Option<&Value>
     ensures { option_map (λ v. view v.now) result ≡ sole_lem (items_view values.now.items) }
 {

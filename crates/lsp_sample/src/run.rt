@@ -33,9 +33,9 @@ pub enum Status {
     WriteFault = 4,
     /// The most reads that can be counted were made.
     ReadsSpent = 5,
-    /// There was no memory.
+    /// Out of memory.
     NoMemory = 6,
-    /// The desk had no turns left.
+    /// The desk had no turns left. `run` never ends so: its desk is its own.
     DeskSpent = 7,
 }
 

@@ -145,6 +145,3 @@ impl<W: Write> Sink for WriteSink<W> {
         }
     }
 }
-
-// What no clause says: that each call makes one call of the reader or the writer, and what a failed
-// one is answered.

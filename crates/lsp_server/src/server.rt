@@ -57,8 +57,9 @@ pub struct Server<D: Desk + Drop> {
 impl<D: Desk + Drop> Server<D> {
     ghost use Rattle.lsp_server.specs.ServerView.{server_desk, concurrency, waiting, server_limits, setting, standing, IsReady};
 
-    /// A server over the desk of a socket. At most 4 calls are polled in a round, at most 1,024
-    /// more let a further request wait, and the limits of head and body are the default ones.
+    /// A server over the desk of a socket. At most 4 calls are polled in a round, a request of an
+    /// ordinary method is refused while 1,024 calls wait, and a head has at most 8,192 bytes and a
+    /// body at most 67,108,864.
     pub fn new(socket: ClientSocket<D>) -> Server<D>
         ensures desk { server_desk result ≡ socket.desk }
         ensures concurrency { concurrency result ≡ 4 }

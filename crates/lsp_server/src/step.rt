@@ -36,6 +36,7 @@ pub enum ServeError {
     /// The desk has no turns left.
     #[error("desk spent")]
     DeskSpent(u64),
+    /// Out of memory.
     #[error("out of memory")]
     NoMemory,
 }

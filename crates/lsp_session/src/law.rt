@@ -26,7 +26,7 @@ pub fn nothing_begins_after_shutdown<D: Caller, H: Handlers<D>>()
     ensures { NothingBeginsAfterShutdown H.semantics }
 {}
 
-/// `exit` always ends a session, and leaves no request unanswered (LSP 3.17, "Exit Notification").
+/// `exit` always ends a session, and leaves no request live (LSP 3.17, "Exit Notification").
 pub fn exit_ends<D: Caller, H: Handlers<D>>()
     ensures { ExitEnds H.semantics }
 {}

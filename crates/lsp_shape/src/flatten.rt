@@ -53,7 +53,8 @@ pub fn members_written<T: Wire>(alloc: Global, value: &T) -> Result<Map<String, 
     Ok(members_of(alloc, value.to_value(alloc)?))
 }
 
-/// Puts each member of what is written for the value. After `NoMemory` the object may have some of them.
+/// Puts each member of what is written for the value. After `NoMemory` the object may have some of
+/// them.
 pub fn put_flat<T: Wire>(
     alloc: Global,
     object: &mut Map<String, Value>,

@@ -59,7 +59,8 @@ pub fn optional<T: Wire>(
     }
 }
 
-/// What the member of that name is read as, where it is there, and not null or false. True is read as `{"valueSet": []}` is.
+/// What the member of that name is read as, where it is there, and not null or false. True is read
+/// as `{"valueSet": []}` is.
 pub fn supported<T: Wire>(
     alloc: Global,
     object: &Map<String, Value>,

@@ -27,7 +27,7 @@ pub struct Reader<'v> {
 }
 
 impl<'v> Reader<'v> {
-    /// `Unfit` comes exactly where the value is no object.
+    /// The members of the object that the value is. `Unfit` comes only where it is none.
     pub fn new(alloc: Global, value: &'v Value) -> Result<Reader<'v>, Misfit>
         ensures ok { IfOk result (λ r. view value.now ≡ object_of (read_from r)) }
         ensures unfit { IsErrOf result Misfit.Unfit → (f : Data → Option Parts)
@@ -203,7 +203,8 @@ impl Writer {
         member::put_unless_false(self.alloc, &mut self.object, name, value)
     }
 
-    /// Puts each member of what is written for the value. After `NoMemory` the object may have some of them.
+    /// Puts each member of what is written for the value. After `NoMemory` the object may have some
+    /// of them.
     pub fn flat<T: Wire>(&mut self, value: &T) -> Result<(), NoMemory>
         ensures ok { OnOk result
             (written_to self.new

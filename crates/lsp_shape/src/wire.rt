@@ -20,6 +20,7 @@ use std::alloc::{AllocError, AllocFailed, Global};
 pub enum Misfit {
     /// The value does not fit the shape of the type.
     Unfit,
+    /// Out of memory.
     NoMemory,
 }
 
@@ -49,8 +50,8 @@ impl<T: Drop> From<AllocFailed<T>> for Misfit {
 
 /// A type that is read from a JSON value, and written as one.
 ///
-/// A shape says which values fit the type, what they are read as, and what is written. Plain data says what a value of
-/// the type is, so that one definition of reading serves every type.
+/// A shape says which values fit the type, what they are read as, and what is written. Plain data
+/// says what a value of the type is, so that one definition of reading serves every type.
 pub trait Wire: Drop {
     /// What a value must be to be read.
     ghost shape: { Shape };
@@ -58,11 +59,12 @@ pub trait Wire: Drop {
     /// What a value of the type is, as plain data.
     ghost shown: { Self → Plain };
 
-    /// `Unfit` comes exactly where the value does not fit.
+    /// The value that the JSON value is read as. `Unfit` comes only where it does not fit.
     fn from_value(alloc: Global, value: &Value) -> Result<Self, Misfit>
         ensures read { IfOk result (λ x. read shape (view value.now) ≡ Some (shown x)) }
         ensures unfit { IsErrOf result Misfit.Unfit → read shape (view value.now) ≡ None };
 
+    /// What is written for the value: its plain data, by the shape. The one error is out of memory.
     fn to_value(&self, alloc: Global) -> Result<Value, NoMemory>
         ensures written { IfOk result (λ v. view v ≡ write shape (shown self.now)) }
         ensures of_shape { OnOk result (is_of shape (shown self.now) ≡ true) };

@@ -15,7 +15,8 @@ pub struct SharedClient<'a, R: Wait + Sync> {
     chair: ClientChair<'a>,
 }
 
-/// The seat of a shared desk through which its session calls, with the runtime that these calls wait by.
+/// The seat of a shared desk through which its session calls, with the runtime that these calls
+/// wait by.
 #[derive(Drop)]
 pub struct DeskOwner<'a, R: Wait + Sync> {
     rt: &'a R,
@@ -169,7 +170,8 @@ impl<'a, R: Wait + Sync> DeskOwner<'a, R> {
         chair.rest()
     }
 
-    /// Cuts the share in two: the new seat gets half of it, rounded down. It has seen what this one has, and made no call.
+    /// Cuts the share in two: the new seat gets half of it, rounded down. It has seen what this one
+    /// has, and made no call.
     pub fn split(&mut self) -> Result<SharedClient<'a, R>, NoMemory>
         requires { 2 ≤ (owner_view self.old).share }
         ensures ready { IsOk result }
@@ -185,8 +187,8 @@ impl<'a, R: Wait + Sync> DeskOwner<'a, R> {
         })
     }
 
-    /// Takes in another seat of this desk: its share and its calls are this seat's, and this one has seen what either had.
-    /// Of what they had seen one begins the other.
+    /// Takes in another seat of this desk: its share and its calls are this seat's, and this one
+    /// has seen what either had. Of what they had seen one begins the other.
     pub fn join(&mut self, other: SharedClient<'_, R>)
         requires { client_desk other ≡ owner_desk self.old }
         ensures joined { owner_view self.new
@@ -249,7 +251,8 @@ impl<'a, R: Wait + Sync> SharedClient<'a, R> {
         chair.rest()
     }
 
-    /// Cuts the share in two: the new seat gets half of it, rounded down. It has seen what this one has, and made no call.
+    /// Cuts the share in two: the new seat gets half of it, rounded down. It has seen what this one
+    /// has, and made no call.
     pub fn split(&mut self) -> Result<SharedClient<'a, R>, NoMemory>
         requires { 2 ≤ (client_view self.old).share }
         ensures ready { IsOk result }
@@ -265,8 +268,8 @@ impl<'a, R: Wait + Sync> SharedClient<'a, R> {
         })
     }
 
-    /// Takes in another seat of this desk: its share and its calls are this seat's, and this one has seen what either had.
-    /// Of what they had seen one begins the other.
+    /// Takes in another seat of this desk: its share and its calls are this seat's, and this one
+    /// has seen what either had. Of what they had seen one begins the other.
     pub fn join(&mut self, other: SharedClient<'_, R>)
         requires { client_desk other ≡ client_desk self.old }
         ensures joined { client_view self.new

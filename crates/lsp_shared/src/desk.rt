@@ -10,7 +10,8 @@ use lsp_desk::PlainDesk;
 use no_memory::NoMemory;
 use std::alloc::Global;
 
-/// A desk that threads share, each through a seat of its own. Calls take turns in the order in which these are drawn.
+/// A desk that threads share, each through a seat of its own. Calls take turns in the order in
+/// which these are drawn.
 #[derive(Drop)]
 pub struct SharedDesk {
     pub(crate) table: Table<PlainDesk, View, (), Turns, Global>,

@@ -1,4 +1,5 @@
-//! One desk that threads share: the session calls through the owner's seat, and other threads of a server through seats of their own.
+//! One desk that threads share: the session calls through the owner's seat, and other threads of a
+//! server through seats of their own.
 #![tactic(auto)]
 
 mod chair;

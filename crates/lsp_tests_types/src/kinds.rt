@@ -1,4 +1,5 @@
-// What no clause says, since none can name a constant: each by its number and name. And that the calls succeed.
+// What no clause says, since none can name a constant: each by its number and name. And that the
+// calls succeed.
 use lsp_kinds::{
     CodeActionTriggerKind, CompletionItemKind, CompletionItemTag, CompletionTriggerKind,
     DiagnosticSeverity, DiagnosticTag, DocumentHighlightKind, FileChangeType, InlayHintKind,

@@ -1,4 +1,5 @@
-// What no clause says: that reading and writing succeed, and what JSON texts of the protocol read as.
+// What no clause says: that reading and writing succeed, and what JSON texts of the protocol read
+// as.
 use lsp_shape::{
     Key, Misfit, Reader, TokenNumbers, Wire, Writer, attempt, field, find, list_or_empty,
     members_written, optional, put, put_flat, put_nullable, put_optional, put_tag,

@@ -1,4 +1,5 @@
-// What no clause says: which texts RFC 3986 gives as URI references and which parts they have, and that the calls succeed.
+// What no clause says: which texts RFC 3986 gives as URI references and which parts they have, and
+// that the calls succeed.
 use lsp_shape::{Key, Misfit, Wire};
 use lsp_uri::{Uri, UriError};
 use serde_json::Value;

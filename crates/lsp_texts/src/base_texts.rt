@@ -1,5 +1,6 @@
-// What no clause says: that the rows are those of the protocol, on texts that Neovim, clangd and pylsp sent, where they send the
-// type, and on others written after LSP 3.17, some of them its examples; and that reading and writing succeed.
+// What no clause says: that the rows are those of the protocol, on texts that Neovim, clangd and
+// pylsp sent, where they send the type, and on others written after LSP 3.17, some of them its
+// examples; and that reading and writing succeed.
 use lsp_base::{
     AnnotatedTextEdit, CancelParams, ChangeAnnotation, CodeDescription, Command, CreateFile,
     CreateFileOptions, DeleteFile, DeleteFileOptions, Diagnostic, DiagnosticRelatedInformation,

@@ -1,5 +1,5 @@
-// What no clause says: each known name by its text in LSP 3.17, what Debug shows, and that texts of editors, of clangd and of
-// the standard are read.
+// What no clause says: each known name by its text in LSP 3.17, what Debug shows, and that texts of
+// editors, of clangd and of the standard are read.
 ghost use Rattle.std.specs.Prelude.{◌≡◌, Some, bytes_eq};
 ghost use Rattle.std.specs.Cmp.Lexicographic.{slice_cmp};
 ghost use Rattle.std.specs.Ordering.{nat_cmp};
@@ -24,7 +24,8 @@ fn hash_of<K: Hash>(kind: &K) -> u64 {
     state.finish()
 }
 
-// The kind is that of the text, known or owned: the two are equal, in order and hash too, and read and written alike.
+// The kind is that of the text, known or owned: the two are equal, in order and hash too, and read
+// and written alike.
 fn is_kind_of<K>(alloc: Global, kind: &K, text: &'static str) -> Result<bool, Fail>
 where
     K: Wire + Clone + Debug + Hash + PartialOrd + From<String> + From<&'static str>,

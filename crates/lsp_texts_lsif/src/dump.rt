@@ -1,4 +1,5 @@
-// A dump of a hundred thousand lines, in the form of the examples of LSIF 0.6: each line is read, and written the same.
+// A dump of a hundred thousand lines, in the form of the examples of LSIF 0.6: each line is read,
+// and written the same.
 use lsp_lsif::{Element, Entry};
 use lsp_shape::Wire;
 use serde_json::Value;
@@ -9,7 +10,8 @@ use std::test::Fail;
 // How many documents the dump has, each of 50 lines.
 const DOCUMENTS: u32 = 2_000;
 
-// The lines before those of the documents. `@3@` stands for the third id after the first one of the part.
+// The lines before those of the documents. `@3@` stands for the third id after the first one of the
+// part.
 const HEAD: &str = r#"
 {"id":@0@,"label":"metaData","positionEncoding":"utf-16","projectRoot":"file:///w","toolInfo":{"args":["-p","tsconfig.json"],"name":"lsif-tsc","version":"0.6.0"},"type":"vertex","version":"0.6.0"}
 {"id":@1@,"kind":"typescript","label":"project","resource":"file:///w/tsconfig.json","type":"vertex"}

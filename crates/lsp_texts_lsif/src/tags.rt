@@ -1,4 +1,5 @@
-// The rows of the tags of ranges, whose fields are private: a tag is told by its text, and by what Debug shows.
+// The rows of the tags of ranges, whose fields are private: a tag is told by its text, and by what
+// Debug shows.
 use lsp_lsif::{DeclarationTag, DefinitionTag, RangeTag, ReferenceTag, UnknownTag};
 use lsp_rows::holds;
 use std::test::Fail;

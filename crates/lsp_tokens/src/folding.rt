@@ -7,17 +7,17 @@ use lsp_shape::{Misfit, NoMemory, Reader, Wire, Writer};
 use serde_json::Value;
 use std::alloc::Global;
 
-/// The parameters of a `textDocument/foldingRange` request, which asks what can be folded in a document. Since 3.10
-/// (LSP 3.17, "Folding Range Request").
+/// The parameters of a `textDocument/foldingRange` request, which asks what can be folded in a
+/// document. Since 3.10 (LSP 3.17, "Folding Range Request").
 #[derive(Debug, PartialEq, Eq, Clone, Drop)]
 pub struct FoldingRangeParams {
     /// The document to find folding ranges in.
     pub text_document: TextDocumentIdentifier,
-    /// The token, chosen by the client, under which the server may report work done progress with `$/progress`. Absent:
-    /// the client asks for none. Since 3.15.
+    /// The token, chosen by the client, under which the server may report work done progress with
+    /// `$/progress`. Absent: the client asks for none. Since 3.15.
     pub work_done_progress_params: WorkDoneProgressParams,
-    /// The token for sending the result in parts, as arrays of `FoldingRange` in `$/progress` notifications, with an
-    /// empty response after them. Absent: the response has the whole result.
+    /// The token for sending the result in parts, as arrays of `FoldingRange` in `$/progress`
+    /// notifications, with an empty response after them. Absent: the response has the whole result.
     pub partial_result_params: PartialResultParams,
 }
 
@@ -45,25 +45,25 @@ impl Wire for FoldingRangeParams {
     }
 }
 
-/// A part of a document that the user can collapse, as the server reports it for `textDocument/foldingRange`. Since
-/// 3.10 (LSP 3.17, "Folding Range Request").
+/// A part of a document that the user can collapse, as the server reports it for
+/// `textDocument/foldingRange`. Since 3.10 (LSP 3.17, "Folding Range Request").
 #[derive(Debug, PartialEq, Eq, Default, Clone, Drop)]
 pub struct FoldingRange {
     /// The zero-based line on which the folded text starts. It must lie within the document.
     pub start_line: u32,
-    /// Where the folded text starts on its first line: a zero-based offset, in UTF-16 code units by default. Absent:
-    /// the end of that line. Clients that fold whole lines only ignore it.
+    /// Where the folded text starts on its first line: a zero-based offset, in UTF-16 code units by
+    /// default. Absent: the end of that line. Clients that fold whole lines only ignore it.
     pub start_character: Option<u32>,
     /// The zero-based line on which the folded text ends. It must lie within the document.
     pub end_line: u32,
-    /// Where the folded text ends on its last line: a zero-based offset, in UTF-16 code units by default. Absent: the
-    /// end of that line. Clients that fold whole lines only ignore it.
+    /// Where the folded text ends on its last line: a zero-based offset, in UTF-16 code units by
+    /// default. Absent: the end of that line. Clients that fold whole lines only ignore it.
     pub end_character: Option<u32>,
-    /// What is folded, such as a comment, for commands of the client like folding all comments. LSP allows any string;
-    /// reading fails where the kind isn't one of `FoldingRangeKind`.
+    /// What is folded, such as a comment, for commands of the client like folding all comments. LSP
+    /// allows any string; reading fails where the kind isn't one of `FoldingRangeKind`.
     pub kind: Option<FoldingRangeKind>,
-    /// What the client shows in place of the folded text. Where it is absent or not supported, the client chooses a
-    /// text. Since 3.17.
+    /// What the client shows in place of the folded text. Where it is absent or not supported, the
+    /// client chooses a text. Since 3.17.
     pub collapsed_text: Option<String>,
 }
 

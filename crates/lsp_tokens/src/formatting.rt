@@ -8,16 +8,16 @@ use serde_json::Value;
 use std::alloc::Global;
 use std::collections::HashMap;
 
-/// The parameters of a `textDocument/formatting` request, which asks for edits that format a whole document (LSP 3.17,
-/// "Document Formatting Request").
+/// The parameters of a `textDocument/formatting` request, which asks for edits that format a whole
+/// document (LSP 3.17, "Document Formatting Request").
 #[derive(Debug, Clone, Drop)]
 pub struct DocumentFormattingParams {
     /// The document that is to be formatted.
     pub text_document: TextDocumentIdentifier,
     /// How the user wants it formatted.
     pub options: FormattingOptions,
-    /// The token, chosen by the client, under which the server may report work done progress with `$/progress`. Absent:
-    /// the client asks for none. Since 3.15.
+    /// The token, chosen by the client, under which the server may report work done progress with
+    /// `$/progress`. Absent: the client asks for none. Since 3.15.
     pub work_done_progress_params: WorkDoneProgressParams,
 }
 
@@ -45,15 +45,16 @@ impl Wire for DocumentFormattingParams {
     }
 }
 
-/// How a document is to be formatted, as the client sends it with each formatting request (LSP 3.17, "Document
-/// Formatting Request").
+/// How a document is to be formatted, as the client sends it with each formatting request (LSP
+/// 3.17, "Document Formatting Request").
 #[derive(Debug, Clone, Drop)]
 pub struct FormattingOptions {
     /// The width of a tab, in spaces.
     pub tab_size: u32,
     /// Whether to indent with spaces, and not with tabs.
     pub insert_spaces: bool,
-    /// Options that the standard doesn't define, by their names: all members of the object that have no field here.
+    /// Options that the standard doesn't define, by their names: all members of the object that
+    /// have no field here.
     pub properties: HashMap<String, FormattingProperty>,
     /// Whether to remove whitespace at the end of lines. Since 3.15.
     pub trim_trailing_whitespace: Option<bool>,
@@ -119,8 +120,9 @@ impl Wire for FormattingOptions {
     }
 }
 
-/// The value of an option that the standard doesn't define, in `FormattingOptions`: a boolean, an integer or a string.
-/// Reading fails for other kinds of values (LSP 3.17, "Document Formatting Request").
+/// The value of an option that the standard doesn't define, in `FormattingOptions`: a boolean, an
+/// integer or a string. Reading fails for other kinds of values (LSP 3.17, "Document Formatting
+/// Request").
 #[derive(Debug, PartialEq, Clone, Drop)]
 pub enum FormattingProperty {
     /// A boolean.
@@ -156,8 +158,8 @@ impl Wire for FormattingProperty {
     }
 }
 
-/// The parameters of a `textDocument/rangeFormatting` request, which asks for edits that format a part of a document
-/// (LSP 3.17, "Document Range Formatting Request").
+/// The parameters of a `textDocument/rangeFormatting` request, which asks for edits that format a
+/// part of a document (LSP 3.17, "Document Range Formatting Request").
 #[derive(Debug, Clone, Drop)]
 pub struct DocumentRangeFormattingParams {
     /// The document that is to be formatted.
@@ -166,8 +168,8 @@ pub struct DocumentRangeFormattingParams {
     pub range: Range,
     /// How the user wants it formatted.
     pub options: FormattingOptions,
-    /// The token, chosen by the client, under which the server may report work done progress with `$/progress`. Absent:
-    /// the client asks for none. Since 3.15.
+    /// The token, chosen by the client, under which the server may report work done progress with
+    /// `$/progress`. Absent: the client asks for none. Since 3.15.
     pub work_done_progress_params: WorkDoneProgressParams,
 }
 
@@ -197,14 +199,16 @@ impl Wire for DocumentRangeFormattingParams {
     }
 }
 
-/// The parameters of a `textDocument/onTypeFormatting` request, which the client sends when the user types a character
-/// that the server registered for it (LSP 3.17, "Document on Type Formatting Request").
+/// The parameters of a `textDocument/onTypeFormatting` request, which the client sends when the
+/// user types a character that the server registered for it (LSP 3.17, "Document on Type Formatting
+/// Request").
 #[derive(Debug, Clone, Drop)]
 pub struct DocumentOnTypeFormattingParams {
-    /// The document, and the position around which to format. That need not be exactly where the character was typed.
+    /// The document, and the position around which to format. That need not be exactly where the
+    /// character was typed.
     pub text_document_position: TextDocumentPositionParams,
-    /// The character that the user typed. Others may stand after it, such as a closing brace that the client inserted
-    /// on its own.
+    /// The character that the user typed. Others may stand after it, such as a closing brace that
+    /// the client inserted on its own.
     pub ch: String,
     /// How the user wants the text formatted.
     pub options: FormattingOptions,

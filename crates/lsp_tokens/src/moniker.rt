@@ -6,17 +6,17 @@ use lsp_shape::{Misfit, NoMemory, Reader, Wire, Writer};
 use serde_json::Value;
 use std::alloc::Global;
 
-/// The parameters of a `textDocument/moniker` request, which asks for the monikers of the symbol at a position. Since
-/// 3.16 (LSP 3.17, "Monikers").
+/// The parameters of a `textDocument/moniker` request, which asks for the monikers of the symbol at
+/// a position. Since 3.16 (LSP 3.17, "Monikers").
 #[derive(Debug, PartialEq, Eq, Clone, Drop)]
 pub struct MonikerParams {
     /// The document, and the position of the symbol.
     pub text_document_position_params: TextDocumentPositionParams,
-    /// The token, chosen by the client, under which the server may report work done progress with `$/progress`. Absent:
-    /// the client asks for none. Since 3.15.
+    /// The token, chosen by the client, under which the server may report work done progress with
+    /// `$/progress`. Absent: the client asks for none. Since 3.15.
     pub work_done_progress_params: WorkDoneProgressParams,
-    /// The token for sending the result in parts, as arrays of `Moniker` in `$/progress` notifications, with an empty
-    /// response after them. Absent: the response has the whole result.
+    /// The token for sending the result in parts, as arrays of `Moniker` in `$/progress`
+    /// notifications, with an empty response after them. Absent: the response has the whole result.
     pub partial_result_params: PartialResultParams,
 }
 
@@ -43,17 +43,19 @@ impl Wire for MonikerParams {
     }
 }
 
-/// A name for a symbol that also holds in other projects and indexes, in the result of `textDocument/moniker` and in
-/// LSIF dumps. Since 3.16 (LSP 3.17, "Monikers").
+/// A name for a symbol that also holds in other projects and indexes, in the result of
+/// `textDocument/moniker` and in LSIF dumps. Since 3.16 (LSP 3.17, "Monikers").
 #[derive(Debug, PartialEq, Eq, Clone, Drop)]
 pub struct Moniker {
     /// The naming scheme that the identifier follows, such as `tsc` or `npm`.
     pub scheme: String,
-    /// The name itself. Its structure is up to the owner of the scheme; others should only compare it.
+    /// The name itself. Its structure is up to the owner of the scheme; others should only compare
+    /// it.
     pub identifier: String,
     /// The scope in which no other symbol has this moniker.
     pub unique: UniquenessLevel,
-    /// Whether the symbol is imported, exported or local to the project. Absent if that isn't known.
+    /// Whether the symbol is imported, exported or local to the project. Absent if that isn't
+    /// known.
     pub kind: Option<MonikerKind>,
 }
 

@@ -11,15 +11,16 @@ use lsp_shape::{Misfit, NoMemory, Reader, Wire, Writer, attempt};
 use serde_json::Value;
 use std::alloc::Global;
 
-/// The parameters of a `textDocument/semanticTokens/full` request, which asks for all tokens of a document. Since 3.16
-/// (LSP 3.17, "Semantic Tokens").
+/// The parameters of a `textDocument/semanticTokens/full` request, which asks for all tokens of a
+/// document. Since 3.16 (LSP 3.17, "Semantic Tokens").
 #[derive(Debug, PartialEq, Eq, Clone, Drop)]
 pub struct SemanticTokensParams {
-    /// The token, chosen by the client, under which the server may report work done progress with `$/progress`. Absent:
-    /// the client asks for none. Since 3.15.
+    /// The token, chosen by the client, under which the server may report work done progress with
+    /// `$/progress`. Absent: the client asks for none. Since 3.15.
     pub work_done_progress_params: WorkDoneProgressParams,
-    /// The token for sending the result in parts, as `SemanticTokensPartialResult` values in `$/progress`
-    /// notifications, with an empty response after them. Absent: the response has the whole result.
+    /// The token for sending the result in parts, as `SemanticTokensPartialResult` values in
+    /// `$/progress` notifications, with an empty response after them. Absent: the response has the
+    /// whole result.
     pub partial_result_params: PartialResultParams,
     /// The document to give tokens for.
     pub text_document: TextDocumentIdentifier,
@@ -49,19 +50,21 @@ impl Wire for SemanticTokensParams {
     }
 }
 
-/// The parameters of a `textDocument/semanticTokens/full/delta` request, which asks what has changed in the tokens of a
-/// document since an earlier result. Since 3.16 (LSP 3.17, "Semantic Tokens").
+/// The parameters of a `textDocument/semanticTokens/full/delta` request, which asks what has
+/// changed in the tokens of a document since an earlier result. Since 3.16 (LSP 3.17, "Semantic
+/// Tokens").
 #[derive(Debug, PartialEq, Eq, Clone, Drop)]
 pub struct SemanticTokensDeltaParams {
-    /// The token, chosen by the client, under which the server may report work done progress with `$/progress`. Absent:
-    /// the client asks for none. Since 3.15.
+    /// The token, chosen by the client, under which the server may report work done progress with
+    /// `$/progress`. Absent: the client asks for none. Since 3.15.
     pub work_done_progress_params: WorkDoneProgressParams,
-    /// The token for sending the result in parts, each with tokens or with edits, in `$/progress` notifications, with
-    /// an empty response after them. Absent: the response has the whole result.
+    /// The token for sending the result in parts, each with tokens or with edits, in `$/progress`
+    /// notifications, with an empty response after them. Absent: the response has the whole result.
     pub partial_result_params: PartialResultParams,
     /// The document to give tokens for.
     pub text_document: TextDocumentIdentifier,
-    /// The `result_id` of the result that the client received last, whether that was a full one or a delta.
+    /// The `result_id` of the result that the client received last, whether that was a full one or
+    /// a delta.
     pub previous_result_id: String,
 }
 
@@ -91,15 +94,16 @@ impl Wire for SemanticTokensDeltaParams {
     }
 }
 
-/// The parameters of a `textDocument/semanticTokens/range` request, which asks for the tokens in a part of a document,
-/// such as the visible lines. Since 3.16 (LSP 3.17, "Semantic Tokens").
+/// The parameters of a `textDocument/semanticTokens/range` request, which asks for the tokens in a
+/// part of a document, such as the visible lines. Since 3.16 (LSP 3.17, "Semantic Tokens").
 #[derive(Debug, PartialEq, Eq, Clone, Drop)]
 pub struct SemanticTokensRangeParams {
-    /// The token, chosen by the client, under which the server may report work done progress with `$/progress`. Absent:
-    /// the client asks for none. Since 3.15.
+    /// The token, chosen by the client, under which the server may report work done progress with
+    /// `$/progress`. Absent: the client asks for none. Since 3.15.
     pub work_done_progress_params: WorkDoneProgressParams,
-    /// The token for sending the result in parts, as `SemanticTokensPartialResult` values in `$/progress`
-    /// notifications, with an empty response after them. Absent: the response has the whole result.
+    /// The token for sending the result in parts, as `SemanticTokensPartialResult` values in
+    /// `$/progress` notifications, with an empty response after them. Absent: the response has the
+    /// whole result.
     pub partial_result_params: PartialResultParams,
     /// The document to give tokens for.
     pub text_document: TextDocumentIdentifier,
@@ -133,11 +137,12 @@ impl Wire for SemanticTokensRangeParams {
     }
 }
 
-/// The result of a `textDocument/semanticTokens/full` request, or a part of it. Since 3.16 (LSP 3.17, "Semantic
-/// Tokens").
+/// The result of a `textDocument/semanticTokens/full` request, or a part of it. Since 3.16 (LSP
+/// 3.17, "Semantic Tokens").
 #[derive(Debug, PartialEq, Eq, Clone, Drop)]
 pub enum SemanticTokensResult {
-    /// All tokens of the document. A part has the same form without the result id, so it is read as this variant too.
+    /// All tokens of the document. A part has the same form without the result id, so it is read as
+    /// this variant too.
     Tokens(SemanticTokens),
     /// Some of the tokens, to be sent in a `$/progress` notification before the response.
     Partial(SemanticTokensPartialResult),
@@ -180,14 +185,14 @@ impl From<SemanticTokensPartialResult> for SemanticTokensResult {
     }
 }
 
-/// The result of a `textDocument/semanticTokens/full/delta` request, or a part of it. Since 3.16 (LSP 3.17, "Semantic
-/// Tokens").
+/// The result of a `textDocument/semanticTokens/full/delta` request, or a part of it. Since 3.16
+/// (LSP 3.17, "Semantic Tokens").
 #[derive(Debug, PartialEq, Eq, Clone, Drop)]
 pub enum SemanticTokensFullDeltaResult {
     /// All tokens of the document, from a server that doesn't work out the difference.
     Tokens(SemanticTokens),
-    /// The edits that turn the previous result into the new one. A part of them has the same form without the result
-    /// id, so it is read as this variant too.
+    /// The edits that turn the previous result into the new one. A part of them has the same form
+    /// without the result id, so it is read as this variant too.
     TokensDelta(SemanticTokensDelta),
     /// Some of the edits, to be sent in a `$/progress` notification before the response.
     PartialTokensDelta {
@@ -275,11 +280,11 @@ impl From<SemanticTokensDelta> for SemanticTokensFullDeltaResult {
 /// `textDocument/semanticTokens/full/delta` request. Since 3.16 (LSP 3.17, "Semantic Tokens").
 #[derive(Debug, PartialEq, Eq, Clone, Drop)]
 pub struct SemanticTokensDelta {
-    /// The id of the new result, which the client sends with its next delta request. Absent if the server offers no
-    /// delta from this result.
+    /// The id of the new result, which the client sends with its next delta request. Absent if the
+    /// server offers no delta from this result.
     pub result_id: Option<String>,
-    /// Edits of the previous result's array of integers. Each refers to the array as it was before all of them, and
-    /// they need not be sorted.
+    /// Edits of the previous result's array of integers. Each refers to the array as it was before
+    /// all of them, and they need not be sorted.
     pub edits: Vec<SemanticTokensEdit>,
 }
 
@@ -318,11 +323,12 @@ impl Wire for SemanticTokensDelta {
     }
 }
 
-/// The result of a `textDocument/semanticTokens/range` request, or a part of it. Since 3.16 (LSP 3.17, "Semantic
-/// Tokens").
+/// The result of a `textDocument/semanticTokens/range` request, or a part of it. Since 3.16 (LSP
+/// 3.17, "Semantic Tokens").
 #[derive(Debug, PartialEq, Eq, Clone, Drop)]
 pub enum SemanticTokensRangeResult {
-    /// All tokens in the range. A part has the same form without the result id, so it is read as this variant too.
+    /// All tokens in the range. A part has the same form without the result id, so it is read as
+    /// this variant too.
     Tokens(SemanticTokens),
     /// Some of the tokens, to be sent in a `$/progress` notification before the response.
     Partial(SemanticTokensPartialResult),

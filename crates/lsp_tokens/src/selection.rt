@@ -9,20 +9,20 @@ use lsp_shape::{Misfit, NoMemory, Reader, Wire, Writer};
 use serde_json::Value;
 use std::alloc::Global;
 
-/// The parameters of a `textDocument/selectionRange` request, which asks how the selection can grow from each of
-/// several positions. Since 3.15 (LSP 3.17, "Selection Range Request").
+/// The parameters of a `textDocument/selectionRange` request, which asks how the selection can grow
+/// from each of several positions. Since 3.15 (LSP 3.17, "Selection Range Request").
 #[derive(Debug, PartialEq, Eq, Clone, Drop)]
 pub struct SelectionRangeParams {
     /// The document to find selection ranges in.
     pub text_document: TextDocumentIdentifier,
-    /// The zero-based positions, often those of several cursors. The result has a `SelectionRange` for each, in the
-    /// same order; for a position without one, an empty range there.
+    /// The zero-based positions, often those of several cursors. The result has a `SelectionRange`
+    /// for each, in the same order; for a position without one, an empty range there.
     pub positions: Vec<Position>,
-    /// The token, chosen by the client, under which the server may report work done progress with `$/progress`. Absent:
-    /// the client asks for none. Since 3.15.
+    /// The token, chosen by the client, under which the server may report work done progress with
+    /// `$/progress`. Absent: the client asks for none. Since 3.15.
     pub work_done_progress_params: WorkDoneProgressParams,
-    /// The token for sending the result in parts, as arrays of `SelectionRange` in `$/progress` notifications, with an
-    /// empty response after them. Absent: the response has the whole result.
+    /// The token for sending the result in parts, as arrays of `SelectionRange` in `$/progress`
+    /// notifications, with an empty response after them. Absent: the response has the whole result.
     pub partial_result_params: PartialResultParams,
 }
 
@@ -52,14 +52,14 @@ impl Wire for SelectionRangeParams {
     }
 }
 
-/// The parameters of a `textDocument/linkedEditingRange` request, which asks for the ranges that change together with
-/// the text at a position. Since 3.16 (LSP 3.17, "Linked Editing Range").
+/// The parameters of a `textDocument/linkedEditingRange` request, which asks for the ranges that
+/// change together with the text at a position. Since 3.16 (LSP 3.17, "Linked Editing Range").
 #[derive(Debug, PartialEq, Eq, Clone, Drop)]
 pub struct LinkedEditingRangeParams {
     /// The document, and the position of the text that the user may edit.
     pub text_document_position_params: TextDocumentPositionParams,
-    /// The token, chosen by the client, under which the server may report work done progress with `$/progress`. Absent:
-    /// the client asks for none. Since 3.15.
+    /// The token, chosen by the client, under which the server may report work done progress with
+    /// `$/progress`. Absent: the client asks for none. Since 3.15.
     pub work_done_progress_params: WorkDoneProgressParams,
 }
 
@@ -84,15 +84,15 @@ impl Wire for LinkedEditingRangeParams {
     }
 }
 
-/// The result of a `textDocument/linkedEditingRange` request: ranges that the client edits as one, such as the names in
-/// a start tag and its end tag. If there are none, the result is null instead. Since 3.16 (LSP 3.17, "Linked Editing
-/// Range").
+/// The result of a `textDocument/linkedEditingRange` request: ranges that the client edits as one,
+/// such as the names in a start tag and its end tag. If there are none, the result is null instead.
+/// Since 3.16 (LSP 3.17, "Linked Editing Range").
 #[derive(Debug, PartialEq, Eq, Clone, Drop)]
 pub struct LinkedEditingRanges {
     /// The ranges. All have the same length and the same text, and none overlaps another.
     pub ranges: Vec<Range>,
-    /// A regular expression for what the ranges may contain. Absent: the client uses the word pattern of its
-    /// configuration.
+    /// A regular expression for what the ranges may contain. Absent: the client uses the word
+    /// pattern of its configuration.
     pub word_pattern: Option<String>,
 }
 

@@ -21,7 +21,8 @@ use std::alloc::Global;
 pub struct SelectionRange {
     /// What is selected.
     pub range: Range,
-    /// What is selected when the selection grows from here. Its range must contain `range`. Absent: it grows no further.
+    /// What is selected when the selection grows from here. Its range must contain `range`. Absent:
+    /// it grows no further.
     pub parent: Option<Box<SelectionRange>>,
 }
 

@@ -8,8 +8,8 @@ use lsp_shape::{Misfit, NoMemory, Reader, Wire, Writer, attempt};
 use serde_json::Value;
 use std::alloc::Global;
 
-/// The parameters of a `textDocument/signatureHelp` request, which asks for the signatures of what is being called at a
-/// position (LSP 3.17, "Signature Help Request").
+/// The parameters of a `textDocument/signatureHelp` request, which asks for the signatures of what
+/// is being called at a position (LSP 3.17, "Signature Help Request").
 #[derive(Debug, PartialEq, Eq, Clone, Drop)]
 pub struct SignatureHelpParams {
     /// How the request was triggered. Clients send it only with the capability
@@ -17,8 +17,8 @@ pub struct SignatureHelpParams {
     pub context: Option<SignatureHelpContext>,
     /// The document, and the position inside the call.
     pub text_document_position_params: TextDocumentPositionParams,
-    /// The token, chosen by the client, under which the server may report work done progress with `$/progress`. Absent:
-    /// the client asks for none. Since 3.15.
+    /// The token, chosen by the client, under which the server may report work done progress with
+    /// `$/progress`. Absent: the client asks for none. Since 3.15.
     pub work_done_progress_params: WorkDoneProgressParams,
 }
 
@@ -46,18 +46,19 @@ impl Wire for SignatureHelpParams {
     }
 }
 
-/// How a `textDocument/signatureHelp` request was triggered. Since 3.15 (LSP 3.17, "Signature Help Request").
+/// How a `textDocument/signatureHelp` request was triggered. Since 3.15 (LSP 3.17, "Signature Help
+/// Request").
 #[derive(Debug, PartialEq, Eq, Clone, Drop)]
 pub struct SignatureHelpContext {
-    /// Whether the user or a command invoked it, a trigger character was typed, or the cursor moved or the text
-    /// changed.
+    /// Whether the user or a command invoked it, a trigger character was typed, or the cursor moved
+    /// or the text changed.
     pub trigger_kind: SignatureHelpTriggerKind,
     /// The trigger character that was typed. Absent if the request was triggered in another way.
     pub trigger_character: Option<String>,
     /// Whether signature help was already shown when the request was triggered.
     pub is_retrigger: bool,
-    /// The signature help that is currently shown, with `active_signature` at the signature that the user last moved
-    /// to. Absent if none is shown.
+    /// The signature help that is currently shown, with `active_signature` at the signature that
+    /// the user last moved to. Absent if none is shown.
     pub active_signature_help: Option<SignatureHelp>,
 }
 
@@ -87,16 +88,16 @@ impl Wire for SignatureHelpContext {
     }
 }
 
-/// The result of a `textDocument/signatureHelp` request: the signatures that may be meant, and which of them and of its
-/// parameters is current (LSP 3.17, "Signature Help Request").
+/// The result of a `textDocument/signatureHelp` request: the signatures that may be meant, and
+/// which of them and of its parameters is current (LSP 3.17, "Signature Help Request").
 #[derive(Debug, PartialEq, Eq, Clone, Drop)]
 pub struct SignatureHelp {
     /// At least one signature. A server that has none sends null as the result instead.
     pub signatures: Vec<SignatureInformation>,
     /// The zero-based index in `signatures` of the current one. Absent, or out of bounds: 0.
     pub active_signature: Option<u32>,
-    /// The zero-based index of the current parameter in the current signature. Absent, or out of bounds: 0. Ignored
-    /// where the signature has no parameters.
+    /// The zero-based index of the current parameter in the current signature. Absent, or out of
+    /// bounds: 0. Ignored where the signature has no parameters.
     pub active_parameter: Option<u32>,
 }
 
@@ -124,8 +125,8 @@ impl Wire for SignatureHelp {
     }
 }
 
-/// A signature of something that can be called, as one of those in `SignatureHelp` (LSP 3.17, "Signature Help
-/// Request").
+/// A signature of something that can be called, as one of those in `SignatureHelp` (LSP 3.17,
+/// "Signature Help Request").
 #[derive(Debug, PartialEq, Eq, Clone, Drop)]
 pub struct SignatureInformation {
     /// The whole signature, as the client shows it.
@@ -134,8 +135,8 @@ pub struct SignatureInformation {
     pub documentation: Option<Documentation>,
     /// The parameters, in their order.
     pub parameters: Option<Vec<ParameterInformation>>,
-    /// The zero-based index of the current parameter, used in place of the one in `SignatureHelp`. Only for clients
-    /// with the capability `activeParameterSupport`, since 3.16.
+    /// The zero-based index of the current parameter, used in place of the one in `SignatureHelp`.
+    /// Only for clients with the capability `activeParameterSupport`, since 3.16.
     pub active_parameter: Option<u32>,
 }
 
@@ -168,7 +169,8 @@ impl Wire for SignatureInformation {
 /// A parameter of a `SignatureInformation` (LSP 3.17, "Signature Help Request").
 #[derive(Debug, PartialEq, Eq, Clone, Drop)]
 pub struct ParameterInformation {
-    /// The part of the signature's label that stands for the parameter, which the client can highlight.
+    /// The part of the signature's label that stands for the parameter, which the client can
+    /// highlight.
     pub label: ParameterLabel,
     /// A description of the parameter, which the client may show.
     pub documentation: Option<Documentation>,
@@ -201,8 +203,8 @@ impl Wire for ParameterInformation {
 pub enum ParameterLabel {
     /// The text of the parameter, which should occur in the label of the signature.
     Simple(String),
-    /// Its start, and its end (exclusive), as zero-based offsets in the label of the signature, in UTF-16 code units.
-    /// Only for clients with the capability `labelOffsetSupport`, since 3.14.
+    /// Its start, and its end (exclusive), as zero-based offsets in the label of the signature, in
+    /// UTF-16 code units. Only for clients with the capability `labelOffsetSupport`, since 3.14.
     LabelOffsets([u32; 2]),
 }
 

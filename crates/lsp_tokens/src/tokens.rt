@@ -7,20 +7,22 @@ use lsp_shape::{Misfit, NoMemory, Reader, TokenNumbers, Wire, Writer};
 use serde_json::Value;
 use std::alloc::Global;
 
-/// A token of a document, at a place that is told from the token before it. Since 3.16 (LSP 3.17, "Semantic Tokens").
+/// A token of a document, at a place that is told from the token before it. Since 3.16 (LSP 3.17,
+/// "Semantic Tokens").
 #[derive(Debug, PartialEq, Eq, Default, Clone, Copy)]
 pub struct SemanticToken {
-    /// The number of lines from the start of the token before this one, or from the start of the document.
+    /// The number of lines from the start of the token before this one, or from the start of the
+    /// document.
     pub delta_line: u32,
-    /// The number of characters from the start of the token before this one if that is on the same line, or else from
-    /// the start of the line. In UTF-16 code units by default.
+    /// The number of characters from the start of the token before this one if that is on the same
+    /// line, or else from the start of the line. In UTF-16 code units by default.
     pub delta_start: u32,
     /// The length of the token, in UTF-16 code units by default.
     pub length: u32,
     /// The type of the token, as an index in `token_types` of the server's `SemanticTokensLegend`.
     pub token_type: u32,
-    /// The modifiers of the token: the bit of value 2^i stands for the entry i of `token_modifiers` of the server's
-    /// `SemanticTokensLegend`.
+    /// The modifiers of the token: the bit of value 2^i stands for the entry i of `token_modifiers`
+    /// of the server's `SemanticTokensLegend`.
     pub token_modifiers_bitset: u32,
 }
 
@@ -38,8 +40,8 @@ fn token_of(numbers: &[u32; 5]) -> SemanticToken
     }
 }
 
-/// The tokens of a list of numbers, five for a token. `Unfit` comes exactly where the length of the list is no multiple
-/// of five (LSP 3.17, "Semantic Tokens").
+/// The tokens of a list of numbers, five for a token. `Unfit` comes only where the length of the
+/// list is no multiple of five (LSP 3.17, "Semantic Tokens").
 pub fn tokens_of(alloc: Global, list: &[u32]) -> Result<Vec<SemanticToken>, Misfit>
     ensures numbers { IfOk result (λ v. numbers v.items ≡ list.now) }
     ensures fives { IfOk result (λ v. length v.items * 5 ≡ length list.now) }
@@ -59,7 +61,8 @@ pub fn tokens_of(alloc: Global, list: &[u32]) -> Result<Vec<SemanticToken>, Misf
     }
 }
 
-/// The numbers of a list of tokens, five for a token, in the order of the fields (LSP 3.17, "Semantic Tokens").
+/// The numbers of a list of tokens, five for a token, in the order of the fields (LSP 3.17,
+/// "Semantic Tokens").
 pub fn numbers_of(alloc: Global, tokens: &[SemanticToken]) -> Result<Vec<u32>, NoMemory>
     ensures numbers { IfOk result (λ v. v.items ≡ numbers tokens.now) }
     ensures fives { IfOk result (λ v. length v.items ≡ length tokens.now * 5) }
@@ -98,11 +101,12 @@ fn write_tokens(alloc: Global, tokens: &[SemanticToken]) -> Result<TokenNumbers,
 }
 
 /// The tokens of a document or of a part of it, in the order of their places: the result of
-/// `textDocument/semanticTokens/full` or `textDocument/semanticTokens/range`. Since 3.16 (LSP 3.17, "Semantic Tokens").
+/// `textDocument/semanticTokens/full` or `textDocument/semanticTokens/range`. Since 3.16 (LSP 3.17,
+/// "Semantic Tokens").
 #[derive(Debug, PartialEq, Eq, Clone, Drop)]
 pub struct SemanticTokens {
-    /// The id of the result, which the client sends with its next delta request. Absent if the server offers no delta
-    /// from this result.
+    /// The id of the result, which the client sends with its next delta request. Absent if the
+    /// server offers no delta from this result.
     pub result_id: Option<String>,
     /// The tokens: `data` of the standard, which has five numbers for each.
     pub payload: Vec<SemanticToken>,
@@ -143,8 +147,8 @@ impl Wire for SemanticTokens {
     }
 }
 
-/// Some of the tokens of a document, as a server sends them in a `$/progress` notification before the response. Since
-/// 3.16 (LSP 3.17, "Semantic Tokens").
+/// Some of the tokens of a document, as a server sends them in a `$/progress` notification before
+/// the response. Since 3.16 (LSP 3.17, "Semantic Tokens").
 #[derive(Debug, PartialEq, Eq, Clone, Drop)]
 pub struct SemanticTokensPartialResult {
     /// The tokens: `data` of the standard, which has five numbers for each.
@@ -182,16 +186,16 @@ impl Wire for SemanticTokensPartialResult {
     }
 }
 
-/// A change of the numbers that a result of `textDocument/semanticTokens/full` had. Since 3.16 (LSP 3.17, "Semantic
-/// Tokens").
+/// A change of the numbers that a result of `textDocument/semanticTokens/full` had. Since 3.16 (LSP
+/// 3.17, "Semantic Tokens").
 #[derive(Debug, PartialEq, Eq, Default, Clone, Drop)]
 pub struct SemanticTokensEdit {
     /// Where the change starts: an index of a number, not of a token.
     pub start: u32,
     /// How many numbers are deleted.
     pub delete_count: u32,
-    /// What is inserted there: `data` of the standard, which has five numbers for each token. LSP allows any numbers;
-    /// reading fails where they are no whole tokens.
+    /// What is inserted there: `data` of the standard, which has five numbers for each token. LSP
+    /// allows any numbers; reading fails where they are no whole tokens.
     pub payload: Option<Vec<SemanticToken>>,
 }
 

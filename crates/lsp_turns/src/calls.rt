@@ -46,7 +46,8 @@ pub fn client_call(alloc: Global, number: u64) -> Result<ClientCall, NoMemory>
     })
 }
 
-/// The owner's call of that number: of four calls two take all messages, one takes the first, and one looks.
+/// The owner's call of that number: of four calls two take all messages, one takes the first, and
+/// one looks.
 pub fn server_call(number: u64) -> ServerCall
     ensures { call_has_float (show_server_call result) ≡ false }
 {

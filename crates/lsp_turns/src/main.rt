@@ -1,8 +1,8 @@
 //! Four threads call on one shared desk at once, each through its seat.
 //!
-//! Its words are `check CALLS`: each seat makes so many calls, and what they were told is compared with what a desk that one thread
-//! uses replies; or `alone CALLS` or `beside CALLS`, for measuring: the owner makes so many calls, by itself or while three clients
-//! make as many each.
+//! Its arguments are `check CALLS`: each seat makes so many calls, and what they were told is compared
+//! with what a desk that one thread uses replies; or `alone CALLS` or `beside CALLS`, for
+//! measuring: the owner makes so many calls, by itself or while three clients make as many each.
 #![tactic(auto)]
 
 mod calls;
@@ -20,20 +20,20 @@ use std::{env, io};
 use threads::{Made, alone, four};
 use verdict::Verdict;
 
-/// The program's words, without its own name.
-fn words(rt: &(impl Env + Alloc<A = Global>)) -> io::Result<Vec<String>> {
-    let mut words = Vec::new(rt.alloc());
-    for word in env::args(rt)?.skip(1) {
-        words.push(word)?;
+/// The program's arguments, without its own name.
+fn arguments(rt: &(impl Env + Alloc<A = Global>)) -> io::Result<Vec<String>> {
+    let mut arguments = Vec::new(rt.alloc());
+    for argument in env::args(rt)?.skip(1) {
+        arguments.push(argument)?;
     }
-    Ok(words)
+    Ok(arguments)
 }
 
 fn main(rt: HostRuntime) -> ExitCode {
-    let Ok(words) = words(&rt) else {
+    let Ok(arguments) = arguments(&rt) else {
         return ExitCode::from(6);
     };
-    let [mode, calls] = words.as_slice() else {
+    let [mode, calls] = arguments.as_slice() else {
         return ExitCode::from(2);
     };
     let Ok(calls) = calls.as_str().parse::<u64>() else {
@@ -49,8 +49,8 @@ fn main(rt: HostRuntime) -> ExitCode {
     }
 }
 
-/// What is printed: of a check its verdict, and else how many entries the desk's history has. None where the word is none of the
-/// program's.
+/// What is printed: of a check its verdict, and else how many entries the desk's history has. None
+/// where the first argument is none of the program's.
 fn run<R: Threads + Wait + Sync>(
     rt: &R,
     alloc: Global,

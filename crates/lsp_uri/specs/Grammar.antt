@@ -265,12 +265,12 @@ abbrev pub rest_in : List ℕ → List ℕ
 rest_in s = rest_by s (before 58 s) (after 58 s)
 
 -- what follows "//" at the front
-abbrev pub behind_slashes : List ℕ → Option (List ℕ)
-behind_slashes s = option_and_then (stripped 47) (stripped 47 s)
+abbrev pub after_slashes : List ℕ → Option (List ℕ)
+after_slashes s = option_and_then (stripped 47) (stripped 47 s)
 
 -- 3.2: an authority follows "//", up to "/"
 abbrev pub authority_in : List ℕ → Option (List ℕ)
-authority_in s = option_map (before 47) (behind_slashes s)
+authority_in s = option_map (before 47) (after_slashes s)
 
 -- 3.3: a path follows the authority, or is all where there is none
 abbrev pub path_by : List ℕ → Option (List ℕ) → List ℕ
@@ -278,7 +278,7 @@ path_by s None = s
 path_by s (Some t) = from 47 t
 
 abbrev pub path_in : List ℕ → List ℕ
-path_in s = path_by s (behind_slashes s)
+path_in s = path_by s (after_slashes s)
 
 unfoldable pub scheme_of : List ℕ → Option (List ℕ)
 scheme_of s = scheme_in (front_of s)

@@ -23,7 +23,8 @@ pub fn is_plain(c: u8, more: &[u8]) -> bool
     is_unreserved(c) || is_sub_delim(c) || more.contains(&c)
 }
 
-// Whether a text is unreserved characters, percent escapes, sub-delims and the characters of `more`.
+// Whether a text is unreserved characters, percent escapes, sub-delims and the characters of
+// `more`.
 pub fn is_made_of(text: &str, more: &[u8]) -> bool
     ensures { result ≡ is_made_of more.now text.now }
 {

@@ -51,7 +51,8 @@ fn is_h16(text: &str) -> bool
     1 <= text.len() && text.len() <= 4 && are_hex_digits(text)
 }
 
-// How many groups of 16 bits stand between the colons. An IPv4 address at the end, where it is allowed, is two.
+// How many groups of 16 bits stand between the colons. An IPv4 address at the end, where it is
+// allowed, is two.
 #[tactic(auto, using(crate::proofs::Groups::group_lemmas))]
 fn width(text: &str, ends_in_ipv4: bool) -> Option<usize>
     ensures { result ≡ width ends_in_ipv4 (pieces 58 text.now) }

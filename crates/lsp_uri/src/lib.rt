@@ -1,4 +1,5 @@
-//! URI references of RFC 3986: the grammar of its appendix A, and the parts that its sections 3 and 4 name.
+//! URI references of RFC 3986: the grammar of its appendix A, and the parts that its sections 3 and
+//! 4 name.
 #![tactic(auto)]
 
 mod authority;

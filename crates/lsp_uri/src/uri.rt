@@ -23,6 +23,7 @@ use std::hash::{Hash, Hasher};
 pub enum UriError {
     /// The text is outside the grammar of URI references, RFC 3986, appendix A.
     NotUri,
+    /// Out of memory.
     NoMemory,
 }
 
@@ -57,7 +58,8 @@ impl fmt::Display for UriError {
 
 impl Error for UriError {}
 
-/// A URI reference: RFC 3986, section 4.1. Two are compared and hashed as their texts are, byte by byte.
+/// A URI reference: RFC 3986, section 4.1. Two are compared and hashed as their texts are, byte by
+/// byte.
 #[derive(Debug, Drop)]
 pub struct Uri {
     text: String,

@@ -12,8 +12,8 @@ use lsp_uri::Uri;
 use serde_json::Value;
 use std::alloc::Global;
 
-/// The parameters of `textDocument/didOpen`, which a client sends when a document is opened (LSP 3.17,
-/// "DidOpenTextDocument Notification").
+/// The parameters of `textDocument/didOpen`, which a client sends when a document is opened (LSP
+/// 3.17, "DidOpenTextDocument Notification").
 #[derive(Debug, PartialEq, Eq, Clone, Drop)]
 pub struct DidOpenTextDocumentParams {
     /// The opened document, with its text.
@@ -40,8 +40,8 @@ impl Wire for DidOpenTextDocumentParams {
     }
 }
 
-/// The parameters of `textDocument/didChange`, which a client sends when an open document has changed (LSP 3.17,
-/// "DidChangeTextDocument Notification").
+/// The parameters of `textDocument/didChange`, which a client sends when an open document has
+/// changed (LSP 3.17, "DidChangeTextDocument Notification").
 #[derive(Debug, PartialEq, Eq, Clone, Drop)]
 pub struct DidChangeTextDocumentParams {
     /// The changed document, with its version after all changes.
@@ -72,8 +72,9 @@ impl Wire for DidChangeTextDocumentParams {
     }
 }
 
-/// The parameters of the notification `textDocument/willSave` and of the request `textDocument/willSaveWaitUntil`,
-/// which a client sends before it saves a document (LSP 3.17, "WillSaveTextDocument Notification").
+/// The parameters of the notification `textDocument/willSave` and of the request
+/// `textDocument/willSaveWaitUntil`, which a client sends before it saves a document (LSP 3.17,
+/// "WillSaveTextDocument Notification").
 #[derive(Debug, PartialEq, Eq, Clone, Drop)]
 pub struct WillSaveTextDocumentParams {
     /// The document that is about to be saved.
@@ -104,8 +105,8 @@ impl Wire for WillSaveTextDocumentParams {
     }
 }
 
-/// The parameters of `textDocument/didSave`, which a client sends when a document has been saved (LSP 3.17,
-/// "DidSaveTextDocument Notification").
+/// The parameters of `textDocument/didSave`, which a client sends when a document has been saved
+/// (LSP 3.17, "DidSaveTextDocument Notification").
 #[derive(Debug, PartialEq, Eq, Clone, Drop)]
 pub struct DidSaveTextDocumentParams {
     /// The saved document.
@@ -136,8 +137,8 @@ impl Wire for DidSaveTextDocumentParams {
     }
 }
 
-/// The parameters of `textDocument/didClose`, which a client sends when a document is closed (LSP 3.17,
-/// "DidCloseTextDocument Notification").
+/// The parameters of `textDocument/didClose`, which a client sends when a document is closed (LSP
+/// 3.17, "DidCloseTextDocument Notification").
 #[derive(Debug, PartialEq, Eq, Clone, Drop)]
 pub struct DidCloseTextDocumentParams {
     /// The closed document.
@@ -164,8 +165,8 @@ impl Wire for DidCloseTextDocumentParams {
     }
 }
 
-/// The parameters of `textDocument/publishDiagnostics`, with which a server replaces all its earlier diagnostics of a
-/// document (LSP 3.17, "PublishDiagnostics Notification").
+/// The parameters of `textDocument/publishDiagnostics`, with which a server replaces all its
+/// earlier diagnostics of a document (LSP 3.17, "PublishDiagnostics Notification").
 #[derive(Debug, Clone, Drop)]
 pub struct PublishDiagnosticsParams {
     /// The URI of the document.

@@ -6,8 +6,9 @@ use lsp_shape::{Misfit, NoMemory, Reader, Wire, Writer};
 use serde_json::Value;
 use std::alloc::Global;
 
-/// The parameters of `workspace/willCreateFiles` and `workspace/didCreateFiles`, about files and folders created from
-/// within the client, by its user or by a workspace edit. Since 3.16 (LSP 3.17, "WillCreateFiles Request").
+/// The parameters of `workspace/willCreateFiles` and `workspace/didCreateFiles`, about files and
+/// folders created from within the client, by its user or by a workspace edit. Since 3.16 (LSP
+/// 3.17, "WillCreateFiles Request").
 #[derive(Debug, PartialEq, Eq, Clone, Drop)]
 pub struct CreateFilesParams {
     /// The files and folders that were or will be created.
@@ -15,7 +16,8 @@ pub struct CreateFilesParams {
 }
 
 impl CreateFilesParams {
-    /// The default value: empty strings and arrays, zero numbers, `false` booleans, and every optional field absent.
+    /// The default value: empty strings and arrays, zero numbers, `false` booleans, and every
+    /// optional field absent.
     pub fn default(alloc: Global) -> CreateFilesParams
         ensures files { result.files.items ≡ [] }
     {
@@ -45,7 +47,8 @@ impl Wire for CreateFilesParams {
     }
 }
 
-/// A file or folder that is created from within the client. Since 3.16 (LSP 3.17, "WillCreateFiles Request").
+/// A file or folder that is created from within the client. Since 3.16 (LSP 3.17, "WillCreateFiles
+/// Request").
 #[derive(Debug, PartialEq, Eq, Clone, Drop)]
 pub struct FileCreate {
     /// The URI of the file or folder, of the scheme `file`. It isn't checked to be a URI.
@@ -53,7 +56,8 @@ pub struct FileCreate {
 }
 
 impl FileCreate {
-    /// The default value: empty strings and arrays, zero numbers, `false` booleans, and every optional field absent.
+    /// The default value: empty strings and arrays, zero numbers, `false` booleans, and every
+    /// optional field absent.
     pub fn default(alloc: Global) -> FileCreate
         ensures uri { string_bytes result.uri ≡ [] }
     {
@@ -83,8 +87,9 @@ impl Wire for FileCreate {
     }
 }
 
-/// The parameters of `workspace/willRenameFiles` and `workspace/didRenameFiles`, about files and folders renamed from
-/// within the client, by its user or by a workspace edit. Since 3.16 (LSP 3.17, "WillRenameFiles Request").
+/// The parameters of `workspace/willRenameFiles` and `workspace/didRenameFiles`, about files and
+/// folders renamed from within the client, by its user or by a workspace edit. Since 3.16 (LSP
+/// 3.17, "WillRenameFiles Request").
 #[derive(Debug, PartialEq, Eq, Clone, Drop)]
 pub struct RenameFilesParams {
     /// The files and folders that were or will be renamed. A folder is named without what it holds.
@@ -92,7 +97,8 @@ pub struct RenameFilesParams {
 }
 
 impl RenameFilesParams {
-    /// The default value: empty strings and arrays, zero numbers, `false` booleans, and every optional field absent.
+    /// The default value: empty strings and arrays, zero numbers, `false` booleans, and every
+    /// optional field absent.
     pub fn default(alloc: Global) -> RenameFilesParams
         ensures files { result.files.items ≡ [] }
     {
@@ -122,7 +128,8 @@ impl Wire for RenameFilesParams {
     }
 }
 
-/// A file or folder that is renamed from within the client. Since 3.16 (LSP 3.17, "WillRenameFiles Request").
+/// A file or folder that is renamed from within the client. Since 3.16 (LSP 3.17, "WillRenameFiles
+/// Request").
 #[derive(Debug, PartialEq, Eq, Clone, Drop)]
 pub struct FileRename {
     /// The URI before the rename, of the scheme `file`. It isn't checked to be a URI.
@@ -132,7 +139,8 @@ pub struct FileRename {
 }
 
 impl FileRename {
-    /// The default value: empty strings and arrays, zero numbers, `false` booleans, and every optional field absent.
+    /// The default value: empty strings and arrays, zero numbers, `false` booleans, and every
+    /// optional field absent.
     pub fn default(alloc: Global) -> FileRename
         ensures old_uri { string_bytes result.old_uri ≡ [] }
         ensures new_uri { string_bytes result.new_uri ≡ [] }
@@ -166,8 +174,9 @@ impl Wire for FileRename {
     }
 }
 
-/// The parameters of `workspace/willDeleteFiles` and `workspace/didDeleteFiles`, about files and folders deleted from
-/// within the client, by its user or by a workspace edit. Since 3.16 (LSP 3.17, "WillDeleteFiles Request").
+/// The parameters of `workspace/willDeleteFiles` and `workspace/didDeleteFiles`, about files and
+/// folders deleted from within the client, by its user or by a workspace edit. Since 3.16 (LSP
+/// 3.17, "WillDeleteFiles Request").
 #[derive(Debug, PartialEq, Eq, Clone, Drop)]
 pub struct DeleteFilesParams {
     /// The files and folders that were or will be deleted.
@@ -175,7 +184,8 @@ pub struct DeleteFilesParams {
 }
 
 impl DeleteFilesParams {
-    /// The default value: empty strings and arrays, zero numbers, `false` booleans, and every optional field absent.
+    /// The default value: empty strings and arrays, zero numbers, `false` booleans, and every
+    /// optional field absent.
     pub fn default(alloc: Global) -> DeleteFilesParams
         ensures files { result.files.items ≡ [] }
     {
@@ -205,7 +215,8 @@ impl Wire for DeleteFilesParams {
     }
 }
 
-/// A file or folder that is deleted from within the client. Since 3.16 (LSP 3.17, "WillDeleteFiles Request").
+/// A file or folder that is deleted from within the client. Since 3.16 (LSP 3.17, "WillDeleteFiles
+/// Request").
 #[derive(Debug, PartialEq, Eq, Clone, Drop)]
 pub struct FileDelete {
     /// The URI of the file or folder, of the scheme `file`. It isn't checked to be a URI.
@@ -213,7 +224,8 @@ pub struct FileDelete {
 }
 
 impl FileDelete {
-    /// The default value: empty strings and arrays, zero numbers, `false` booleans, and every optional field absent.
+    /// The default value: empty strings and arrays, zero numbers, `false` booleans, and every
+    /// optional field absent.
     pub fn default(alloc: Global) -> FileDelete
         ensures uri { string_bytes result.uri ≡ [] }
     {

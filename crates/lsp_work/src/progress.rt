@@ -7,11 +7,12 @@ use lsp_shape::{Misfit, NoMemory, Reader, Wire, Writer, put_tag, tag};
 use serde_json::Value;
 use std::alloc::Global;
 
-/// The parameters of `$/progress`, which reports the progress of an operation or sends a part of a result. Since 3.15
-/// (LSP 3.17, "Progress Support").
+/// The parameters of `$/progress`, which reports the progress of an operation or sends a part of a
+/// result. Since 3.15 (LSP 3.17, "Progress Support").
 #[derive(Debug, PartialEq, Clone, Drop)]
 pub struct ProgressParams {
-    /// The token of the operation, from a request of the client or from `window/workDoneProgress/create`.
+    /// The token of the operation, from a request of the client or from
+    /// `window/workDoneProgress/create`.
     pub token: ProgressToken,
     /// The state of the operation.
     pub value: ProgressParamsValue,
@@ -39,8 +40,8 @@ impl Wire for ProgressParams {
     }
 }
 
-/// What `$/progress` reports. LSP allows any value, such as a part of a result; this type has work done progress alone.
-/// Since 3.15 (LSP 3.17, "Progress Support").
+/// What `$/progress` reports. LSP allows any value, such as a part of a result; this type has work
+/// done progress alone. Since 3.15 (LSP 3.17, "Progress Support").
 #[derive(Debug, PartialEq, Clone, Drop)]
 pub enum ProgressParamsValue {
     /// The state of an operation, to show to the user.
@@ -64,8 +65,8 @@ impl Wire for ProgressParamsValue {
     }
 }
 
-/// The state of an operation, sent with `$/progress`: first `Begin`, then any number of `Report`, and last `End`. Since
-/// 3.15 (LSP 3.17, "Work Done Progress").
+/// The state of an operation, sent with `$/progress`: first `Begin`, then any number of `Report`,
+/// and last `End`. Since 3.15 (LSP 3.17, "Work Done Progress").
 #[derive(Debug, PartialEq, Clone, Drop)]
 pub enum WorkDoneProgress {
     /// The operation starts.
@@ -106,7 +107,8 @@ impl Wire for WorkDoneProgress {
     }
 }
 
-/// The start of an operation whose progress is shown to the user. Since 3.15 (LSP 3.17, "Work Done Progress").
+/// The start of an operation whose progress is shown to the user. Since 3.15 (LSP 3.17, "Work Done
+/// Progress").
 #[derive(Debug, PartialEq, Clone, Drop)]
 pub struct WorkDoneProgressBegin {
     /// A short name of the operation, such as `Indexing`.
@@ -115,8 +117,8 @@ pub struct WorkDoneProgressBegin {
     pub cancellable: Option<bool>,
     /// A detail of the current step, such as `3/25 files`, shown with the title.
     pub message: Option<String>,
-    /// How much is done, from 0 to 100. Absent: unknown, and the client may then ignore the percentages of later
-    /// reports.
+    /// How much is done, from 0 to 100. Absent: unknown, and the client may then ignore the
+    /// percentages of later reports.
     pub percentage: Option<u32>,
 }
 
@@ -168,7 +170,8 @@ impl Wire for WorkDoneProgressBegin {
 pub struct WorkDoneProgressReport {
     /// Whether the user can cancel the operation at this time. Only if `Begin` allowed it.
     pub cancellable: Option<bool>,
-    /// A detail of the current step, such as `3/25 files`. Absent: the previous message still holds.
+    /// A detail of the current step, such as `3/25 files`. Absent: the previous message still
+    /// holds.
     pub message: Option<String>,
     /// How much is done, from 0 to 100. It should not decrease.
     pub percentage: Option<u32>,
@@ -198,7 +201,8 @@ impl Wire for WorkDoneProgressReport {
     }
 }
 
-/// The end of an operation whose progress is shown to the user. Since 3.15 (LSP 3.17, "Work Done Progress").
+/// The end of an operation whose progress is shown to the user. Since 3.15 (LSP 3.17, "Work Done
+/// Progress").
 #[derive(Debug, PartialEq, Default, Clone, Drop)]
 pub struct WorkDoneProgressEnd {
     /// A final message, for example about the outcome.
@@ -225,13 +229,13 @@ impl Wire for WorkDoneProgressEnd {
     }
 }
 
-/// The parameters of `window/workDoneProgress/create`, with which a server announces progress that belongs to no
-/// request of the client. Only for clients with `window.workDoneProgress`. Since 3.15 (LSP 3.17, "Creating Work Done
-/// Progress").
+/// The parameters of `window/workDoneProgress/create`, with which a server announces progress that
+/// belongs to no request of the client. Only for clients with `window.workDoneProgress`. Since 3.15
+/// (LSP 3.17, "Creating Work Done Progress").
 #[derive(Debug, PartialEq, Clone, Drop)]
 pub struct WorkDoneProgressCreateParams {
-    /// The token that the server will use in `$/progress`, unless the response is an error. Each token may be used for
-    /// one operation only.
+    /// The token that the server will use in `$/progress`, unless the response is an error. Each
+    /// token may be used for one operation only.
     pub token: ProgressToken,
 }
 
@@ -255,8 +259,9 @@ impl Wire for WorkDoneProgressCreateParams {
     }
 }
 
-/// The parameters of `window/workDoneProgress/cancel`, with which a client cancels an operation that the server
-/// announced, even one that isn't `cancellable`. Since 3.15 (LSP 3.17, "Canceling a Work Done Progress").
+/// The parameters of `window/workDoneProgress/cancel`, with which a client cancels an operation
+/// that the server announced, even one that isn't `cancellable`. Since 3.15 (LSP 3.17, "Canceling a
+/// Work Done Progress").
 #[derive(Debug, PartialEq, Clone, Drop)]
 pub struct WorkDoneProgressCancelParams {
     /// The token of the operation.

@@ -10,11 +10,12 @@ use serde_json::Value;
 use std::alloc::Global;
 use std::collections::HashMap;
 
-/// The parameters of `window/showMessage`, with which a server has a message shown to the user (LSP 3.17, "ShowMessage
-/// Notification").
+/// The parameters of `window/showMessage`, with which a server has a message shown to the user (LSP
+/// 3.17, "ShowMessage Notification").
 #[derive(Debug, PartialEq, Eq, Clone, Drop)]
 pub struct ShowMessageParams {
-    /// Whether the message is an error, a warning, information or a log entry. In JSON the name is `type`.
+    /// Whether the message is an error, a warning, information or a log entry. In JSON the name is
+    /// `type`.
     pub typ: MessageType,
     /// The text to show.
     pub message: String,
@@ -42,11 +43,12 @@ impl Wire for ShowMessageParams {
     }
 }
 
-/// The parameters of `window/showMessageRequest`, with which a server has a message shown and the user choose an action
-/// (LSP 3.17, "ShowMessage Request").
+/// The parameters of `window/showMessageRequest`, with which a server has a message shown and the
+/// user choose an action (LSP 3.17, "ShowMessage Request").
 #[derive(Debug, Clone, Drop)]
 pub struct ShowMessageRequestParams {
-    /// Whether the message is an error, a warning, information or a log entry. In JSON the name is `type`.
+    /// Whether the message is an error, a warning, information or a log entry. In JSON the name is
+    /// `type`.
     pub typ: MessageType,
     /// The text to show.
     pub message: String,
@@ -78,14 +80,14 @@ impl Wire for ShowMessageRequestParams {
     }
 }
 
-/// An action that the user can choose below a message, in the parameters and the result of `window/showMessageRequest`
-/// (LSP 3.17, "ShowMessage Request").
+/// An action that the user can choose below a message, in the parameters and the result of
+/// `window/showMessageRequest` (LSP 3.17, "ShowMessage Request").
 #[derive(Debug, Clone, Drop)]
 pub struct MessageActionItem {
     /// A short label, such as `Retry`.
     pub title: String,
-    /// Further properties, by name, which the client returns with the chosen action. Only for clients with the
-    /// capability `additionalPropertiesSupport`, since 3.16.
+    /// Further properties, by name, which the client returns with the chosen action. Only for
+    /// clients with the capability `additionalPropertiesSupport`, since 3.16.
     pub properties: HashMap<String, MessageActionItemProperty>,
 }
 
@@ -110,8 +112,8 @@ impl Wire for MessageActionItem {
     }
 }
 
-/// The value of a further property of a `MessageActionItem`. The standard has no type of this name (LSP 3.17,
-/// "ShowMessage Request").
+/// The value of a further property of a `MessageActionItem`. The standard has no type of this name
+/// (LSP 3.17, "ShowMessage Request").
 #[derive(Debug, Clone, Drop)]
 pub enum MessageActionItemProperty {
     /// A string.
@@ -153,11 +155,12 @@ impl Wire for MessageActionItemProperty {
     }
 }
 
-/// The parameters of `window/logMessage`, with which a server adds a message to the client's log (LSP 3.17, "LogMessage
-/// Notification").
+/// The parameters of `window/logMessage`, with which a server adds a message to the client's log
+/// (LSP 3.17, "LogMessage Notification").
 #[derive(Debug, PartialEq, Eq, Clone, Drop)]
 pub struct LogMessageParams {
-    /// Whether the message is an error, a warning, information or a log entry. In JSON the name is `type`.
+    /// Whether the message is an error, a warning, information or a log entry. In JSON the name is
+    /// `type`.
     pub typ: MessageType,
     /// The text to log.
     pub message: String,
@@ -185,17 +188,20 @@ impl Wire for LogMessageParams {
     }
 }
 
-/// The parameters of `window/showDocument`, with which a server asks the client to show a document or another resource.
-/// Since 3.16 (LSP 3.17, "Show Document Request").
+/// The parameters of `window/showDocument`, with which a server asks the client to show a document
+/// or another resource. Since 3.16 (LSP 3.17, "Show Document Request").
 #[derive(Debug, PartialEq, Clone, Drop)]
 pub struct ShowDocumentParams {
     /// The URI of the resource to show.
     pub uri: Uri,
-    /// Whether to open the resource in another program, such as a web browser. Absent: the client shows it itself.
+    /// Whether to open the resource in another program, such as a web browser. Absent: the client
+    /// shows it itself.
     pub external: Option<bool>,
-    /// Whether the document should receive the input focus. A client may ignore this for other programs.
+    /// Whether the document should receive the input focus. A client may ignore this for other
+    /// programs.
     pub take_focus: Option<bool>,
-    /// The range to select, if the resource is a text document. A client may ignore this for other programs.
+    /// The range to select, if the resource is a text document. A client may ignore this for other
+    /// programs.
     pub selection: Option<Range>,
 }
 
@@ -252,8 +258,8 @@ impl Wire for ShowDocumentResult {
     }
 }
 
-/// The parameters of `$/setTrace`, with which a client sets how much trace output the server sends (LSP 3.17, "SetTrace
-/// Notification").
+/// The parameters of `$/setTrace`, with which a client sets how much trace output the server sends
+/// (LSP 3.17, "SetTrace Notification").
 #[derive(Debug, PartialEq, Eq, Clone, Drop)]
 pub struct SetTraceParams {
     /// The new trace level.
@@ -280,8 +286,8 @@ impl Wire for SetTraceParams {
     }
 }
 
-/// The parameters of `$/logTrace`, with which a server sends trace output about its work. It sends none while the trace
-/// level is `off` (LSP 3.17, "LogTrace Notification").
+/// The parameters of `$/logTrace`, with which a server sends trace output about its work. It sends
+/// none while the trace level is `off` (LSP 3.17, "LogTrace Notification").
 #[derive(Debug, PartialEq, Eq, Clone, Drop)]
 pub struct LogTraceParams {
     /// The trace output.

@@ -9,8 +9,8 @@ use lsp_uri::Uri;
 use serde_json::Value;
 use std::alloc::Global;
 
-/// The parameters of `workspace/didChangeConfiguration`, which a client sends when its settings have changed (LSP 3.17,
-/// "DidChangeConfiguration Notification").
+/// The parameters of `workspace/didChangeConfiguration`, which a client sends when its settings
+/// have changed (LSP 3.17, "DidChangeConfiguration Notification").
 #[derive(Debug, Clone, Drop)]
 pub struct DidChangeConfigurationParams {
     /// The settings, in a form that client and server agree on.
@@ -37,17 +37,18 @@ impl Wire for DidChangeConfigurationParams {
     }
 }
 
-/// The parameters of `workspace/configuration`, with which a server asks for settings of the client. Since 3.6 (LSP
-/// 3.17, "Configuration Request").
+/// The parameters of `workspace/configuration`, with which a server asks for settings of the
+/// client. Since 3.6 (LSP 3.17, "Configuration Request").
 #[derive(Debug, PartialEq, Eq, Clone, Drop)]
 pub struct ConfigurationParams {
-    /// The requested settings. The result is an array with one value for each, in the same order, and null where the
-    /// client has none.
+    /// The requested settings. The result is an array with one value for each, in the same order,
+    /// and null where the client has none.
     pub items: Vec<ConfigurationItem>,
 }
 
 impl ConfigurationParams {
-    /// The default value: empty strings and arrays, zero numbers, `false` booleans, and every optional field absent.
+    /// The default value: empty strings and arrays, zero numbers, `false` booleans, and every
+    /// optional field absent.
     pub fn default(alloc: Global) -> ConfigurationParams
         ensures items { result.items.items ≡ [] }
     {
@@ -77,7 +78,8 @@ impl Wire for ConfigurationParams {
     }
 }
 
-/// A setting that a server asks for in `workspace/configuration`. Since 3.6 (LSP 3.17, "Configuration Request").
+/// A setting that a server asks for in `workspace/configuration`. Since 3.6 (LSP 3.17,
+/// "Configuration Request").
 #[derive(Debug, PartialEq, Eq, Default, Clone, Drop)]
 pub struct ConfigurationItem {
     /// The document or folder that the setting is requested for. Absent: none in particular.
@@ -108,8 +110,8 @@ impl Wire for ConfigurationItem {
     }
 }
 
-/// The parameters of `workspace/didChangeWatchedFiles`, which a client sends when files that the server watches have
-/// changed (LSP 3.17, "DidChangeWatchedFiles Notification").
+/// The parameters of `workspace/didChangeWatchedFiles`, which a client sends when files that the
+/// server watches have changed (LSP 3.17, "DidChangeWatchedFiles Notification").
 #[derive(Debug, PartialEq, Eq, Clone, Drop)]
 pub struct DidChangeWatchedFilesParams {
     /// What happened, file by file.
@@ -176,8 +178,8 @@ impl Wire for FileEvent {
     }
 }
 
-/// The parameters of `workspace/didChangeWorkspaceFolders`, which a client sends when workspace folders were added or
-/// removed. Since 3.6 (LSP 3.17, "DidChangeWorkspaceFolders Notification").
+/// The parameters of `workspace/didChangeWorkspaceFolders`, which a client sends when workspace
+/// folders were added or removed. Since 3.6 (LSP 3.17, "DidChangeWorkspaceFolders Notification").
 #[derive(Debug, PartialEq, Eq, Clone, Drop)]
 pub struct DidChangeWorkspaceFoldersParams {
     /// The folders added and removed.
@@ -216,7 +218,8 @@ impl Wire for DidChangeWorkspaceFoldersParams {
     }
 }
 
-/// The workspace folders that were added and removed. Since 3.6 (LSP 3.17, "DidChangeWorkspaceFolders Notification").
+/// The workspace folders that were added and removed. Since 3.6 (LSP 3.17,
+/// "DidChangeWorkspaceFolders Notification").
 #[derive(Debug, PartialEq, Eq, Clone, Drop)]
 pub struct WorkspaceFoldersChangeEvent {
     /// The new folders.
@@ -260,21 +263,23 @@ impl Wire for WorkspaceFoldersChangeEvent {
     }
 }
 
-/// The parameters of `workspace/executeCommand`, with which a client asks the server to execute one of its commands
-/// (LSP 3.17, "Execute a command").
+/// The parameters of `workspace/executeCommand`, with which a client asks the server to execute one
+/// of its commands (LSP 3.17, "Execute a command").
 #[derive(Debug, Clone, Drop)]
 pub struct ExecuteCommandParams {
     /// The identifier of the command.
     pub command: String,
-    /// The arguments of the command, in a form that the command defines. Empty if the client sends none.
+    /// The arguments of the command, in a form that the command defines. Empty if the client sends
+    /// none.
     pub arguments: Vec<Value>,
-    /// The token, chosen by the client, under which the server may report work done progress with `$/progress`. Absent:
-    /// the client asks for none. Since 3.15.
+    /// The token, chosen by the client, under which the server may report work done progress with
+    /// `$/progress`. Absent: the client asks for none. Since 3.15.
     pub work_done_progress_params: WorkDoneProgressParams,
 }
 
 impl ExecuteCommandParams {
-    /// The default value: empty strings and arrays, zero numbers, `false` booleans, and every optional field absent.
+    /// The default value: empty strings and arrays, zero numbers, `false` booleans, and every
+    /// optional field absent.
     pub fn default(alloc: Global) -> ExecuteCommandParams
         ensures command { string_bytes result.command ≡ [] }
         ensures arguments { result.arguments.items ≡ [] }
@@ -312,8 +317,8 @@ impl Wire for ExecuteCommandParams {
     }
 }
 
-/// The parameters of `workspace/applyEdit`, with which a server asks the client to change documents or files (LSP 3.17,
-/// "Applies a WorkspaceEdit").
+/// The parameters of `workspace/applyEdit`, with which a server asks the client to change documents
+/// or files (LSP 3.17, "Applies a WorkspaceEdit").
 #[derive(Debug, Clone, Drop)]
 pub struct ApplyWorkspaceEditParams {
     /// A name for the edit that the client shows to the user, for example to undo it.
@@ -344,15 +349,16 @@ impl Wire for ApplyWorkspaceEditParams {
     }
 }
 
-/// The result of `workspace/applyEdit`. LSP 3.17 calls this type `ApplyWorkspaceEditResult` (LSP 3.17, "Applies a
-/// WorkspaceEdit").
+/// The result of `workspace/applyEdit`. LSP 3.17 calls this type `ApplyWorkspaceEditResult` (LSP
+/// 3.17, "Applies a WorkspaceEdit").
 #[derive(Debug, PartialEq, Eq, Clone, Drop)]
 pub struct ApplyWorkspaceEditResponse {
     /// Whether the client made the changes.
     pub applied: bool,
     /// A text that says why the client didn't make the changes, for a log or an error message.
     pub failure_reason: Option<String>,
-    /// The zero-based index of the failed change. Only from clients that state a failure handling strategy.
+    /// The zero-based index of the failed change. Only from clients that state a failure handling
+    /// strategy.
     pub failed_change: Option<u32>,
 }
 

@@ -1,4 +1,4 @@
-//! The answer of a call for which there was no memory.
+//! The answer of a call that was out of memory.
 #![tactic(auto)]
 
 ghost use Rattle.std.specs.Prelude.{Some, codes};
