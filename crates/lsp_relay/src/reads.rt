@@ -155,11 +155,14 @@ pub fn relay_over<T: Transport>(
 
     // As each read was made, what was written was exactly the frames of what the proxy sends for
     // the items told by the bytes read until then, and all of it was flushed, if all was at the
-    // start. A read that finds the end of input is the last.
+    // start. A read that finds the end of input is the last. At most `reads` reads are made, and
+    // exactly so many where the answer is `ReadsSpent`.
     ensures in_order { IfSome (T.left io.old) (λ bytes. Made (T.reads io.old) (T.reads io.new)
         (InOrder (AllPassed editors bytes
         (moment (T.left io.old) (T.taken io.old) (T.flushed io.old))))) }
     ensures few_reads { Made (T.reads io.old) (T.reads io.new) (λ made. length made ≤ reads) }
+    ensures all_reads { IsErrOf result ServeError.ReadsSpent
+        → Made (T.reads io.old) (T.reads io.new) (λ made. length made ≡ reads) }
     ensures tied { T.tied io.new ≡ T.tied io.old }
 {
     let mut codec = LanguageServerCodec::default(alloc);

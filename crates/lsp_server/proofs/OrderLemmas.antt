@@ -53,9 +53,9 @@ all_more P (k ∷ rest) m all last = (all.0, all_more P rest m all.1 last)
 
 -- ---- the reads of a call so far
 
--- at most so many, and where the bytes are told, this holds at each, and each found more
+-- so many, and where the bytes are told, this holds at each, and each found more
 abbrev pub Noted : Option (List ℕ) → (List ℕ → Moment → Type 0) → ℕ → List Moment → Type 0
-Noted left P count made = (length made ≤ count) × IfSome left (λ bytes. AllByRecursion (FindsMore (P bytes)) made)
+Noted left P count made = (length made ≡ count) × IfSome left (λ bytes. AllByRecursion (FindsMore (P bytes)) made)
 
 module _ (left : Option (List ℕ)) (P : List ℕ → Moment → Type 0) where
   pub noted_none : (old : Option (List Moment)) → Made old old (Noted left P 0)
@@ -67,6 +67,9 @@ module _ (left : Option (List ℕ)) (P : List ℕ → Moment → Type 0) where
 
   pub few_so_far : (old new : Option (List Moment)) (count reads : ℕ) → count ≤ reads → Made old new (Noted left P count) → Made old new (λ made. length made ≤ reads)
   few_so_far old new count reads within noted = made_map old new (Noted left P count) (λ made. length made ≤ reads) (λ made so_far. omega (arith, so_far.0, within)) noted
+
+  pub all_made : (old new : Option (List Moment)) (count reads : ℕ) → count ≡ reads → Made old new (Noted left P count) → Made old new (λ made. length made ≡ reads)
+  all_made old new count reads is noted = made_map old new (Noted left P count) (λ made. length made ≡ reads) (λ made so_far. so_far.0 ∙ is) noted
 
   module _ (old mid new : Option (List Moment)) (m : Moment) (count : ℕ) (noted : Made old mid (Noted left P count)) (notes : Notes mid m new) where
     pub noted_more : ((bytes : List ℕ) → left ≡ Some bytes → FindsMore (P bytes) m) → Made old new (Noted left P (count + 1))

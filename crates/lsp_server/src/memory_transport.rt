@@ -1,9 +1,10 @@
 // A transport in memory.
-ghost use Rattle.std.specs.Prelude.{◌≡◌, ◌<◌, ◌≤◌, ℕ, List, Option, [], Some, IsTrue, IfOk, IsOk, OnOk, OnErr, length, map, take};
+ghost use Rattle.std.specs.Prelude.{◌≡◌, ◌<◌, ◌≤◌, ℕ, List, Option, [], Some, IsTrue, IfOk, IsOk, IsErrOf, OnOk, OnErr, length, map, take};
 ghost use Rattle.std.specs.List.{list_all};
 ghost use Rattle.std.proofs.Common.{ap};
-ghost use Rattle.std.specs.Io.KnownBytes.{Consumes, Keeps};
+ghost use Rattle.std.specs.Io.KnownBytes.{Consumes, Appends, Keeps};
 ghost use Rattle.lsp_server.specs.SourceSink.{CountRose, EndsAt, Flushes};
+ghost use Rattle.lsp_server.specs.Memory.{Fills};
 ghost use Rattle.lsp_server.specs.Reads.{Moment, moment, Notes};
 ghost use Rattle.lsp_server.specs.ReadAt.{is_within, moment_at};
 
@@ -38,7 +39,7 @@ pub struct MemoryTransport {
 impl MemoryTransport {
     ghost use Rattle.lsp_server.specs.MemoryTransport.{all_bytes, bytes_left, bytes_taken, bytes_flushed, read_size, reads_failed, reads_made};
 
-    /// Gives at most `piece` bytes a read.
+    /// Gives `piece` bytes a read, or as many as are left.
     pub fn new(alloc: Global, bytes: Vec<u8>, piece: usize) -> MemoryTransport
         requires { 0 < piece }
         ensures left { bytes_left result ≡ Some bytes.items }
@@ -88,7 +89,23 @@ impl Sink for MemoryTransport {
 
     ghost beside = { λ t. ((bytes_left t, reads_failed t), (reads_made t, read_size t)) };
 
-    fn write(&mut self, piece: &[u8]) -> Result<usize, Refused> {
+    fn write(&mut self, piece: &[u8]) -> Result<usize, Refused>
+        requires { 0 < length piece.now }
+        ensures some { IfOk result (λ n. 0 < n) }
+        ensures takes { IfOk result (λ n. Appends (Some (bytes_taken self.old))
+            (Some (bytes_taken self.new)) (take n piece.now)) }
+        ensures kept { OnErr result (Keeps (Some (bytes_taken self.old))
+            (Some (bytes_taken self.new))) }
+        ensures flushed { bytes_flushed self.new ≡ bytes_flushed self.old }
+        ensures left { bytes_left self.new ≡ bytes_left self.old }
+        ensures reads { reads_made self.new ≡ reads_made self.old }
+        ensures piece { read_size self.new ≡ read_size self.old }
+        ensures faults { reads_failed self.new ≡ reads_failed self.old }
+
+        // It takes the whole piece, and only want of memory refuses it.
+        ensures whole { IfOk result (λ n. n ≡ length piece.now) }
+        ensures only { OnErr result (IsErrOf result Refused.NoMemory) }
+    {
         match self.taken.extend_from_slice(piece) {
             Ok(()) => Ok(piece.len()),
             Err(_) => Err(Refused::NoMemory),
@@ -142,8 +159,9 @@ impl Transport for MemoryTransport {
         ensures cause { OnErr result (CountRose (reads_failed self.old) (reads_failed self.new)) }
         ensures unfailed { OnOk result (reads_failed self.new ≡ reads_failed self.old) }
 
-        // No read gives more than its piece.
-        ensures few { IfOk result (λ n. n ≤ read_size self.old) }
+        // It gives all that is left, as far as the piece has room and its size allows.
+        ensures full { IfOk result (Fills (bytes_left self.old) (length piece.old)
+            (read_size self.old)) }
         ensures tied { read_size self.new ≡ read_size self.old }
     {
         let made = ReadAt {

@@ -100,12 +100,15 @@ pub fn serve_over<T: Transport, D: Desk + Drop, H: Handlers<D>, P: Pick>(
     ensures grown { Grown D.meaning (desk_of session.old) (desk_of session.new) }
 
     // Before each read all that was told is answered, and nothing is read after the end of input.
+    // At most `reads` reads are made, and exactly so many where the answer is `ReadsSpent`.
     ensures in_order { IfSome (T.left io.old) (λ bytes. Made (T.reads io.old) (T.reads io.new)
         (InOrder (AllAnswered
         (course_from H.semantics D.meaning (order_by P.gives P.later) rounds limits
         (session_view H.semantics D.meaning session.old) (P.state pick.old))
         bytes (moment (T.left io.old) (T.taken io.old) (T.flushed io.old))))) }
     ensures few_reads { Made (T.reads io.old) (T.reads io.new) (λ made. length made ≤ reads) }
+    ensures all_reads { IsErrOf result ServeError.ReadsSpent
+        → Made (T.reads io.old) (T.reads io.new) (λ made. length made ≡ reads) }
     ensures tied { T.tied io.new ≡ T.tied io.old }
 {
     let mut codec = LanguageServerCodec::with_limits(alloc, limits);

@@ -158,32 +158,110 @@ fn sessions_to_their_end(rt: HostRuntime) -> Result<(), Fail> {
     Ok(())
 }
 
+// What is sent in one piece, the number of a read and that of a call of the sink that fail, how many
+// reads are granted, and what comes of it: the bytes that are written, and the error.
+struct Stop {
+    sent: &'static [&'static str],
+    failing_read: u64,
+    failing_call: u64,
+    reads: u64,
+    answers: &'static str,
+    error: Option<ServeError>,
+}
+
+// Of the sink there is one write a step that puts something out, and one flush a read.
+const STOPS: [Stop; 8] = [
+    Stop {
+        sent: &[INITIALIZE],
+        failing_read: 2,
+        failing_call: 0,
+        reads: 9,
+        answers: ANSWER_1,
+        error: Some(ServeError::ReadFault),
+    },
+    Stop {
+        sent: &[INITIALIZE],
+        failing_read: 0,
+        failing_call: 1,
+        reads: 9,
+        answers: "",
+        error: Some(ServeError::WriteFault),
+    },
+    Stop {
+        sent: &[INITIALIZE],
+        failing_read: 0,
+        failing_call: 2,
+        reads: 9,
+        answers: ANSWER_1,
+        error: Some(ServeError::WriteFault),
+    },
+    Stop {
+        sent: &[INITIALIZE],
+        failing_read: 0,
+        failing_call: 3,
+        reads: 9,
+        answers: ANSWER_1,
+        error: Some(ServeError::WriteFault),
+    },
+    Stop {
+        sent: &[INITIALIZE],
+        failing_read: 0,
+        failing_call: 4,
+        reads: 9,
+        answers: ANSWER_1,
+        error: None,
+    },
+    Stop {
+        sent: &[INITIALIZE, SHUTDOWN],
+        failing_read: 0,
+        failing_call: 4,
+        reads: 9,
+        answers: ANSWERS_1_2,
+        error: Some(ServeError::WriteFault),
+    },
+    Stop {
+        sent: &[INITIALIZE, SHUTDOWN],
+        failing_read: 0,
+        failing_call: 5,
+        reads: 9,
+        answers: ANSWERS_1_2,
+        error: None,
+    },
+    Stop {
+        sent: &[INITIALIZE],
+        failing_read: 0,
+        failing_call: 0,
+        reads: 1,
+        answers: ANSWER_1,
+        error: Some(ServeError::ReadsSpent),
+    },
+];
+
 #[test]
 fn sessions_that_stop(rt: HostRuntime) -> Result<(), Fail> {
     let alloc = rt.alloc();
-    for (failing_read, failing_call, reads, answers, error) in [
-        (2, 0, 9, ANSWER_1, ServeError::ReadFault),
-        (0, 1, 9, "", ServeError::WriteFault),
-        (0, 2, 9, ANSWER_1, ServeError::WriteFault),
-        (0, 0, 1, ANSWER_1, ServeError::ReadsSpent),
-    ] {
-        let sent = framed(alloc, &[INITIALIZE])?;
-        let mut source = MemorySource::new(sent, 4096, vec![in alloc; failing_read]?);
-        let mut sink = MemorySink::new(alloc, vec![in alloc; failing_call]?);
+    for (number, row) in STOPS.iter().enumerate() {
+        if row.failing_read == u64::MAX || row.failing_call == u64::MAX {
+            return Err(Fail::new("no such call"));
+        }
+        let sent = framed(alloc, row.sent)?;
+        let mut source = MemorySource::new(sent, 4096, vec![in alloc; row.failing_read]?);
+        let mut sink = MemorySink::new(alloc, vec![in alloc; row.failing_call]?);
         let service = make_server(alloc)?;
-        match new_server(alloc).serve(
+        let error = match new_server(alloc).serve(
             alloc,
             &mut source,
             &mut sink,
             service,
             &mut InOrder,
-            reads,
+            row.reads,
             1,
         ) {
-            Ok(_) => assert!(rt; false, "{error}"),
-            Err(stopped) => assert_eq!(rt; stopped.error, error),
-        }
-        assert!(rt; sink.bytes() == answers.as_bytes(), "{error}");
+            Ok(_) => None,
+            Err(stopped) => Some(stopped.error),
+        };
+        assert_eq!(rt; error, row.error, "{number}");
+        assert!(rt; sink.bytes() == row.answers.as_bytes(), "{number}");
     }
     Ok(())
 }
