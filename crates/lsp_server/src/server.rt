@@ -123,7 +123,8 @@ impl<D: Desk + Drop> Server<D> {
     }
 
     /// Makes the step of one item: it is admitted, so many rounds are made, and the frames of all
-    /// that was put out are written and flushed.
+    /// that was put out are written and flushed. After an error no clause lets the session go
+    /// on, since what was put out may be lost.
     pub fn step<O: Sink, H: Handlers<D>, P: Pick>(
         alloc: Global,
         sink: &mut O,
