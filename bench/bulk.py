@@ -1,3 +1,4 @@
+#!/usr/bin/env python3
 """Runs `bulk 7 COUNT` of the built program, and measures the time it takes and the memory it holds."""
 import os
 import subprocess
