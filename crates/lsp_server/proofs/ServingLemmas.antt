@@ -16,7 +16,7 @@ use Rattle.lsp_server.specs.SourceSink.{IsFlushed}
 use Rattle.lsp_server.specs.Items.{admitted, all_admitted, stream_items, stream_told, Decodes}
 use Rattle.lsp_server.specs.Course.{Course, course_from}
 use Rattle.lsp_server.specs.Written.{place, Ran, RanPart}
-use Rattle.lsp_server.specs.Served.{ServedTold, call_bytes, RanFrom, ReadEnough, WroteTold, AllAnswered, WrotePart}
+use Rattle.lsp_server.specs.Served.{ServedTold, call_bytes, RanFrom, ReadEnough, RanTold, AllAnswered, WrotePart}
 use Rattle.lsp_server.specs.Reads.{moment}
 use Rattle.lsp_server.proofs.KnownLemmas.{appends_more, consumes_none, consumes_more, consumes_kept, what_is_left, all_read}
 use Rattle.lsp_server.proofs.PointLemmas.{Point, find_at, GoesOn}
@@ -143,18 +143,17 @@ module _ {H D C T P : Type 0} {semantics : Semantics H C T} (laws : IsLawful sem
 
   -- ---- between two reads what was written is exact
 
-  pub exact : WroteTold way (call_bytes bytes left1 taken0 b.taken) b.desk
+  pub exact : RanTold way (call_bytes bytes left1 taken0 b.taken) b.state b.desk
   exact = record {
     read = serving.fed;
     gives = serving.gives;
     none = ap (has_exit find) told_before ∙ serving.going.none;
-    last = b.state;
     ran = subst (λ l. RanFrom way (call_bytes bytes left1 taken0 b.taken) l b.state b.desk) (sym told_before) serving.going.ran;
   }
 
   -- so all was answered as the next read is made
   pub answered : (left_then : Option (List ℕ)) (flushed0 flushed1 : Option ℕ) → (IsFlushed taken0 flushed0 → IsFlushed b.taken flushed1) → AllAnswered way bytes (moment left_then taken0 flushed0) (moment left1 b.taken flushed1)
-  answered left_then flushed0 flushed1 flushed = record { desk = b.desk; wrote = exact; flushed = flushed }
+  answered left_then flushed0 flushed1 flushed = record { desk = b.desk; wrote = record { last = b.state; told = exact }; flushed = flushed }
 
   -- ---- an exit ends it
 

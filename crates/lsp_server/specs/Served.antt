@@ -92,14 +92,18 @@ pub record ReadEnough {S D : Type 0} (course : Course S D) (call : CallBytes) (s
   pub none : has_exit course.find (stream_told course.limits early) ≡ false
   pub enough : (call.left ≡ Some []) ⊎ (has_exit course.find (stream_told course.limits (early ++ piece)) ≡ true)
 
--- what is written is the frames of a run over the items told by the bytes read, and no exit is among them; the
--- desk grew by that run's trace
-pub record WroteTold {S D : Type 0} (course : Course S D) (call : CallBytes) (desk : D) : Type 0 where
+-- what is written is the frames of a run to this state over the items told by the bytes read, and no exit is among
+-- them; the desk grew by that run's trace
+pub record RanTold {S D : Type 0} (course : Course S D) (call : CallBytes) (last : S) (desk : D) : Type 0 where
   pub read : List ℕ
   pub gives : Consumes (Some call.bytes) call.left read
   pub none : has_exit course.find (stream_told course.limits read) ≡ false
-  pub last : S
   pub ran : RanFrom course call (stream_told course.limits read) last desk
+
+-- the same, to some state
+pub record WroteTold {S D : Type 0} (course : Course S D) (call : CallBytes) (desk : D) : Type 0 where
+  pub last : S
+  pub told : RanTold course call last desk
 
 -- as a read was made, what was written was the frames of a run over the items told by the bytes read until then, no
 -- exit was among them, and all of it was flushed, if all was at the start

@@ -9,7 +9,7 @@ ghost use Rattle.lsp_server.specs.SourceSink.{CountRose, IsFlushed};
 ghost use Rattle.lsp_server.specs.Items.{all_admitted, stream_items, GivesNext};
 ghost use Rattle.lsp_server.specs.Course.{course_from, picked};
 ghost use Rattle.lsp_server.specs.Written.{Ran, RanPart};
-ghost use Rattle.lsp_server.specs.Served.{call_bytes, RanFrom, ServedTold, ReadEnough, WroteTold, AllAnswered, WrotePart};
+ghost use Rattle.lsp_server.specs.Served.{call_bytes, RanFrom, ServedTold, ReadEnough, RanTold, AllAnswered, WrotePart};
 ghost use Rattle.lsp_server.specs.Reads.{moment, Made, InOrder};
 ghost use Rattle.lsp_server.specs.Errors.{IsBetweenReads, IsFlushedAt, IsInStep, LeavesSink, SaysSpent};
 ghost use Rattle.lsp_server.specs.ServerView.{standing, IsReady};
@@ -86,13 +86,17 @@ pub fn serve_over<T: Transport, D: Desk + Drop, H: Handlers<D>, P: Pick>(
     ensures write_told { T.faults io.old < T.faults io.new
         → IsErrOf result ServeError.WriteFault }
 
-    // What was written at an error.
+    // What was written at an error. Between two reads the session stands where the items that were
+    // told lead it, and may go on.
     ensures exact { IfErr result (λ e. IsBetweenReads e
-        → IfSome (T.left io.old) (λ bytes. WroteTold
+        → IfSome (T.left io.old) (λ bytes. RanTold
         (course_from H.semantics D.meaning (order_by P.gives P.later) rounds limits
         (session_view H.semantics D.meaning session.old) (P.state pick.old))
         (call_bytes bytes (T.left io.new) (T.taken io.old) (T.taken io.new))
+        (picked (session_view H.semantics D.meaning session.new) (P.state pick.new))
         (desk_of session.new))) }
+    ensures ready_between { IfErr result (λ e. IsBetweenReads e
+        → IsReady H.semantics D.meaning session.new) }
     ensures part { IfSome (T.left io.old) (λ bytes. WrotePart
         (course_from H.semantics D.meaning (order_by P.gives P.later) rounds limits
         (session_view H.semantics D.meaning session.old) (P.state pick.old))

@@ -6,7 +6,7 @@ use Rattle.lsp_server.specs.SourceSink.{CountRose}
 use Rattle.lsp_server.specs.Reads.{moment}
 use Rattle.lsp_server.specs.declared.step.ServeError.TheVariants.{WriteFault, NoMemory}
 use Rattle.lsp_server.proofs.KnownLemmas.{err_of, if_err, if_told, what_is_left, read_enough, few_read, kept_none, at_zero, consumes_none, consumes_to}
-use Rattle.lsp_server.proofs.OrderLemmas.{not_at_end, noted_none, noted_more, in_order_so_far, few_so_far, in_order_last_read, few_reads}
+use Rattle.lsp_server.proofs.OrderLemmas.{not_at_end, noted_none, noted_more, in_order_so_far, few_so_far, all_made, in_order_last_read, few_reads}
 use Rattle.lsp_relay.specs.Relay.{opening_place, AllPassed}
 use Rattle.lsp_relay.specs.Shown.{show_carrier}
 use Rattle.lsp_relay.proofs.ErrorLemmas.{no_memory_alone}
@@ -246,6 +246,10 @@ returns-clause-in_order g c =
 pub returns-clause-few_reads : goal.returns-clause-few_reads
 returns-clause-few_reads g c =
     few_so_far (g.T.Transport.left c.args.io.now) _ (g.T.Transport.reads c.args.io.now) (g.T.Transport.reads c.loop.io) c.loop.counter c.args.reads (search rules) c.loop.invariant.noted
+
+pub returns-clause-all_reads : goal.returns-clause-all_reads
+returns-clause-all_reads g c _ =
+    all_made (g.T.Transport.left c.args.io.now) _ (g.T.Transport.reads c.args.io.now) (g.T.Transport.reads c.loop.io) c.loop.counter c.args.reads (search rules) c.loop.invariant.noted
 
 -- ---- no read failed
 

@@ -5,7 +5,7 @@ use Rattle.lsp_server.proofs.KnownLemmas.{on_ok}
 use Rattle.lsp_server.specs.ServerView.{standing}
 use Rattle.lsp_server.proofs.KnownLemmas.{either, if_told, read_enough, few_read, kept_none, at_zero, consumes_none, consumes_to}
 use Rattle.lsp_server.specs.Reads.{moment}
-use Rattle.lsp_server.proofs.OrderLemmas.{not_at_end, noted_none, noted_more, in_order_so_far, few_so_far, in_order_last_read, few_reads}
+use Rattle.lsp_server.proofs.OrderLemmas.{not_at_end, noted_none, noted_more, in_order_so_far, few_so_far, all_made, in_order_last_read, few_reads}
 use Rattle.lsp_server.proofs.RanLemmas.{part_whole, ran_grown, grown_after}
 use Rattle.lsp_server.proofs.GoingLemmas.{told_part}
 use Rattle.lsp_server.proofs.ServingLemmas.{serving_start, serving_kept, serving_of, serving_more, exact, answered, at_exit, enough_at_exit, at_end, enough_at_end, wrote_before, wrote_within, wrote_at_end}
@@ -355,6 +355,9 @@ returns-clause-in_order g c = in_order_so_far (g.T.Transport.left c.args.io.now)
 
 pub returns-clause-few_reads : goal.returns-clause-few_reads
 returns-clause-few_reads g c = few_so_far (g.T.Transport.left c.args.io.now) _ (g.T.Transport.reads c.args.io.now) (g.T.Transport.reads c.loop.io) c.loop.counter c.args.reads (search rules) c.loop.invariant.noted
+
+pub returns-clause-all_reads : goal.returns-clause-all_reads
+returns-clause-all_reads g c _ = all_made (g.T.Transport.left c.args.io.now) _ (g.T.Transport.reads c.args.io.now) (g.T.Transport.reads c.loop.io) c.loop.counter c.args.reads (search rules) c.loop.invariant.noted
 
 pub returns-clause-tied : goal.returns-clause-tied
 returns-clause-tied g c = c.loop.invariant.tied

@@ -9,7 +9,7 @@ use Rattle.lsp_server.specs.SourceSink.{CountRose}
 use Rattle.lsp_server.specs.Errors.{IsBetweenReads, ComesUnfailed}
 use Rattle.lsp_server.specs.Items.{stream_items}
 use Rattle.lsp_server.specs.Course.{Setting, course_from, course, picked}
-use Rattle.lsp_server.specs.Served.{call_bytes, RanFrom, IsServed, ReadEnough, WroteTold, WrotePart, ServedView}
+use Rattle.lsp_server.specs.Served.{call_bytes, RanFrom, IsServed, ReadEnough, RanTold, WroteTold, WrotePart, ServedView}
 use Rattle.lsp_server.specs.ServedView.{show_served}
 use Rattle.lsp_server.specs.ServerView.{setting, server_desk}
 use Rattle.lsp_server.specs.declared.step.ServeError.TheVariants.{DeskSpent, NoMemory}
@@ -79,8 +79,11 @@ returns-in-Err-clause-exact g c between =
     let first = opened set _ (session_view sem m c.waiting_limit-session.result) c.into_desk-desk.result c.into_desk-desk.ensures c.new.ensures.view c.waiting_limit-session.ensures.view in
     let after = session_view sem m c.serve_over.new.session in
     let bytes_of = λ (bytes : List ℕ). call_bytes bytes (g.I.Source.left c.serve_over.new.io.source.now) (g.O.Sink.taken c.args.sink.now) (g.O.Sink.taken c.serve_over.new.io.sink.now) in
+    let last = picked after (g.P.Pick.state c.serve_over.new.pick) in
+    let told : IfSome (g.I.Source.left c.args.source.now) (λ bytes. RanTold (course sem m order set) (bytes_of bytes) last after.desk) =
+    subst (λ (v : SessionView _ _ sem.Call sem.Task). IfSome (g.I.Source.left c.args.source.now) (λ bytes. RanTold (course_from sem m order c.args.rounds c.args.self.limits v (g.P.Pick.state c.args.pick.now)) (bytes_of bytes) last after.desk)) first (c.in-Err.ensures.exact (subst IsBetweenReads c.stop.ensures.error between)) in
     let exact : IfSome (g.I.Source.left c.args.source.now) (λ bytes. WroteTold (course sem m order set) (bytes_of bytes) after.desk) =
-    subst (λ (v : SessionView _ _ sem.Call sem.Task). IfSome (g.I.Source.left c.args.source.now) (λ bytes. WroteTold (course_from sem m order c.args.rounds c.args.self.limits v (g.P.Pick.state c.args.pick.now)) (bytes_of bytes) after.desk)) first (c.in-Err.ensures.exact (subst IsBetweenReads c.stop.ensures.error between)) in
+    if_told (g.I.Source.left c.args.source.now) _ (λ bytes is. record { last = last; told = some_at (g.I.Source.left c.args.source.now) _ bytes is told }) in
     search rules
 
 pub returns-in-Err-clause-complete : goal.returns-in-Err-clause-complete
