@@ -120,8 +120,8 @@ impl LanguageServerCodec {
             → items_at (more self.old c) ≡ with_item (shown d) (items_at (more self.new c))) }
         ensures told { IfOk result (λ d. (c : List ℕ)
             → told_at (more self.old c) ≡ with_item (shown d) (told_at (more self.new c))) }
-        // Decoding goes from transition to transition up to the first that tells an item, and stands
-        // where that one goes on; or to where it stops, and drops what it needs no more.
+        // Decoding goes from transition to transition up to the first that tells an item, and
+        // stands where that one goes on; or to where it stops, and drops what it needs no more.
         ensures place { IfOk result (λ d. ComesTo self.old (shown d) self.new) }
         // So what is held is the end of what was held, and after a message a frame begins with it.
         ensures rest { OnOk result (HoldsEnd self.old self.new) }
