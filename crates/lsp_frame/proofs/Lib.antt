@@ -6,10 +6,13 @@ pub mod LengthParse
 pub mod HeaderByHeader
 pub mod FirstPlace
 pub mod TypeParts
+pub mod HeaderFaults
 pub mod RestLast
+pub mod StatesAfter
 pub mod ToldGrows
 pub mod TransitionMoves
 pub mod WaitingItems
+pub mod PlacesCome
 pub mod ItemsLeft
 pub mod DecimalText
 pub mod FramesRead

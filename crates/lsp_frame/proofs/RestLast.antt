@@ -1,18 +1,19 @@
 -- A transition never tells that input ended, so that fault stands at most at the end of the items.
 use Rattle.std.proofs.Common.{◌≡◌, ℕ, zero, suc, List, [], ◌∷◌, length, take, drop, Bool, true, false, ◌==◌, nat_lt, cond, Option, Some, None, Result, Ok, Err, refl, sym, ap, ◌∙◌, codes}
-use Rattle.std.specs.Prelude.{⊤, bytes_eq}
+use Rattle.std.specs.Prelude.{⊤}
 use Rattle.std.specs.Str.{is_utf8}
 use Rattle.serde_json.specs.Read.{read}
 use Rattle.serde_json.specs.Data.{Data}
 use Rattle.lsp_rpc.specs.Message.{MessageData, clean_message}
 use Rattle.lsp_frame.specs.Blocks.{Header, block_len, headers_in}
-use Rattle.lsp_frame.specs.Headers.{length_of, is_type_good, length_or_fault, length_after, on_length, content_length}
+use Rattle.lsp_frame.specs.Headers.{content_length}
 use Rattle.lsp_frame.specs.Transitions.{Item, fault, Transition, stop, unfinished, go, transition, first_place, at_place, of_message, of_value, body_item, at_headers, at_head, at_block}
 use Rattle.lsp_frame.specs.Items.{items_after, items_within, transitions_left, unless_rest, without_last_rest}
 use Rattle.lsp_frame.specs.Laws.{ToldIsItems}
+use Rattle.lsp_frame.proofs.HeaderFaults.{IfFault, headers_fault}
 use Rattle.lsp_frame.specs.declared.limits.Limits.{Limits}
 use Rattle.lsp_frame.specs.declared.parse_error.ParseError.{ParseError}
-use Rattle.lsp_frame.specs.declared.parse_error.ParseError.TheVariants.{InvalidContentType, Utf8, Rest, HeadTooLong, BodyTooLong}
+use Rattle.lsp_frame.specs.declared.parse_error.ParseError.TheVariants.{Utf8, Rest, HeadTooLong, BodyTooLong}
 use Rattle.lsp_frame.specs.declared.decode_state.DecodeState.{DecodeState}
 use Rattle.lsp_frame.specs.declared.decode_state.DecodeState.TheVariants.{Frame, Search, Body, Skip}
 
@@ -28,9 +29,8 @@ GivesNoRest (go None k n) = ⊤
 GivesNoRest (go (Some x) k n) = Stays x
 
 -- a fault of headers stays
-abbrev FaultStays : Result (Option ℕ) ParseError → Type 0
-FaultStays (Ok n) = ⊤
-FaultStays (Err e) = Stays (fault e)
+abbrev FaultStays : ParseError → Type 0
+FaultStays e = Stays (fault e)
 
 message_stays : (o : Option MessageData) → Stays (of_message o)
 message_stays None = refl
@@ -44,41 +44,19 @@ body_stays : (bs : List ℕ) (b : Bool) → Stays (cond b (of_value (read bs)) (
 body_stays bs true = value_stays (read bs)
 body_stays bs false = refl
 
-length_stays : (o : Option ℕ) → FaultStays (length_or_fault o)
-length_stays None = refl
-length_stays (Some n) = tt
-
--- by whether the name is `Content-Length` or `Content-Type`, the value is UTF-8, and the type is good
-header_stays : (a b u g : Bool) (before : Option ℕ) (value : List ℕ)
-    → FaultStays (cond a (cond u (length_or_fault (length_of value)) (Err Utf8)) (cond b (cond u (cond g (Ok before) (Err InvalidContentType)) (Err Utf8)) (Ok before)))
-header_stays true b true g before value = length_stays (length_of value)
-header_stays true b false g before value = refl
-header_stays false true true true before value = tt
-header_stays false true true false before value = refl
-header_stays false true false g before value = refl
-header_stays false false u g before value = tt
-
-later_stays : (r : Result (Option ℕ) ParseError) (next : Option ℕ → Result (Option ℕ) ParseError) → FaultStays r → ((n : Option ℕ) → FaultStays (next n)) → FaultStays (on_length r next)
-later_stays (Ok n) next is later = later n
-later_stays (Err e) next is later = is
-
-headers_stay : (before : Option ℕ) (hs : List Header) → FaultStays (content_length before hs)
-headers_stay before [] = tt
-headers_stay before (h ∷ hs) = later_stays (length_after before h) (λ n. content_length n hs) (header_stays (bytes_eq h.0 (codes "Content-Length")) (bytes_eq h.0 (codes "Content-Type")) (is_utf8 h.1) (is_type_good h.1) before h.1) (λ n. headers_stay n hs)
-
 module _ (limits : Limits) where
   limit_gives : (q n : ℕ) (b : Bool) → GivesNoRest (cond b (go (Some (fault BodyTooLong)) (Skip n) q) (go None (Body n) q))
   limit_gives q n true = refl
   limit_gives q n false = tt
 
-  headers_give : (q : ℕ) (r : Result (Option ℕ) ParseError) → FaultStays r → GivesNoRest (at_headers limits q r)
+  headers_give : (q : ℕ) (r : Result (Option ℕ) ParseError) → IfFault FaultStays r → GivesNoRest (at_headers limits q r)
   headers_give q (Err e) is = is
   headers_give q (Ok None) is = refl
   headers_give q (Ok (Some n)) is = limit_gives q n (nat_lt limits.body n)
 
   head_gives : (q : ℕ) (hs : Option (List Header)) → GivesNoRest (at_head limits q hs)
   head_gives q None = refl
-  head_gives q (Some hs) = headers_give q (content_length None hs) (headers_stay None hs)
+  head_gives q (Some hs) = headers_give q (content_length None hs) (headers_fault FaultStays refl refl refl None hs)
 
   no_block_gives : (b : Bool) → GivesNoRest (cond b unfinished (go (Some (fault HeadTooLong)) Search 1))
   no_block_gives true = tt

@@ -209,16 +209,26 @@ module _ (limits : Limits) where
     pub waits_stopped : Stands (transition limits to.0 (drop (place + to.1) bs)) × IsTrimmed to.0 (drop (place + to.1) bs)
     waits_stopped = rw (to_state, to_bytes) (waits_there s (drop place bs) is)
 
+  -- ---- where the input is unfinished
+
+  -- a search stops where it finds nothing
+  pub search_not_unfinished : (h : List ℕ) → transition limits Search h ≡ unfinished → ⊥
+  search_not_unfinished h e = ends (first_place (codes "Content-Length") h) e
+    where
+      ends : (o : Option ℕ) → let P : Transition → Type 0 = λ t. t ≡ unfinished in P (at_place o) → ⊥
+      ends None e = absurd cc
+      ends (Some r) e = absurd cc
+
+  -- and so does a skip that is short of bytes
+  pub skip_not_unfinished : (n : ℕ) (h : List ℕ) → transition limits (Skip n) h ≡ unfinished → ⊥
+  skip_not_unfinished n h e = ends (nat_lt (length h) n) e
+    where
+      ends : (b : Bool) → let P : Transition → Type 0 = λ t. t ≡ unfinished in P (cond b stop (go None Frame n)) → ⊥
+      ends true e = absurd cc
+      ends false e = absurd cc
+
   pub waits_unfinished : (s : DecodeState) (h : List ℕ) → transition limits s h ≡ unfinished → Stands (transition limits s h) × IsTrimmed s h
   waits_unfinished Frame h e = (subst Stands (sym e) tt, tt)
-  waits_unfinished Search h e = absurd (search_ends (first_place (codes "Content-Length") h) e)
-    where
-      search_ends : (o : Option ℕ) → let P : Transition → Type 0 = λ t. t ≡ unfinished in P (at_place o) → ⊥
-      search_ends None e = absurd cc
-      search_ends (Some r) e = absurd cc
+  waits_unfinished Search h e = absurd (search_not_unfinished h e)
   waits_unfinished (Body n) h e = (subst Stands (sym e) tt, tt)
-  waits_unfinished (Skip n) h e = absurd (skip_ends (nat_lt (length h) n) e)
-    where
-      skip_ends : (b : Bool) → let P : Transition → Type 0 = λ t. t ≡ unfinished in P (cond b stop (go None Frame n)) → ⊥
-      skip_ends true e = absurd cc
-      skip_ends false e = absurd cc
+  waits_unfinished (Skip n) h e = absurd (skip_not_unfinished n h e)

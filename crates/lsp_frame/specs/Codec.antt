@@ -2,6 +2,7 @@
 pub use Rattle.lsp_frame.specs.declared.limits.Limits.{Limits}
 pub use Rattle.lsp_frame.specs.Transitions.{Item, message, fault}
 pub use Rattle.lsp_frame.specs.Items.{At, start, more, with_item, items_at, told_at, items, told, IsWaiting, most_held, AreLimits, default_limits}
+pub use Rattle.lsp_frame.specs.Places.{ComesTo, HoldsEnd, IsStateAfter}
 pub use Rattle.lsp_frame.specs.Frames.{frame_text, frames, IsWithin, IsReadBack}
 pub use Rattle.lsp_frame.specs.Faults.{code_of_fault, text_of_fault}
 pub use Rattle.lsp_frame.specs.Shown.{shown, IsFloatFree}

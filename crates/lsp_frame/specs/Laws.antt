@@ -7,6 +7,7 @@ use Rattle.lsp_frame.specs.Blocks.{Header, headers_in, IsGoodBlock}
 use Rattle.lsp_frame.specs.Frames.{framed, frames, IsBodyWithin, IsWithin, IsReadBack}
 use Rattle.lsp_frame.specs.Transitions.{Item, message, go, transition, body_item}
 use Rattle.lsp_frame.specs.Items.{At, start, all_from, items_after, items_at, told_at, items, told, without_last_rest}
+use Rattle.lsp_frame.specs.Places.{ComesTo}
 use Rattle.lsp_frame.specs.Calls.{Call, Leads, bytes_fed, items_given, messages_encoded}
 use Rattle.lsp_frame.specs.declared.limits.Limits.{Limits}
 use Rattle.lsp_frame.specs.declared.decode_state.DecodeState.{DecodeState}
@@ -32,6 +33,10 @@ MayStay (Skip n) bs = n ≡ 0
 abbrev pub TransitionsMove : Type 0
 TransitionsMove = (limits : Limits) (s : DecodeState) (bs : List ℕ) (x : Option Item) (j : DecodeState) (n : ℕ) → transition limits s bs ≡ go x j n
     → (n ≤ length bs) × ((0 < n) ⊎ (MayStay s bs × (x ≡ None) × (j ≡ Frame)))
+
+-- decoding comes to one item, or none, and to one place
+abbrev pub OnePlace : Type 0
+OnePlace = (a b c : At) (x y : Option Item) → ComesTo a x b → ComesTo a y c → (x ≡ y) × (b ≡ c)
 
 -- what is told is the items without the fault of an input that ends inside a frame
 abbrev pub ToldIsItems : Type 0

@@ -5,6 +5,7 @@ pub mod Headers
 pub mod Transitions
 pub mod Items
 pub mod Kept
+pub mod Places
 pub mod Frames
 pub mod Shown
 pub mod Calls

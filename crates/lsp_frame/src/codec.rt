@@ -6,6 +6,7 @@ ghost use Rattle.lsp_rpc.specs.Shown.{show_message};
 ghost use Rattle.lsp_frame.specs.declared.limits.Limits.{Limits as AnyLimits};
 ghost use Rattle.lsp_frame.specs.Transitions.{fault, message as message_item};
 ghost use Rattle.lsp_frame.specs.Items.{start, more, items, items_at, told_at, with_item, IsWaiting, most_held, AreLimits, default_limits};
+ghost use Rattle.lsp_frame.specs.Places.{ComesTo, HoldsEnd, IsStateAfter};
 ghost use Rattle.lsp_frame.specs.Frames.{frame_text, IsWithin, IsReadBack};
 ghost use Rattle.lsp_frame.specs.Shown.{shown, show_found, IsFloatFree, IsFoundFloatFree};
 
@@ -90,7 +91,8 @@ impl LanguageServerCodec {
         }
     }
 
-    /// How many bytes are held: those that were fed and that what was decoded doesn't cover.
+    /// How many bytes are held: the last of those fed, from the place on at which decoding stands.
+    /// After a message these are the bytes after its body.
     pub fn held(&self) -> u64
         ensures { result ≡ length self.now.held }
     {
@@ -108,13 +110,23 @@ impl LanguageServerCodec {
 
     /// The next item that the bytes fed tell, or `More` where all of them are given.
     ///
-    /// After `More` at most the greatest of 13 bytes and the two limits are held.
+    /// After an item what is held begins where decoding goes on: after the body, whether it gave a
+    /// message or not; after a fault of a head with the bytes in which the next `Content-Length` is
+    /// looked for; after a head whose body is too long with that body, which is skipped. After
+    /// `More` at most the greatest of 13 bytes and the two limits are held.
     pub fn decode(&mut self) -> Result<Decoded, NoMemory>
         // The item is the first of those that are left, whatever bytes may follow.
         ensures items { IfOk result (λ d. (c : List ℕ)
             → items_at (more self.old c) ≡ with_item (shown d) (items_at (more self.new c))) }
         ensures told { IfOk result (λ d. (c : List ℕ)
             → told_at (more self.old c) ≡ with_item (shown d) (told_at (more self.new c))) }
+        // Decoding goes from transition to transition up to the first that tells an item, and
+        // stands where that one goes on; or to where it stops, and drops what it needs no more.
+        ensures place { IfOk result (λ d. ComesTo self.old (shown d) self.new) }
+        // So what is held is the end of what was held, and after a message a frame begins with it.
+        ensures rest { OnOk result (HoldsEnd self.old self.new) }
+        ensures after { IfOk result (λ d. IfSome (shown d)
+            (λ x. IsStateAfter self.new.limits x self.new.state)) }
         // `More` comes exactly where nothing is told, and then nothing is told until more is fed.
         ensures more { IfOk result (λ d. (shown d ≡ None) ↔ (told_at self.old ≡ [])) }
         ensures waits { IfOk result (λ d. shown d ≡ None → told_at self.new ≡ []) }

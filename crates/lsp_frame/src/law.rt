@@ -1,6 +1,6 @@
 // What holds of all blocks, transitions, inputs and lists of calls: functions whose contract is a
 // law.
-ghost use Rattle.lsp_frame.specs.Laws.{GoodBlocks, ByTransitions, TransitionsMove, ToldIsItems, ToldStays, GivesAll, FramesRead, MessagesRead, EncodedRead};
+ghost use Rattle.lsp_frame.specs.Laws.{GoodBlocks, ByTransitions, TransitionsMove, OnePlace, ToldIsItems, ToldStays, GivesAll, FramesRead, MessagesRead, EncodedRead};
 
 /// A block is good where it is, whole, a head of `httparse`'s grammar with at most two headers.
 pub fn good_blocks()
@@ -16,6 +16,11 @@ pub fn by_transitions()
 /// a body or a skip of no bytes.
 pub fn transitions_move()
     ensures { TransitionsMove }
+{}
+
+/// From where a codec stands decoding comes to one next item, or none, and to one place.
+pub fn one_place()
+    ensures { OnePlace }
 {}
 
 /// What is told is the items without a `Rest` at their end.

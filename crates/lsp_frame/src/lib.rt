@@ -19,7 +19,7 @@ mod transition;
 
 pub use codec::{Decoded, LanguageServerCodec};
 pub use law::{
-    by_transitions, encoded_read, frames_read, gives_all, good_blocks, messages_read,
+    by_transitions, encoded_read, frames_read, gives_all, good_blocks, messages_read, one_place,
     told_is_items, told_stays, transitions_move,
 };
 pub use limits::Limits;

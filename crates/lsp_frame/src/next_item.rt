@@ -3,6 +3,7 @@ ghost use Rattle.std.specs.Prelude.{◌≡◌, ◌≢◌, ◌≤◌, ◌+◌, �
 ghost use Rattle.lsp_frame.specs.Transitions.{Item, transition as transition_of};
 ghost use Rattle.lsp_frame.specs.Items.{all_from, with_item, Stands, IsTrimmed};
 ghost use Rattle.lsp_frame.specs.Kept.{IsLooked, IsAllowed, IsBodyHere, unneeded, waiting as waiting_state};
+ghost use Rattle.lsp_frame.specs.Places.{standing, ComesTo};
 ghost use Rattle.lsp_frame.specs.Shown.{show_found, show_transition, IsWithinBytes, IsItemFloatFree, IsFoundFloatFree};
 
 use crate::decode_state::DecodeState;
@@ -73,6 +74,9 @@ pub(crate) fn find_next(
     requires clear { IsLooked bytes.now looked }
     requires allowed { IsAllowed limits state }
     ensures within { IfOk result (λ r. r.consumed ≤ length bytes.now) }
+    ensures place { IfOk result (λ r. ComesTo (standing limits state bytes.now)
+        (option_map show_found r.item)
+        (standing limits r.state (drop r.consumed bytes.now))) }
     ensures goes { IfOk result (λ r. (last : List Item) (c : List ℕ)
         → all_from limits last state (bytes.now ++ c)
         ≡ with_item (option_map show_found r.item) (all_from limits last r.state

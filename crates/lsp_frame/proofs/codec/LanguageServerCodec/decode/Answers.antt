@@ -1,8 +1,10 @@
 use Rattle.std.specs.Prelude.{◌↔◌}
 use Rattle.std.proofs.Common.{◌≡◌, ◌≤◌, length, drop, Option, None, subst, sym, ap, ◌∙◌}
 use Rattle.lsp_frame.specs.Transitions.{Item}
-use Rattle.lsp_frame.specs.Items.{most_held}
-use Rattle.lsp_frame.proofs.ItemsLeft.{AtOf, none_told, none_found}
+use Rattle.lsp_frame.specs.Items.{At, most_held}
+use Rattle.lsp_frame.specs.Places.{standing, ComesTo}
+use Rattle.lsp_frame.proofs.PlacesCome.{comes_to_end, comes_to_state_after}
+use Rattle.lsp_frame.proofs.ItemsLeft.{none_told, none_found}
 use Rattle.lsp_frame.proofs.HeldBytes.{held_at_most}
 use Rattle.lsp_frame.proofs.codec.LanguageServerCodec.decode.Goals as goal
 
@@ -16,7 +18,7 @@ returns-clause-more c =
     let limits = c.self.inside.limits in
     alike _ _ _ c.answer_of.ensures.value
     (none_told limits c.args.self.now c.self.inside.state next.state c.as_slice.result.now _ next.item next.unfinished
-    (ap (AtOf limits c.self.inside.state) c.as_slice.ensures ∙ c.self.view_is) e.goes e.ends)
+    (ap (standing limits c.self.inside.state) c.as_slice.ensures ∙ c.self.view_is) e.goes e.ends)
 
 pub returns-clause-held : goal.returns-clause-held
 returns-clause-held c = λ none.
@@ -26,3 +28,21 @@ returns-clause-held c = λ none.
     let waits = e.waits (none_found next.item (sym c.answer_of.ensures.value ∙ none)) in
     subst (λ t. length t ≤ most_held limits) (sym (c.advance.ensures.items ∙ ap (drop next.consumed) (sym c.as_slice.ensures)))
     (held_at_most limits next.state (drop next.consumed c.as_slice.result.now) waits e.allowed)
+
+alike_places : (a b c d : At) (x y : Option Item) → a ≡ c → x ≡ y → b ≡ d → ComesTo a x b → ComesTo c y d
+alike_places a b c d x y from item to comes =
+    subst (ComesTo c y) to (subst (λ z. ComesTo c z b) item (subst (λ t. ComesTo t x b) from comes))
+
+pub returns-clause-place : goal.returns-clause-place
+returns-clause-place c =
+    let next = c.in_ok-next.next in
+    let limits = c.self.inside.limits in
+    alike_places _ _ _ _ _ _ (ap (standing limits c.self.inside.state) c.as_slice.ensures ∙ c.self.view_is) (sym c.answer_of.ensures.value)
+    (ap (standing limits next.state) (sym (c.advance.ensures.items ∙ ap (drop next.consumed) (sym c.as_slice.ensures))))
+    c.in_ok-next.ensures.place
+
+pub returns-clause-rest : goal.returns-clause-rest
+returns-clause-rest c = comes_to_end _ _ _ (returns-clause-place c)
+
+pub returns-clause-after : goal.returns-clause-after
+returns-clause-after c = comes_to_state_after _ _ _ (returns-clause-place c)
