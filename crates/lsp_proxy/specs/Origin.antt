@@ -1,5 +1,6 @@
--- Where each response that an editor gets comes from. A history is a list of events, the latest first.
-use Rattle.std.specs.Prelude.{◌≡◌, ◌⊎◌, ℕ, ◌==◌, List, [], ◌∷◌, ◌++◌, Bool, true, false, Option, Some, None, Result, Ok, codes, ⊤}
+-- Where each response that an editor gets comes from. A history is a list of events, the latest
+-- first.
+use Rattle.std.specs.Prelude.{◌≡◌, ◌⊎◌, ℕ, ◌==◌, List, [], ◌∷◌, ◌++◌, Bool, true, false, Option, Some, None, Result, Ok, bytes_eq, codes, ⊤}
 use Rattle.std.specs.List.{AllByRecursion}
 use Rattle.serde_json.specs.Data.{Data, null}
 use Rattle.lsp_rpc.specs.Message.{IdData, ErrorData, RequestData, MessageData, response, request}
@@ -41,24 +42,53 @@ pub record HasInitialized (h : List Event) (k : ℕ) (i : IdData) : Type 0 where
   pub under : call.id ≡ Some i
   pub method : call.method ≡ codes "initialize"
 
--- the server has given this result
-pub record HasAnswered (h : List Event) (v : Data) : Type 0 where
+-- some editor's `initialize` was passed on under n, and no response under n has come since
+pub record AwaitsInitialize (editors : ℕ) (h : List Event) (n : ℕ) : Type 0 where
+  pub opener : ℕ
+  pub id : IdData
+  pub passed : WasPassed editors h n opener id
+  pub method : passed.call.method ≡ codes "initialize"
+
+-- the events from that `initialize` on
+abbrev pub since_initialize : {editors : ℕ} {h : List Event} {n : ℕ} → AwaitsInitialize editors h n → List Event
+since_initialize a = a.passed.later ++ (Editor a.opener, request a.passed.call) ∷ []
+
+-- an `initialize` is awaited under n, and from it on editor k has sent one under the id i: that
+-- very one, or a later one
+pub record SharesInitialize (editors : ℕ) (h : List Event) (n k : ℕ) (i : IdData) : Type 0 where
+  pub awaits : AwaitsInitialize editors h n
+  pub sent : HasInitialized (since_initialize awaits) k i
+
+-- the server has given this result, in response to an `initialize` that was passed on
+pub record HasAnswered (editors : ℕ) (h : List Event) (v : Data) : Type 0 where
   pub later : List Event
   pub earlier : List Event
   pub n : ℕ
   pub split : h ≡ later ++ (Server, answer (drawn n) (Ok v)) ∷ earlier
+  pub awaits : AwaitsInitialize editors earlier n
 
--- the proxy's own responses: null to `shutdown`, a refusal, or a result that the server has given
-abbrev pub IsOwn : List Event → Result Data ErrorData → Type 0
-IsOwn h body = (body ≡ Ok null) ⊎ ((body ≡ invalid) ⊎ ((body ≡ internal) ⊎ ((v : Data) × (body ≡ Ok v) × HasAnswered h v)))
+-- the event is a request or a notification of that method
+abbrev pub is_call : List ℕ → Event → Bool
+is_call method (side, request r) = bytes_eq r.method method
+is_call method (side, response r) = false
 
--- A response of the proxy's own comes at the editor's request under its id. Any other is the body of the response
--- that the server gives now: the first to that request of the editor, or any, where the editor has sent an
--- `initialize` under that id.
+-- The proxy's own responses: null to a `shutdown`, a refusal, or, to an `initialize`, a result that
+-- the server has given to an `initialize`.
+abbrev pub IsOwn : ℕ → List Event → Event → Result Data ErrorData → Type 0
+IsOwn editors h e body =
+    ((is_call (codes "shutdown") e ≡ true) × (body ≡ Ok null))
+    ⊎ ((body ≡ invalid)
+    ⊎ ((body ≡ internal)
+    ⊎ ((v : Data) × (body ≡ Ok v) × (is_call (codes "initialize") e ≡ true) × HasAnswered editors h v)))
+
+-- A response of the proxy's own comes at the editor's request under its id. Any other is the body
+-- of the response that the server gives now: the first to that request of the editor, or the first
+-- to an `initialize` in which the editor shares under that id.
 abbrev pub Origin : ℕ → List Event → Event → ℕ → IdData → Result Data ErrorData → Type 0
 Origin editors h e k i body =
-    ((is_request_of k i e ≡ true) × IsOwn h body)
-    ⊎ ((n : ℕ) × (e ≡ (Server, answer (drawn n) body)) × (WasPassed editors h n k i ⊎ HasInitialized h k i))
+    ((is_request_of k i e ≡ true) × IsOwn editors h e body)
+    ⊎ ((n : ℕ) × (e ≡ (Server, answer (drawn n) body))
+    × (WasPassed editors h n k i ⊎ SharesInitialize editors h n k i))
 
 abbrev pub HasOrigin : ℕ → List Event → Event → Side × MessageData → Type 0
 HasOrigin editors h e (Editor k, response r) = Origin editors h e k r.id r.body

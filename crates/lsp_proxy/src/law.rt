@@ -19,8 +19,9 @@ pub fn responses_asked()
 {}
 
 /// Each response that an editor gets is the proxy's own, at its request under that id, or the body
-/// of the response that the server gives now: its first to that request, or any, where the editor
-/// has sent an `initialize` under that id. A history has the latest message first.
+/// of the response that the server gives now: its first to that request, or its first to an
+/// `initialize` that was passed on, where the editor has sent one under that id since, or sent that
+/// one. A history has the latest message first.
 pub fn responses_come()
     ensures { (editors : ℕ) (history : List Event) (event : Event)
         → AllByRecursion (HasOrigin editors history event)
