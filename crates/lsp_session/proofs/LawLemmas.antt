@@ -1,5 +1,5 @@
 -- What every session keeps, by the cases of admission.
-use Rattle.std.proofs.Common.{◌≡◌, ◌≢◌, ◌⊎◌, inl, inr, ℕ, ◌<◌, ◌≤◌, [], ◌∷◌, ◌++◌, refl, sym, ◌∙◌, ap, subst, arith, Bool, true, false, true≢false}
+use Rattle.std.proofs.Common.{◌≡◌, ◌≢◌, ◌⊎◌, inl, inr, ℕ, ◌<◌, ◌≤◌, [], ◌∷◌, ◌++◌, map, refl, sym, ◌∙◌, ap, subst, arith, Bool, true, false, true≢false}
 use Rattle.std.specs.Prelude.{Option, Some, Err, if◌then◌else◌, ltb}
 use Rattle.std.proofs.lemmas.Bool.{ltb-true}
 use Rattle.lsp_rpc.specs.declared.code.ErrorCode.TheVariants.{InvalidRequest}
@@ -20,7 +20,7 @@ use Rattle.lsp_session.specs.Item.{ItemData, message}
 use Rattle.lsp_session.specs.Semantics.{Semantics, IsLawful, Progress, Pending, Done}
 use Rattle.lsp_session.specs.Admission.{Verdict, Silence, Refuses, Answers, Cancels, Exits, Starts, Admission, Occasion, cancel, check_life, quiet, refuse, passed, initialized, if_of_kind, started, by_layer, by_entry}
 use Rattle.lsp_session.specs.State.{State, Effect, live, initializing, is_crowded}
-use Rattle.lsp_session.specs.Run.{answer, Applies, Admits, admission_of, occasion, after_poll, Poll, took, closed, changing, poll_change}
+use Rattle.lsp_session.specs.Run.{answer, cancelled, Applies, Admits, admission_of, occasion, after_poll, Poll, took, closed, changing, poll_change}
 use Rattle.lsp_session.specs.Laws.{IsAnswered, Requests, NeedsInitialize, InitializeComesFirst, InitializeComesOnce, NothingBeginsAfterShutdown, ExitEnds, FallsInTime, LivesGoOn}
 use Rattle.lsp_session.proofs.SortLemmas.{Sorted, leaves, takes, ends, opens, begins, shuts, closes, changes_none, admission_sorted}
 use Rattle.lsp_session.proofs.LifeLemmas.{admission_quits, quits_quietly}
@@ -31,15 +31,18 @@ use Rattle.lsp_session.proofs.FactLemmas.{poll_life}
 -- ---- refusals
 
 module _ {H C T : Type 0} (semantics : Semantics H C T) where
+  -- a change of the life puts out nothing
+  pub admitted_out : (s s2 : State H semantics.Call semantics.Task) (a : Admission semantics.Call) (e : Effect) (h : Admits semantics s a e s2) → e.out ≡ h.rest.out
+  admitted_out s s2 a e h = ap (λ (x : Effect). x.out) h.adds ∙ ap (λ (x : Effect). x.out ++ h.rest.out) h.changes.adds
+
   -- an error is all that comes of an admission
   refused : (s s2 : State H semantics.Call semantics.Task) (a : Admission semantics.Call) (i : IdData) (error : ErrorData) (e : Effect) → a ≡ quiet (Refuses i error) → Admits semantics s a e s2
       → IsAnswered s (answer i (Err error)) e s2
   refused s s2 a i error e is h =
       let done : Admits semantics s (quiet (Refuses i error)) e s2 = subst (λ (x : Admission semantics.Call). Admits semantics s x e s2) is h in
       let there : s2 ≡ record s { desk = done.changes.desk } = done.applies.1 ∙ done.changes.leaves in
-      let out : e.out ≡ answer i (Err error) ∷ [] = ap (λ (x : Effect). x.out) done.adds ∙ ap (λ (x : Effect). x.out ++ done.rest.out) done.changes.adds ∙ ap (λ (x : Effect). x.out) done.applies.0 in
       record {
-        out = out;
+        out = admitted_out s s2 _ e done ∙ ap (λ (x : Effect). x.out) done.applies.0;
         untouched = record {
           same = there ∙ ap (λ (x : DeskState). record s { desk = x }) (sym (ap (λ (x : State H semantics.Call semantics.Task). x.desk) there));
           life = ap (λ (x : State H semantics.Call semantics.Task). x.desk.life) there ∙ makes_life s.desk done.changes.desk [] done.changes.trace done.changes.makes;
@@ -149,7 +152,10 @@ module _ {H C T : Type 0} (semantics : Semantics H C T) where
       record {
         life = ap (λ (x : State H semantics.Call semantics.Task). x.desk.life) done.leaves ∙ makes_life h.mid.desk done.desk (closed done.messages ∷ []) done.trace done.makes;
         noted = ap (λ (x : State H semantics.Call semantics.Task). x.exited) done.leaves ∙ ap Some same;
-        answered = ap live done.leaves ∙ quit_live h.mid done.desk (Some h.mid.desk.life);
+        messages = done.messages;
+        answered = admitted_out s s2 a e h ∙ ap (λ (x : Effect). x.out) done.adds
+            ∙ ap (λ (x : State H semantics.Call semantics.Task). map request done.messages ++ map cancelled (live x)) h.changes.leaves;
+        none_left = ap live done.leaves ∙ quit_live h.mid done.desk (Some h.mid.desk.life);
       }
 
 -- ---- a fall

@@ -1,8 +1,10 @@
 -- What holds over whole rounds and runs.
-use Rattle.std.proofs.Common.{◌≡◌, ℕ, ◌+◌, ◌-◌, List, [], ◌∷◌, ◌++◌, length, take, map, refl, sym, ◌∙◌, ap, subst, arith, Bool, true, false, true≢false, cond, not}
-use Rattle.std.specs.Prelude.{Option, if◌then◌else◌, filter, ◌||◌, ◌&&◌}
+use Rattle.std.proofs.Common.{◌≡◌, ℕ, ◌+◌, ◌-◌, List, [], ◌∷◌, ◌++◌, length, take, map, append_assoc, take-append-drop, refl, sym, ◌∙◌, ap, subst, arith, Bool, true, false, true≢false, cond, not}
+use Rattle.std.specs.Prelude.{Option, if◌then◌else◌, filter, ◌||◌, ◌&&◌, IsPermutation}
 use Rattle.std.specs.List.{list_any}
+use Rattle.std.proofs.lemmas.List.{append-nil, map-append}
 use Rattle.std.proofs.lemmas.List.Folds.{list_any-append}
+use Rattle.std.proofs.lemmas.List.Sorted.{IsPermutation-refl, IsPermutation-cons, IsPermutation-append_left, IsPermutation-middle, IsPermutation-trans}
 use Rattle.lsp_rpc.specs.Message.{IdData, null_id, request, response}
 use Rattle.lsp_rpc.specs.Ids.{same_id}
 use Rattle.lsp_desk.specs.declared.life.Life.{Life}
@@ -12,17 +14,17 @@ use Rattle.lsp_desk.proofs.TraceLemmas.{makes_life}
 use Rattle.lsp_session.specs.declared.table.Entry.{Entry}
 use Rattle.lsp_session.specs.Item.{ItemData, message, fault, tick}
 use Rattle.lsp_session.specs.Semantics.{Semantics, IsLawful, Held, Progress, Pending, Done}
-use Rattle.lsp_session.specs.Admission.{Verdict, is_live}
-use Rattle.lsp_session.specs.State.{Work, State, Effect, live, opening, marked, dues, moved_slots, IsSettled, FitsLife, WorksFit}
-use Rattle.lsp_session.specs.Run.{Applies, after_poll, Order, Poll, PollsAt, Picked, Step, Run, took, is_exit, is_exit_entry, has_exit}
+use Rattle.lsp_session.specs.Admission.{Verdict, Silence, is_live, quiet, cancels, cancel_live, cancel, by_layer, by_entry}
+use Rattle.lsp_session.specs.State.{Work, State, Effect, live, initializing, opening, marked, dues, moved_slots, IsSettled, FitsLife, WorksFit}
+use Rattle.lsp_session.specs.Run.{Applies, admission_of, occasion, after_poll, Order, Poll, PollsAt, Picked, Step, Run, took, is_exit, is_exit_entry, has_exit}
 use Rattle.lsp_session.specs.Count.{one_if, times, answers_to, faults}
-use Rattle.lsp_session.specs.Laws.{FactsHold, AnsweredOnce, CancelledOnce, RoundsPollAll, is_fresh}
+use Rattle.lsp_session.specs.Laws.{FactsHold, AnsweredOnce, CancelledOnce, RoundsPollAll, is_fresh, polled_by}
 use Rattle.lsp_session.proofs.FitLemmas.{or_none, none_both, none_out, no_length}
 use Rattle.lsp_session.proofs.FactLemmas.{fits_opening, step_fits}
 use Rattle.lsp_session.proofs.CountLemmas.{run_counts, run_says, step_settled, step_table, polls_settled}
 use Rattle.lsp_session.proofs.LifeLemmas.{rounds_exited, step_lives}
-use Rattle.lsp_session.proofs.LawLemmas.{exits}
-use Rattle.lsp_session.proofs.RoundLemmas.{left, poll_falls, dues-marked, dues-cons}
+use Rattle.lsp_session.proofs.LawLemmas.{exits, admitted_out}
+use Rattle.lsp_session.proofs.RoundLemmas.{dues-cons}
 use Rattle.lsp_session.proofs.WorkLemmas.{cancelled_live, marked_settled}
 
 -- ---- facts of runs
@@ -131,6 +133,16 @@ module _ {H C T : Type 0} (semantics : Semantics H C T) (laws : IsLawful semanti
 
   pub cancelled : {P : Type 0} (order : Order P) → CancelledOnce semantics order
   cancelled order = record {
+    cancels = λ s item i q is.
+        ap (λ x. (admission_of semantics s x).verdict) q.item_is
+        ∙ ap (λ x. (by_entry (occasion s) semantics.reads q.r x).verdict) q.found
+        ∙ ap (λ x. (by_layer (occasion s) q.r q.entry (semantics.reads q.entry q.r.params) x).verdict) q.in_layer
+        ∙ ap (λ x. (cancel {C = semantics.Call} (live s) (initializing s) x q.r.params).verdict) q.no_id
+        ∙ ap (λ x. (cancel_live {C = semantics.Call} (live s) (initializing s) x).verdict) q.names
+        ∙ ap (λ x. (if x then cancels {C = semantics.Call} (initializing s) i else quiet Silence).verdict) is;
+    answered = λ s s2 item i e is h.
+        let done = subst (λ (v : Verdict semantics.Call). Applies semantics h.mid v h.rest s2) is h.applies in
+        admitted_out semantics s s2 _ e h ∙ ap (λ (x : Effect). x.out) done.0;
     gone = λ s s2 item i e q is h.
         let done = subst (λ (v : Verdict semantics.Call). Applies semantics h.mid v h.rest s2) is h.applies in
         ap (λ (x : State H semantics.Call semantics.Task). is_live i (live x)) done.1 ∙ ap (is_live i) (cancelled_live h.mid i) ∙ taken_out i (live h.mid);
@@ -169,6 +181,54 @@ module _ {C T : Type 0} where
       at true k q ih = absurd (omega (arith, k))
       at false k q ih = let parts = or_none (is_fresh w.phase) (list_any untried ws) q in none_both (is_fresh w.phase) _ parts.0 (ih (omega (arith, k)) parts.1)
 
+-- one list is another in another order, and so are lists that are equal to these
+permuted_as : {A : Type 0} (xs xs2 ys ys2 : List A) → xs2 ≡ xs → ys ≡ ys2 → IsPermutation xs ys → IsPermutation xs2 ys2
+permuted_as xs xs2 ys ys2 p q h = subst (λ l. IsPermutation l ys2) (sym p) (subst (λ l. IsPermutation xs l) q h)
+
+module _ {C T : Type 0} where
+  -- those that are still to be polled
+  abbrev due_of : List (Work C T) → List (Work C T)
+  due_of ws = filter (λ w. w.due) ws
+
+  due_of-append : (xs ys : List (Work C T)) → due_of (xs ++ ys) ≡ due_of xs ++ due_of ys
+  due_of-append [] ys = refl
+  due_of-append (x ∷ xs) ys = at x.due (due_of-append xs ys)
+    where
+      at : (b : Bool) → due_of (xs ++ ys) ≡ due_of xs ++ due_of ys → cond b (x ∷ due_of (xs ++ ys)) (due_of (xs ++ ys)) ≡ cond b (x ∷ due_of xs) (due_of xs) ++ due_of ys
+      at true ih = ap (λ l. x ∷ l) ih
+      at false ih = ih
+
+  due_of-marked : (ws : List (Work C T)) → due_of (map marked ws) ≡ map marked ws
+  due_of-marked [] = refl
+  due_of-marked (w ∷ ws) = ap (λ l. marked w ∷ l) (due_of-marked ws)
+
+  due_of-none : (ws : List (Work C T)) → dues ws ≡ 0 → due_of ws ≡ []
+  due_of-none [] n = refl
+  due_of-none (w ∷ ws) n = at w.due (sym (dues-cons w ws) ∙ n) (due_of-none ws)
+    where
+      at : (b : Bool) → cond b 1 0 + dues ws ≡ 0 → (dues ws ≡ 0 → due_of ws ≡ []) → cond b (w ∷ due_of ws) (due_of ws) ≡ []
+      at true k ih = absurd (omega (arith, k))
+      at false k ih = ih (omega (arith, k))
+
+  due_of-mid : (before : List (Work C T)) (w : Work C T) (after : List (Work C T)) → w.due ≡ true → due_of (before ++ w ∷ after) ≡ due_of before ++ w ∷ due_of after
+  due_of-mid before w after due = due_of-append before (w ∷ after) ∙ ap (λ (b : Bool). due_of before ++ cond b (w ∷ due_of after) (due_of after)) due
+
+-- the calls that were polled, and those that are still to be, are those that were to be polled and those that came to a slot
+record Each {H C T : Type 0} (s s2 : State H C T) (polled : List (Work C T)) : Type 0 where
+  came : List (Work C T)
+  waited : s.queue ≡ came ++ s2.queue
+  once : IsPermutation (due_of s.slots ++ map marked came) (polled ++ due_of s2.slots)
+
+each_on : {H C T : Type 0} (s mid s2 : State H C T) (w : Work C T) (polled : List (Work C T)) → Each s mid (w ∷ []) → Each mid s2 polled → Each s s2 (w ∷ polled)
+each_on s mid s2 w polled a b = record {
+  came = a.came ++ b.came;
+  waited = a.waited ∙ ap (λ l. a.came ++ l) b.waited ∙ sym (append_assoc a.came b.came s2.queue);
+  once = IsPermutation-trans _ _ _
+      (permuted_as _ _ _ _ (ap (λ l. due_of s.slots ++ l) (map-append marked a.came b.came) ∙ sym (append_assoc (due_of s.slots) (map marked a.came) (map marked b.came))) refl
+      (IsPermutation-append_left (map marked b.came) _ _ a.once))
+      (IsPermutation-cons w _ _ b.once);
+}
+
 module _ {H C T : Type 0} (semantics : Semantics H C T) where
   poll_tried : (s s2 : State H semantics.Call semantics.Task) (place : ℕ) (e : Effect) → list_any untried s.slots ≡ false → Poll semantics s place e s2 → list_any untried s2.slots ≡ false
   poll_tried s s2 place e q p = ap (λ (x : State H semantics.Call semantics.Task). list_any untried x.slots) p.leaves ∙ at p.progress
@@ -184,26 +244,54 @@ module _ {H C T : Type 0} (semantics : Semantics H C T) where
       at (Pending t) = held_tried p.before p.after p.work (record { id = p.work.id; entry = p.work.entry; phase = Held t; due = false }) refl stood
       at (Done outcome) = moved_tried s.max (p.before ++ p.after) s.queue (none_out untried p.before p.work p.after stood)
 
+  poll_each : (s s2 : State H semantics.Call semantics.Task) (place : ℕ) (e : Effect) (p : Poll semantics s place e s2) → Each s s2 (p.work ∷ [])
+  poll_each s s2 place e p = subst (λ x. Each s x (p.work ∷ [])) (sym p.leaves) (at p.progress)
+    where
+      stood : due_of s.slots ≡ due_of p.before ++ p.work ∷ due_of p.after
+      stood = ap due_of p.stands ∙ due_of-mid p.before p.work p.after p.is_due
+
+      at : (progress : Progress semantics.Task) → Each s (after_poll s p.before p.work p.after p.service progress p.desk) (p.work ∷ [])
+      at (Pending t) = record {
+        came = [];
+        waited = refl;
+        once = permuted_as _ _ _ _ (append-nil (due_of s.slots) ∙ stood)
+            (ap (λ l. p.work ∷ l) (sym (due_of-append p.before (record { id = p.work.id; entry = p.work.entry; phase = Held t; due = false } ∷ p.after))))
+            (IsPermutation-middle (due_of p.before) p.work (due_of p.after));
+      }
+      at (Done outcome) =
+          let came = take (s.max - length (p.before ++ p.after)) s.queue in
+          record {
+            came = came;
+            waited = sym (take-append-drop (s.max - length (p.before ++ p.after)) s.queue);
+            once = permuted_as _ _ _ _ (ap (λ l. l ++ map marked came) stood)
+                (ap (λ l. p.work ∷ l) (ap (λ l. l ++ map marked came) (sym (due_of-append p.before p.after)) ∙ ap (λ l. due_of (p.before ++ p.after) ++ l) (sym (due_of-marked came))
+                ∙ sym (due_of-append (p.before ++ p.after) (map marked came))))
+                (IsPermutation-append_left (map marked came) _ _ (IsPermutation-middle (due_of p.before) p.work (due_of p.after)));
+          }
+
   module _ {P : Type 0} (order : Order P) where
     polls_tried : (s s2 : State H semantics.Call semantics.Task) (p p2 : P) (places : List ℕ) (e : Effect) → list_any untried s.slots ≡ false → PollsAt semantics order s p places e s2 p2 → list_any untried s2.slots ≡ false
     polls_tried s s2 p p2 [] e q h = ap (λ (x : State H semantics.Call semantics.Task). list_any untried x.slots) h.1 ∙ q
     polls_tried s s2 p p2 (place ∷ places) e q h = polls_tried h.0 s2 _ p2 places h.2 (poll_tried s h.0 place h.1 q h.3) h.5
 
-    polls_left : (s s2 : State H semantics.Call semantics.Task) (p p2 : P) (places : List ℕ) (e : Effect) → PollsAt semantics order s p places e s2 p2 → length places + left s2 ≡ left s
-    polls_left s s2 p p2 [] e h = let same : left s2 ≡ left s = ap left h.1 in omega (arith, same)
-    polls_left s s2 p p2 (place ∷ places) e h =
-        let first : left h.0 + 1 ≡ left s = poll_falls semantics s h.0 place h.1 h.3 in
-        let rest = polls_left h.0 s2 _ p2 places h.2 h.5 in
-        omega (arith, first, rest)
+    polls_each : (s s2 : State H semantics.Call semantics.Task) (p p2 : P) (places : List ℕ) (e : Effect) (h : PollsAt semantics order s p places e s2 p2) → Each s s2 (polled_by semantics order s p places e s2 p2 h)
+    polls_each s s2 p p2 [] e h = record {
+      came = [];
+      waited = ap (λ (x : State H semantics.Call semantics.Task). x.queue) (sym h.1);
+      once = permuted_as _ _ _ _ refl (append-nil (due_of s.slots) ∙ ap (λ (x : State H semantics.Call semantics.Task). due_of x.slots) (sym h.1)) (IsPermutation-refl _);
+    }
+    polls_each s s2 p p2 (place ∷ places) e h = each_on s h.0 s2 h.3.work _ (poll_each s h.0 place h.1 h.3) (polls_each h.0 s2 (order.later p (dues s.slots)) p2 places h.2 h.5)
 
   pub polled : {P : Type 0} (order : Order P) → RoundsPollAll semantics order
   polled order s s2 p p2 e q h =
       let start : State H semantics.Call semantics.Task = record s { slots = map marked s.slots } in
-      let n : length h.places + left s2 ≡ left start = polls_left order start s2 p p2 h.places e h.polls in
       let none : dues s2.slots ≡ 0 = h.none_left in
-      let all : dues (map marked s.slots) ≡ length s.slots = dues-marked s.slots in
+      let each = polls_each order start s2 p p2 h.places e h.polls in
       record {
-        once = omega (arith, n, none, all);
+        came = each.came;
+        waited = each.waited;
+        once = permuted_as _ _ _ _ (map-append marked s.slots each.came ∙ ap (λ l. l ++ map marked each.came) (sym (due_of-marked s.slots)))
+            (ap (λ l. polled_by semantics order start p h.places e s2 p2 h.polls ++ l) (due_of-none s2.slots none) ∙ append-nil _) each.once;
         polled = all_tried s2.slots none (polls_tried order start s2 p p2 h.places e (marked_tried s.slots) h.polls);
         full = (polls_settled semantics order start s2 p p2 h.places e (marked_settled s q) h.polls).slots_full;
       }

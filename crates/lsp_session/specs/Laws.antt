@@ -1,5 +1,5 @@
 -- What every session keeps, in words.
-use Rattle.std.specs.Prelude.{◌≡◌, ◌≢◌, ◌<◌, ◌≤◌, ◌+◌, ℕ, List, [], ◌∷◌, Bool, true, false, length, Option, Some, Err}
+use Rattle.std.specs.Prelude.{◌≡◌, ◌≢◌, ◌<◌, ◌≤◌, ◌++◌, ℕ, List, [], ◌∷◌, Bool, true, false, length, map, IsPermutation, Option, Some, None, Err}
 use Rattle.std.specs.List.{list_any}
 use Rattle.lsp_rpc.specs.declared.code.ErrorCode.TheVariants.{InvalidRequest}
 use Rattle.lsp_rpc.specs.Message.{IdData, null_id, RequestData, MessageData, request, error_with_code, not_initialized_error}
@@ -12,9 +12,9 @@ use Rattle.lsp_session.specs.declared.table.Layer.{Layer}
 use Rattle.lsp_session.specs.declared.table.Layer.TheVariants.{Initialize, Exit, Cancel}
 use Rattle.lsp_session.specs.Item.{ItemData, message}
 use Rattle.lsp_session.specs.Semantics.{Semantics, Phase, Fresh, Held}
-use Rattle.lsp_session.specs.Admission.{Cancels, Starts, is_live}
-use Rattle.lsp_session.specs.State.{State, Effect, IsSettled, FitsLife, live, opening}
-use Rattle.lsp_session.specs.Run.{answer, Admits, admission_of, Order, Poll, Round, Drains, Picked, Step, Run, is_exit, has_exit}
+use Rattle.lsp_session.specs.Admission.{Cancels, Starts, is_live, cancelled_id}
+use Rattle.lsp_session.specs.State.{Work, State, Effect, IsSettled, FitsLife, live, opening, marked, dues}
+use Rattle.lsp_session.specs.Run.{answer, cancelled, Admits, admission_of, Order, Poll, PollsAt, Round, Drains, Picked, Step, Run, is_exit, has_exit}
 use Rattle.lsp_session.specs.Count.{times, answers_to, owed, Counts}
 
 -- ---- the life cycle of LSP 3.17
@@ -64,15 +64,19 @@ pub record NothingBeginsAfterShutdown {H C T : Type 0} (semantics : Semantics H 
   pub refuses : (s s2 : State H semantics.Call semantics.Task) (i : IdData) (layer : Layer) (e : Effect) → s.desk.life ≡ ShutDown → layer ≢ Exit → Requests semantics s i layer e s2
       → IsAnswered s (answer i (Err (error_with_code InvalidRequest))) e s2
 
--- `exit` always ends a session: it is noted in which life it came, and no request is left
-pub record HasEnded {H C T : Type 0} (s s2 : State H C T) : Type 0 where
+-- `exit` always ends a session: it is noted in which life it came, each request that was live is answered `RequestCancelled`,
+-- and none is left
+pub record HasEnded {H C T : Type 0} (s : State H C T) (e : Effect) (s2 : State H C T) : Type 0 where
   pub life : s2.desk.life ≡ Exited
   pub noted : s2.exited ≡ Some s.desk.life
-  pub answered : live s2 ≡ []
+  -- after these messages of the server's own the answers are put out, in order of admission, and nothing else is
+  pub messages : List RequestData
+  pub answered : e.out ≡ map request messages ++ map cancelled (live s)
+  pub none_left : live s2 ≡ []
 
 abbrev pub ExitEnds : {H C T : Type 0} → Semantics H C T → Type 0
 ExitEnds {H} semantics = (s s2 : State H semantics.Call semantics.Task) (item : ItemData) (e : Effect) → is_exit (semantics.find s.service) item ≡ true
-    → Admits semantics s (admission_of semantics s item) e s2 → HasEnded s s2
+    → Admits semantics s (admission_of semantics s item) e s2 → HasEnded s e s2
 
 -- a life falls only from Initializing to Uninitialized
 abbrev pub FallsInTime : Life → Life → Type 0
@@ -106,9 +110,25 @@ pub record AnsweredOnce {H C T P : Type 0} (semantics : Semantics H C T) (order 
   pub after_exit : (rounds : ℕ) (service : H) (items : List ItemData) (e : Effect) (last : State H semantics.Call semantics.Task)
       → Serves semantics order rounds service items e last → has_exit (semantics.find service) items ≡ true → live last ≡ []
 
--- after the answer to a cancel the request has no other, until a newer one takes its id
+-- the item is a cancel that names this id
+pub record IsCancelOf {H C T : Type 0} (semantics : Semantics H C T) (service : H) (item : ItemData) (i : IdData) : Type 0 where
+  pub r : RequestData
+  pub entry : Entry
+  pub item_is : item ≡ message (request r)
+  pub no_id : r.id ≡ None
+  pub found : semantics.find service r.method ≡ Some entry
+  pub in_layer : entry.layer ≡ Cancel
+  pub names : cancelled_id r.params ≡ Some i
+
+-- a live request that is cancelled is answered so, and after that answer it has no other, until a newer one takes its id
 pub record CancelledOnce {H C T P : Type 0} (semantics : Semantics H C T) (order : Order P) : Type 0 where
-  -- it is answered and gone
+  -- a cancel that names a live id cancels that request
+  pub cancels : (s : State H semantics.Call semantics.Task) (item : ItemData) (i : IdData) → IsCancelOf semantics s.service item i → is_live i (live s) ≡ true
+      → (admission_of semantics s item).verdict ≡ Cancels i
+  -- which is answered `RequestCancelled`, and nothing else is put out
+  pub answered : (s s2 : State H semantics.Call semantics.Task) (item : ItemData) (i : IdData) (e : Effect) → (admission_of semantics s item).verdict ≡ Cancels i
+      → Admits semantics s (admission_of semantics s item) e s2 → e.out ≡ cancelled i ∷ []
+  -- and is gone
   pub gone : (s s2 : State H semantics.Call semantics.Task) (item : ItemData) (i : IdData) (e : Effect) → IsSettled s → (admission_of semantics s item).verdict ≡ Cancels i
       → Admits semantics s (admission_of semantics s item) e s2 → is_live i (live s2) ≡ false
   -- and what is gone is not answered
@@ -123,11 +143,23 @@ abbrev pub is_fresh : {C T : Type 0} → Phase C T → Bool
 is_fresh (Fresh c) = true
 is_fresh (Held t) = false
 
--- each call that has a slot, or comes to one, was polled once, and none waits while a slot is free
-pub record PollsAll {H C T : Type 0} (s : State H C T) (places : List ℕ) (s2 : State H C T) : Type 0 where
-  pub once : length places + length s2.queue ≡ length s.slots + length s.queue
+-- the calls that are polled, one after another, each as it stood before its poll
+abbrev pub polled_by : {H C T P : Type 0} (semantics : Semantics H C T) (order : Order P) (s : State H semantics.Call semantics.Task) (p : P) (places : List ℕ) (e : Effect)
+    (s2 : State H semantics.Call semantics.Task) (p2 : P) → PollsAt semantics order s p places e s2 p2 → List (Work semantics.Call semantics.Task)
+polled_by semantics order s p [] e s2 p2 h = []
+polled_by semantics order s p (place ∷ places) e s2 p2 h = h.3.work ∷ polled_by semantics order h.0 (order.later p (dues s.slots)) places h.2 s2 p2 h.5
+
+-- each call that has a slot, or comes to one, was polled once, no other was, and none waits while a slot is free
+pub record PollsAll {H C T P : Type 0} (semantics : Semantics H C T) (order : Order P) (s : State H semantics.Call semantics.Task) (p : P) (e : Effect) (s2 : State H semantics.Call semantics.Task) (p2 : P)
+    (h : Round semantics order s p e s2 p2) : Type 0 where
+  -- of those that waited these came to a slot, and the others still wait
+  pub came : List (Work semantics.Call semantics.Task)
+  pub waited : s.queue ≡ came ++ s2.queue
+  -- those that had a slot and those that came to one are the calls that were polled, each once, in another order
+  pub once : IsPermutation (map marked (s.slots ++ came)) (polled_by semantics order _ p h.places e s2 p2 h.polls)
+  -- what stands in a slot was polled
   pub polled : list_any (λ w. is_fresh w.phase) s2.slots ≡ false
   pub full : 0 < length s2.queue → s2.max ≤ length s2.slots
 
 abbrev pub RoundsPollAll : {H C T P : Type 0} → Semantics H C T → Order P → Type 0
-RoundsPollAll {H} {P = P} semantics order = (s s2 : State H semantics.Call semantics.Task) (p p2 : P) (e : Effect) → IsSettled s → (h : Round semantics order s p e s2 p2) → PollsAll s h.places s2
+RoundsPollAll {H} {P = P} semantics order = (s s2 : State H semantics.Call semantics.Task) (p p2 : P) (e : Effect) → IsSettled s → (h : Round semantics order s p e s2 p2) → PollsAll semantics order s p e s2 p2 h

@@ -26,7 +26,8 @@ pub fn nothing_begins_after_shutdown<D: Caller, H: Handlers<D>>()
     ensures { NothingBeginsAfterShutdown H.semantics }
 {}
 
-/// `exit` always ends a session, and leaves no request live (LSP 3.17, "Exit Notification").
+/// `exit` always ends a session: each request that was live is answered `RequestCancelled`, in order
+/// of admission, and none is left (LSP 3.17, "Exit Notification").
 pub fn exit_ends<D: Caller, H: Handlers<D>>()
     ensures { ExitEnds H.semantics }
 {}
@@ -47,13 +48,14 @@ pub fn answered_once<D: Caller, H: Handlers<D>, P: Pick>()
     ensures { AnsweredOnce H.semantics (order_by P.gives P.later) }
 {}
 
-/// After the answer to a cancel the request has no other (LSP 3.17, "Cancellation Support").
+/// A live request that is cancelled is answered `RequestCancelled`, and after this answer it has no
+/// other (LSP 3.17, "Cancellation Support").
 pub fn cancelled_once<D: Caller, H: Handlers<D>, P: Pick>()
     ensures { CancelledOnce H.semantics (order_by P.gives P.later) }
 {}
 
-/// A round polls each call that has a slot once, notifications too, and leaves none waiting while a
-/// slot is free.
+/// A round polls each call that has a slot or comes to one once, notifications too, polls no other,
+/// and leaves none waiting while a slot is free.
 pub fn rounds_poll_all<D: Caller, H: Handlers<D>, P: Pick>()
     ensures { RoundsPollAll H.semantics (order_by P.gives P.later) }
 {}
