@@ -33,7 +33,7 @@ pub enum ServeError {
     /// All reads that were granted were made.
     #[error("reads spent")]
     ReadsSpent,
-    /// The desk has no turns left.
+    /// The desk has no turns left; the number of the last turn, 2^64 - 1.
     #[error("desk spent")]
     DeskSpent(u64),
     /// Out of memory.
