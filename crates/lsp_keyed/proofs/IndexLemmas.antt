@@ -1,5 +1,5 @@
 -- The entries of a key, before and after each change.
-use Rattle.std.proofs.Common.{◌≡◌, ◌<◌, ◌≤◌, ◌+◌, ℕ, suc, zero, List, [], ◌∷◌, ◌++◌, Bool, true, false, cond, not, ◌==◌, Option, Some, None, option_map, refl, sym, ap, ◌∙◌, subst, arith, true≢false, nat_cmp, Less, Equal, Greater, nat_lt, ltb-true, length, take, drop, rules}
+use Rattle.std.proofs.Common.{◌≡◌, ◌<◌, ◌+◌, ℕ, suc, zero, List, [], ◌∷◌, ◌++◌, Bool, true, false, cond, not, ◌==◌, Option, Some, None, option_map, refl, sym, ap, ◌∙◌, subst, arith, nat_cmp, Less, Equal, Greater, nat_lt, ltb-true, length, take, drop, rules}
 use Rattle.std.specs.Prelude.{is_some, ◌||◌, slice_get, ◌^◌, ◌-◌, SomeIff, IfSome}
 use Rattle.std.specs.List.{find, list_any, before_first, after_first, position_or_len}
 use Rattle.std.specs.Ordering.{is_eq, match_ordering}
@@ -10,7 +10,7 @@ use Rattle.std.specs.HashMap.{HashMap, get}
 use Rattle.std.proofs.lemmas.Bool.{eqb-true, eq-eqb}
 use Rattle.std.proofs.lemmas.Grind.{common_steps}
 use Rattle.lsp_keyed.specs.declared.keyed.Numbers.{Numbers}
-use Rattle.lsp_keyed.specs.Items.{has_key, has_number, IsAbove}
+use Rattle.lsp_keyed.specs.Items.{has_number, IsAbove, next_number}
 use Rattle.lsp_keyed.specs.Index.{listed, first, rest, AreAbove, AreRising, numbers_of, IsIndexed}
 
 -- ---- a number among numbers
@@ -113,6 +113,13 @@ module _ {K V : Type 0} where
       or_true : (b : Bool) {c : Bool} → c ≡ true → (b || c) ≡ true
       or_true true h = refl
       or_true false h = h
+
+  pub next_last : (i : ℕ) (e : ℕ × (K × V)) (es : List (ℕ × (K × V))) → suc i ≡ length es → slice_get es i ≡ Some e → next_number es ≡ e.0 + 1
+  next_last i e [] last at = absurd (cc)
+  next_last zero e (x ∷ []) last at = let same : x ≡ e = cc in ap (λ (y : ℕ × (K × V)). y.0 + 1) same
+  next_last zero e (x ∷ y ∷ es) last at = absurd (omega arith)
+  next_last (suc i) e (x ∷ []) last at = absurd (cc)
+  next_last (suc i) e (x ∷ y ∷ es) last at = next_last i e (y ∷ es) (omega arith) at
 
   -- ---- an entry after the others
 

@@ -1,5 +1,5 @@
 -- A list of entries, each with a number, a key and a value. The numbers rise.
-use Rattle.std.specs.Prelude.{ℕ, ◌<◌, ◌==◌, List, [], ◌∷◌, Bool}
+use Rattle.std.specs.Prelude.{ℕ, ◌<◌, ◌+◌, ◌==◌, List, [], ◌∷◌, Bool}
 
 module _ {K V : Type 0} where
   -- the entry has a key that is equal to this one
@@ -13,3 +13,9 @@ module _ {K V : Type 0} where
   abbrev pub IsAbove : ℕ → List (ℕ × (K × V)) → Type 0
   IsAbove n [] = Unit {0}
   IsAbove n (e ∷ es) = (e.0 < n) × IsAbove n es
+
+  -- the number after that of the last entry, and 0 where there is none
+  abbrev pub next_number : List (ℕ × (K × V)) → ℕ
+  next_number [] = 0
+  next_number (e ∷ []) = e.0 + 1
+  next_number (e ∷ f ∷ es) = next_number (f ∷ es)

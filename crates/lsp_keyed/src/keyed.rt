@@ -1,9 +1,9 @@
 //! A list whose entries are found by their keys.
-ghost use Rattle.std.specs.Prelude.{◌≡◌, ◌↔◌, ◌^◌, ◌-◌, ◌+◌, ◌≤◌, ◌++◌, [], ◌∷◌, true, None, IsTrue, IfSome, OnOk, OnErr, length, map, option_map, if◌then◌else◌};
+ghost use Rattle.std.specs.Prelude.{◌≡◌, ◌↔◌, ◌^◌, ◌-◌, ◌+◌, ◌<◌, ◌≤◌, ◌++◌, [], ◌∷◌, true, None, IsTrue, IfSome, SomeIff, OnOk, OnErr, length, map, option_map, if◌then◌else◌};
 ghost use Rattle.std.specs.List.{find, list_any, before_first, after_first};
 ghost use Rattle.std.specs.HashMap.{get};
 ghost use Rattle.std.specs.Vec.{vec_len, vec_capacity};
-ghost use Rattle.lsp_keyed.specs.Items.{has_key, has_number as has_number_lem, IsAbove};
+ghost use Rattle.lsp_keyed.specs.Items.{has_key, has_number as has_number_lem, IsAbove, next_number};
 ghost use Rattle.lsp_keyed.specs.Index.{listed, first, rest, IsIndexed};
 
 use no_memory::NoMemory;
@@ -98,8 +98,10 @@ impl<K: Eq + Hash + Drop, V: Drop> Keyed<K, V> {
         }
     }
 
-    /// A number above those of all entries. There is none where an entry has the last one.
+    /// The number after that of the last entry, which is above those of all, and 0 where there is no
+    /// entry. There is none where an entry has the last number.
     pub fn next(&self) -> Option<u64>
+        ensures follows { SomeIff result (next_number self.now < 2 ^ 64) (next_number self.now) }
         ensures above { IfSome result (λ n. IsAbove n self.now) }
         ensures none { result ≡ None → list_any (has_number_lem (2 ^ 64 - 1)) self.now ≡ true }
     {

@@ -1,5 +1,4 @@
-use Rattle.std.proofs.Common.{◌<◌, ◌≤◌, ◌-◌, ◌≡◌, true, suc, subst, sym, length, arith, rules, ltb-true}
-use Rattle.std.specs.Prelude.{IsTrue, nat_lt}
+use Rattle.std.proofs.Common.{◌<◌, ◌-◌, ◌≡◌, suc, subst, sym, length, arith, rules}
 use Rattle.lsp_keyed.specs.Items.{IsAbove}
 use Rattle.lsp_keyed.proofs.IndexLemmas.{above_last, last_above}
 use Rattle.lsp_keyed.proofs.keyed.Keyed.is_above.Goals as goal

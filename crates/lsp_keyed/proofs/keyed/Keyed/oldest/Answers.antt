@@ -1,4 +1,4 @@
-use Rattle.std.proofs.Common.{◌≡◌, sym, ◌∙◌, ap, rules}
+use Rattle.std.proofs.Common.{◌≡◌, ◌∙◌, ap, rules}
 use Rattle.std.specs.Prelude.{option_map}
 use Rattle.std.specs.HashMap.{get}
 use Rattle.std.specs.List.{find}
