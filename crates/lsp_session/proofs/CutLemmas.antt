@@ -1,0 +1,109 @@
+-- What a call that fails has put out.
+use Rattle.std.proofs.Common.{◌≡◌, inl, inr, ℕ, ◌%◌, List, [], ◌∷◌, ◌++◌, map, true, refl, sym, ◌∙◌, ap, subst, append_assoc}
+use Rattle.std.specs.Prelude.{Some}
+use Rattle.std.proofs.lemmas.List.{append-nil, append_cancel_left}
+use Rattle.lsp_rpc.specs.Message.{RequestData, MessageData, request}
+use Rattle.lsp_desk.specs.Trace.{Makes}
+use Rattle.lsp_desk.specs.Meaning.{Meaning, Grows, Grown, PollsOn}
+use Rattle.lsp_desk.proofs.TraceLemmas.{grows_none, grows_on, makes_of}
+use Rattle.lsp_session.specs.Semantics.{Semantics}
+use Rattle.lsp_session.specs.State.{State, Effect, both, dues, live, moved_up}
+use Rattle.lsp_session.specs.Run.{Order, Poll, SomePolls, Quits, closed, cancelled}
+use Rattle.lsp_session.specs.Session.{SessionView, Advances, Extends, PutsSome, IsCut, PutsPart}
+use Rattle.lsp_session.proofs.RoundLemmas.{Rounding, polls_more}
+use Rattle.lsp_session.proofs.WorkLemmas.{quit_state}
+
+-- ---- messages
+
+-- all of them were put out
+pub some_all : (old all new : List MessageData) → new ≡ old ++ all → PutsSome old all new
+some_all old all new is = record { some = all; rest = []; all_are = sym (append-nil all); is = is }
+
+-- some of those that come first
+pub some_first : (old first rest new : List MessageData) → PutsSome old first new → PutsSome old (first ++ rest) new
+some_first old first rest new p = record { some = p.some; rest = p.rest ++ rest; all_are = ap (λ l. l ++ rest) p.all_are ∙ append_assoc p.some p.rest rest; is = p.is }
+
+-- those that come first, and some of the others
+pub some_after : (old mid new first rest : List MessageData) → mid ≡ old ++ first → PutsSome mid rest new → PutsSome old (first ++ rest) new
+some_after old mid new first rest is p = record {
+  some = first ++ p.some;
+  rest = p.rest;
+  all_are = ap (λ l. first ++ l) p.all_are ∙ sym (append_assoc first p.some p.rest);
+  is = p.is ∙ ap (λ l. l ++ p.some) is ∙ append_assoc old first p.some;
+}
+
+-- those that were put out and those that are left are all of them
+pub some_left : (old all new left : List MessageData) → new ++ left ≡ old ++ all → Extends old new → PutsSome old all new
+some_left old all new left total p = record {
+  some = p.more;
+  rest = left;
+  all_are = append_cancel_left old all (p.more ++ left) (sym total ∙ ap (λ l. l ++ left) p.is ∙ append_assoc old p.more left);
+  is = p.is;
+}
+
+-- ---- calls
+
+pub grown_none : {D : Type 0} (m : Meaning D) (d : D) → Grown m d d
+grown_none m d = record { trace = []; grows = grows_none m d }
+
+module _ {H D C T : Type 0} (m : Meaning D) where
+  -- all calls on the desk were made
+  pub cut_at : (P : State H C T → Effect → State H C T → Type 0) (old new : SessionView H D C T) (e : Effect) (last : State H C T) → P old.state e last → Grows m old.desk e.trace new.desk
+      → PutsSome old.out e.out new.out → IsCut m old P new
+  cut_at P old new e last does grows puts = record { effect = e; last = last; does = does; desk = new.desk; grows = grows; further = grown_none m new.desk; puts = puts }
+
+  -- one thing was done, and then the call was cut off
+  pub cut_after : (P Q R : State H C T → Effect → State H C T → Type 0) (old mid new : SessionView H D C T) (a : Advances m old P mid)
+      → ((e : Effect) (last : State H C T) → Q mid.state e last → R old.state (both a.effect e) last) → IsCut m mid Q new → IsCut m old R new
+  cut_after P Q R old mid new a joins b = record {
+    effect = both a.effect b.effect;
+    last = b.last;
+    does = joins b.effect b.last b.does;
+    desk = b.desk;
+    grows = grows_on m old.desk mid.desk b.desk a.effect.trace b.effect.trace a.grows b.grows;
+    further = b.further;
+    puts = some_after old.out mid.out new.out a.effect.out b.effect.out a.out b.puts;
+  }
+
+  -- what was done first put out nothing
+  pub part_after : (P Q R : State H C T → Effect → State H C T → Type 0) (old mid new : SessionView H D C T) (a : Advances m old P mid) → a.effect.out ≡ []
+      → ((e : Effect) (last : State H C T) → Q mid.state e last → R old.state (both a.effect e) last) → PutsPart m mid Q new → PutsPart m old R new
+  part_after P Q R old mid new a none joins (inl is) = inl (is ∙ a.out ∙ ap (λ l. old.out ++ l) none ∙ append-nil old.out)
+  part_after P Q R old mid new a none joins (inr b) = inr (cut_after P Q R old mid new a joins b)
+
+module _ {H D C T P : Type 0} (semantics : Semantics H C T) (m : Meaning D) (order : Order P) where
+  -- a round has come so far, and the next poll failed
+  pub part_round : (old mid new : SessionView H D semantics.Call semantics.Task) (p q : P) (place : ℕ) → Rounding semantics m order old p mid q
+      → place ≡ order.gives q (dues mid.state.slots) % dues mid.state.slots → Grown m mid.desk new.desk
+      → PutsPart m mid (λ s e s2. Poll semantics s place e s2) new → PutsPart m old (SomePolls semantics order p) new
+  part_round old mid new p q place so_far picked grown (inl is) = inr (record {
+    effect = so_far.effect;
+    last = mid.state;
+    does = (so_far.places, q, so_far.polls);
+    desk = mid.desk;
+    grows = so_far.grows;
+    further = grown;
+    puts = some_all old.out so_far.effect.out new.out (is ∙ so_far.out);
+  })
+  part_round old mid new p q place so_far picked grown (inr b) = inr (record {
+    effect = both so_far.effect b.effect;
+    last = b.last;
+    does = (so_far.places ++ place ∷ [], order.later q (dues mid.state.slots), polls_more semantics order _ mid.state b.last p q so_far.places place so_far.effect b.effect so_far.polls b.does picked);
+    desk = b.desk;
+    grows = grows_on m old.desk mid.desk b.desk so_far.effect.trace b.effect.trace so_far.grows b.grows;
+    further = b.further;
+    puts = some_after old.out mid.out new.out so_far.effect.out b.effect.out so_far.out b.puts;
+  })
+
+-- ---- an exit whose desk was closed
+
+pub closed_quits : {H D C T : Type 0} (m : Meaning D) (s : State H C T) (old new : D) (messages : List RequestData) → s.desk ≡ m.now old → m.chief old ≡ true → (done : PollsOn m old new (λ own. own ≡ closed messages ∷ []))
+    → Quits s (record { trace = done.trace; out = map request messages ++ map cancelled (live s) }) (moved_up (quit_state s (m.now new) (Some s.desk.life)))
+closed_quits m s old new messages same chief done = record {
+  messages = messages;
+  trace = done.trace;
+  desk = m.now new;
+  makes = subst (λ d. Makes d (closed messages ∷ []) done.trace (m.now new)) (sym same) (makes_of m old new done.trace (closed messages ∷ []) chief done.grows done.holds);
+  leaves = refl;
+  adds = refl;
+}
