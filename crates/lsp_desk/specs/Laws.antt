@@ -3,6 +3,7 @@ use Rattle.std.specs.Prelude.{◌≡◌, ◌⊎◌, ◌<◌, ◌+◌, ◌++◌, 
 use Rattle.std.specs.List.{list_any}
 use Rattle.lsp_rpc.specs.Message.{ResponseData, null_id}
 use Rattle.lsp_rpc.specs.Ids.{same_id}
+use Rattle.lsp_desk.specs.declared.life.Life.{Life}
 use Rattle.lsp_desk.specs.declared.life.Life.TheVariants.{Uninitialized, Initializing, Exited}
 use Rattle.lsp_desk.specs.Lives.{rank}
 use Rattle.lsp_desk.specs.Call.{Call, is_client}
@@ -10,6 +11,7 @@ use Rattle.lsp_desk.specs.Call as calls
 use Rattle.lsp_desk.specs.Reply as replies
 use Rattle.lsp_desk.specs.Desk.{DeskState, AwaitedData, desk_step, has_id}
 use Rattle.lsp_desk.specs.Trace.{DeskEntry, Replays, times}
+use Rattle.lsp_desk.specs.Plain.{takes_no_memory}
 use Rattle.lsp_desk.specs.Flow.{all_put, all_taken, all_given, all_answered, open_tickets}
 
 -- no life follows Exited, and a life falls only from Initializing to Uninitialized
@@ -58,3 +60,18 @@ pub record AnswerGoes (d : DeskState) (r : ResponseData) : Type 0 where
 
 abbrev pub AnswersReachOldest : Type 0
 AnswersReachOldest = (d : DeskState) (r : ResponseData) → AnswerGoes d r
+
+-- these calls take no memory, whatever the state
+pub record TakeNone (d : DeskState) : Type 0 where
+  pub poll : (ticket : ℕ) → takes_no_memory d (calls.Poll ticket) ≡ true
+  pub next_id : takes_no_memory d calls.NextId ≡ true
+  pub look : takes_no_memory d calls.Look ≡ true
+  pub rise : (life : Life) → takes_no_memory d (calls.Rise life) ≡ true
+  pub fall : takes_no_memory d calls.Fall ≡ true
+  pub next : takes_no_memory d calls.Next ≡ true
+  pub take : takes_no_memory d calls.Take ≡ true
+  pub close : takes_no_memory d calls.Close ≡ true
+
+-- all calls but those of a message or an answer take no memory
+abbrev pub OthersTakeNone : Type 0
+OthersTakeNone = (d : DeskState) → TakeNone d

@@ -1,5 +1,5 @@
 //! What holds of every desk, whatever is called: functions whose contract is a law.
-ghost use Rattle.lsp_desk.specs.Laws.{LivesGoOn, EndsStay, ClientsLeaveLife, MessagesPass, TicketsAddUp, AnswersReachOldest};
+ghost use Rattle.lsp_desk.specs.Laws.{LivesGoOn, EndsStay, ClientsLeaveLife, MessagesPass, TicketsAddUp, AnswersReachOldest, OthersTakeNone};
 
 /// No life follows Exited, and a life falls only from Initializing to Uninitialized.
 pub fn lives_go_on()
@@ -29,4 +29,9 @@ pub fn tickets_add_up()
 /// An answer goes to the oldest request that awaits its id, or to none.
 pub fn answers_reach_oldest()
     ensures { AnswersReachOldest }
+{}
+
+/// All calls but those of a message or an answer take no memory, whatever the state.
+pub fn others_take_none()
+    ensures { OthersTakeNone }
 {}

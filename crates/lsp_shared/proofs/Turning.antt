@@ -1,6 +1,6 @@
 -- A call, from the draw to the pass.
-use Rattle.std.proofs.Common.{◌≡◌, ℕ, ◌<◌, ◌≤◌, arith, length-append, ◌+◌, ◌^◌, true, false, List, [], ◌∷◌, ◌++◌, length, refl, sym, ap, ◌∙◌, subst, Result, Ok, Err, Some}
-use Rattle.std.specs.Prelude.{IfOk}
+use Rattle.std.proofs.Common.{◌≡◌, ℕ, ◌<◌, ◌≤◌, arith, length-append, ◌+◌, ◌^◌, Bool, true, false, List, [], ◌∷◌, ◌++◌, length, refl, sym, ap, ◌∙◌, subst, Result, Ok, Err, Some}
+use Rattle.std.specs.Prelude.{None, IsOk, IfOk}
 use Rattle.atomic_table.specs.Table.{rest}
 use Rattle.lsp_desk.specs.declared.plain.PlainDesk.{PlainDesk}
 use Rattle.lsp_desk.specs.declared.call.ClientReply.{ClientReply}
@@ -14,7 +14,7 @@ use Rattle.lsp_desk.specs.declared.call.ClientCall.TheVariants as client_calls
 use Rattle.lsp_desk.specs.Shown.{show_client_call, show_client_reply, show_server_reply}
 use Rattle.lsp_desk.specs.Desk.{DeskState, opening}
 use Rattle.lsp_shared.specs.declared.view.Replied.{Replied}
-use Rattle.lsp_desk.specs.Plain.{plain_state, StepsTo}
+use Rattle.lsp_desk.specs.Plain.{plain_state, StepsTo, takes_no_memory}
 use Rattle.lsp_desk.specs.Call.{is_client, call_has_float}
 use Rattle.lsp_desk.specs.Trace.{Fits as FitsEntry, after, after_reply, IsReply, AllBelow, times}
 use Rattle.lsp_shared.specs.declared.view.Asked.{Asked}
@@ -40,6 +40,17 @@ told_of view wrap e note d d2 (Ok reply) p = record {
 told_of view wrap e note d d2 (Err faults.NoMemory) p = record { fits = tt; state = p }
 told_of view wrap e note d d2 (Err (faults.Spent n)) p = absurd p
 
+-- a call whose entry says that it was out of memory takes some, where every call that takes none is Ok
+pub lacks_of : {R : Type 0} (view : R → Reply) (wrap : R → Replied) → ((r : R) → reply_of (wrap r) ≡ Some (view r)) → (note : Asked) (d d2 : PlainDesk) (result : Result R DeskFault) → StepsTo view d (call_of note) result d2
+    → (takes_no_memory (plain_state d) (call_of note) ≡ true → IsOk result) → reply_of (item_for wrap note result).replied ≡ None → takes_no_memory (plain_state d) (call_of (item_for wrap note result).asked) ≡ false
+lacks_of view wrap e note d d2 (Ok reply) steps ready none = let never : Some (view reply) ≡ None = sym (e reply) ∙ none in absurd (cc)
+lacks_of view wrap e note d d2 (Err faults.NoMemory) steps ready none = at (takes_no_memory (plain_state d) (call_of note)) ready
+  where
+    at : (b : Bool) → (b ≡ true → false ≡ true) → b ≡ false
+    at true never = sym (never refl)
+    at false never = refl
+lacks_of view wrap e note d d2 (Err (faults.Spent n)) steps ready none = absurd steps
+
 -- an entry has no float, where its call had none and the desk gave none
 pub clean_of : {R : Type 0} (view : R → Reply) (wrap : R → Replied) → ((r : R) → reply_of (wrap r) ≡ Some (view r)) → (note : Asked) (result : Result R DeskFault)
     → call_has_float (call_of note) ≡ false → IfOk result (λ r. reply_has_float (view r) ≡ false) → IsClean (item_for wrap note result)
@@ -60,8 +71,8 @@ carried_one l d e p q = (ap (front d) (sym p ∙ q), ap rest q)
     front d (x ∷ xs) = x.1
 
 pub ready_of : {R : Type 0} (view : R → Reply) (wrap : R → Replied) → ((r : R) → reply_of (wrap r) ≡ Some (view r)) → (note : Asked) (t : ℕ) (v : View) (me : Mine) (d d2 : PlainDesk) (result : Result R DeskFault) → GotTurn v t me
-    → (v.owner ≡ false → is_client (call_of note) ≡ true) → me.1 ≡ (0, d) ∷ rest me.1 → StepsTo view d (call_of note) result d2 → IsClean (item_for wrap note result) → Ready (item_for wrap note result) t (me.0, (0, d2) ∷ rest me.1)
-ready_of view wrap e note t v me d d2 result got may at steps clean =
+    → (v.owner ≡ false → is_client (call_of note) ≡ true) → me.1 ≡ (0, d) ∷ rest me.1 → StepsTo view d (call_of note) result d2 → (takes_no_memory (plain_state d) (call_of note) ≡ true → IsOk result) → IsClean (item_for wrap note result) → Ready (item_for wrap note result) t (me.0, (0, d2) ∷ rest me.1)
+ready_of view wrap e note t v me d d2 result got may at steps ready clean =
     let one = carried_one me.1 d got.desk at got.carried in
     let state : plain_state d ≡ now_of me.0.seen = ap plain_state one.0 ∙ got.state ∙ ap now_of (sym (ap (λ (z : View). z.seen) got.view)) in
     let told : Told (now_of me.0.seen) (item_for wrap note result) (plain_state d2) = subst (λ s. Told s (item_for wrap note result) (plain_state d2)) state (told_of view wrap e note d d2 result steps) in
@@ -70,6 +81,7 @@ ready_of view wrap e note t v me d d2 result got may at steps clean =
       carried = ap (λ c. (0, d2) ∷ c) one.1;
       phase = ap (λ (z : View). z.phase) got.view;
       fits = told.fits;
+      ready = subst (λ s. reply_of (item_for wrap note result).replied ≡ None → takes_no_memory s (call_of (item_for wrap note result).asked) ≡ false) state (lacks_of view wrap e note d d2 result steps ready);
       clean = clean;
       state = told.state;
       client = λ no. ap (λ n. is_client (call_of n)) (item_asks wrap note result) ∙ may (sym (ap (λ (z : View). z.owner) got.view) ∙ no);
@@ -91,13 +103,18 @@ server_same r = refl
 pub steps_as : {R : Type 0} (view : R → Reply) (call : Call) (note : Asked) (d d2 : PlainDesk) (result : Result R DeskFault) → call_of note ≡ call → StepsTo view d call result d2 → StepsTo view d (call_of note) result d2
 steps_as view asks note d d2 result is = subst (λ c. StepsTo view d c result d2) (sym is)
 
-pub turned_of : (v0 : View) (n : ℕ) (me me2 : Mine) (item : Item) → GotTurn (drawing (reading v0 n) n) n me → FitsEntry (now_of me.0.seen) (entry_of item) → IsClean item → me2.0 ≡ passing me.0 n item → n + 1 < 2 ^ 64 → Turned v0 item me2.0
-turned_of v0 n me me2 item got fits clean is small = record {
+pub ready_as : {R : Type 0} (call : Call) (note : Asked) (d : PlainDesk) (result : Result R DeskFault) → call_of note ≡ call → (takes_no_memory (plain_state d) call ≡ true → IsOk result) → takes_no_memory (plain_state d) (call_of note) ≡ true → IsOk result
+ready_as asks note d result is = subst (λ c. takes_no_memory (plain_state d) c ≡ true → IsOk result) (sym is)
+
+pub turned_of : (v0 : View) (n : ℕ) (me me2 : Mine) (item : Item) → GotTurn (drawing (reading v0 n) n) n me → FitsEntry (now_of me.0.seen) (entry_of item)
+    → (reply_of item.replied ≡ None → takes_no_memory (now_of me.0.seen) (call_of item.asked) ≡ false) → IsClean item → me2.0 ≡ passing me.0 n item → n + 1 < 2 ^ 64 → Turned v0 item me2.0
+turned_of v0 n me me2 item got fits ready clean is small = record {
   between = got.rest;
   turn = n;
   seen = ap (λ (z : View). z.seen) is ∙ ap (λ l. l ++ item ∷ []) seen;
   made = ap (λ (z : View). z.made) is ∙ ap (λ (z : View). z.made ++ n ∷ []) got.view;
   place = got.turn;
+  ready = subst (λ l. reply_of item.replied ≡ None → takes_no_memory (now_of l) (call_of item.asked) ≡ false) seen ready;
   legal = subst (IsLegal opening) (sym (ap (λ (z : View). z.seen) is ∙ ap (λ l. l ++ item ∷ []) seen))
       (legal_append opening (v0.seen ++ got.rest) (item ∷ []) got.legal (subst (λ l. FitsEntry (now_of l) (entry_of item)) seen fits, tt));
   clean = subst AreClean (sym (ap (λ (z : View). z.seen) is ∙ ap (λ l. l ++ item ∷ []) seen)) (clean_append (v0.seen ++ got.rest) (item ∷ []) got.clean (clean, tt));
@@ -149,9 +166,9 @@ turned_of v0 n me me2 item got fits clean is small = record {
 pub answered_of : {R : Type 0} (view : R → Reply) (wrap : R → Replied) (note : Asked) (me0 me1 me me2 : Mine) (n : ℕ) (d d2 : PlainDesk) (result : Result R DeskFault) → me1 ≡ (drawing (reading me0.0 n) n, me0.1) → GotTurn me1.0 n me
     → Ready (item_for wrap note result) n (me.0, (0, d2) ∷ rest me.1) → StepsTo view d (call_of note) result d2 → me2 ≡ (passing me.0 n (item_for wrap note result), []) → n + 1 < 2 ^ 64 → Answered wrap note me0.0 result me2.0
 answered_of view wrap note me0 me1 me me2 n d d2 (Ok reply) drawn got ready steps is small =
-    turned_of me0.0 n me me2 _ (subst (λ v. GotTurn v n me) (ap (λ (m : Mine). m.0) drawn) got) ready.fits ready.clean (ap (λ (m : Mine). m.0) is) small
+    turned_of me0.0 n me me2 _ (subst (λ v. GotTurn v n me) (ap (λ (m : Mine). m.0) drawn) got) ready.fits ready.ready ready.clean (ap (λ (m : Mine). m.0) is) small
 answered_of view wrap note me0 me1 me me2 n d d2 (Err faults.NoMemory) drawn got ready steps is small =
-    turned_of me0.0 n me me2 _ (subst (λ v. GotTurn v n me) (ap (λ (m : Mine). m.0) drawn) got) ready.fits ready.clean (ap (λ (m : Mine). m.0) is) small
+    turned_of me0.0 n me me2 _ (subst (λ v. GotTurn v n me) (ap (λ (m : Mine). m.0) drawn) got) ready.fits ready.ready ready.clean (ap (λ (m : Mine). m.0) is) small
 answered_of view wrap note me0 me1 me me2 n d d2 (Err (faults.Spent k)) drawn got ready steps is small = absurd steps
 
 -- a call leaves a seat's calls inside what it has seen, each once, and the seat idle

@@ -1,5 +1,5 @@
 -- What each step does to a view.
-use Rattle.std.specs.Prelude.{◌≡◌, ◌++◌, ◌+◌, ◌-◌, ◌^◌, ◌/◌, ◌<◌, ◌≤◌, ℕ, true, false, ltb, ◌==◌, if◌then◌else◌, List, [], ◌∷◌, length, MatchBool, Result, Ok, Err}
+use Rattle.std.specs.Prelude.{◌≡◌, ◌++◌, ◌+◌, ◌-◌, ◌^◌, ◌/◌, ◌<◌, ◌≤◌, ℕ, true, false, ltb, ◌==◌, if◌then◌else◌, List, [], ◌∷◌, length, MatchBool, None, Result, Ok, Err}
 use Rattle.atomic_table.specs.Table.{Me, Step}
 use Rattle.lsp_desk.specs.declared.plain.PlainDesk.{PlainDesk}
 use Rattle.lsp_desk.specs.declared.call.ClientReply.{ClientReply}
@@ -10,7 +10,7 @@ use Rattle.lsp_desk.specs.declared.call.ClientCall.TheVariants.{NextId}
 use Rattle.lsp_desk.specs.Call.{is_client}
 use Rattle.lsp_desk.specs.Desk.{opening}
 use Rattle.lsp_desk.specs.Trace.{Fits as FitsEntry, after, AllBelow, times}
-use Rattle.lsp_desk.specs.Plain.{plain_state}
+use Rattle.lsp_desk.specs.Plain.{plain_state, takes_no_memory}
 use Rattle.lsp_shared.specs.declared.view.Asked.{Asked}
 use Rattle.lsp_shared.specs.declared.view.Asked.TheVariants as asked
 use Rattle.lsp_shared.specs.declared.view.Replied.{Replied}
@@ -18,7 +18,7 @@ use Rattle.lsp_shared.specs.declared.view.Replied.TheVariants as replied
 use Rattle.lsp_shared.specs.declared.view.Item.{Item}
 use Rattle.lsp_shared.specs.declared.view.Phase.TheVariants.{Idle, Drawn, Holding}
 use Rattle.lsp_shared.specs.declared.view.View.{View}
-use Rattle.lsp_shared.specs.Rule.{IsLegal, IsClean, AreClean, AllClient, now_of, entry_of, call_of}
+use Rattle.lsp_shared.specs.Rule.{IsLegal, IsClean, AreClean, AllClient, now_of, entry_of, call_of, reply_of}
 
 abbrev pub Mine : Type 0
 Mine = Me PlainDesk View
@@ -69,6 +69,8 @@ pub record Ready (item : Item) (t : ℕ) (me : Mine) : Type 0 where
   pub carried : me.1 ≡ (0, desk) ∷ []
   pub phase : me.0.phase ≡ Holding t
   pub fits : FitsEntry (now_of me.0.seen) (entry_of item)
+  -- it was out of memory only where it takes memory
+  pub ready : reply_of item.replied ≡ None → takes_no_memory (now_of me.0.seen) (call_of item.asked) ≡ false
   pub clean : IsClean item
   pub state : plain_state desk ≡ after (now_of me.0.seen) (entry_of item)
   pub client : me.0.owner ≡ false → is_client (call_of item.asked) ≡ true
@@ -142,6 +144,8 @@ pub record Turned (v : View) (item : Item) (w : View) : Type 0 where
   pub seen : w.seen ≡ (v.seen ++ between) ++ item ∷ []
   pub made : w.made ≡ v.made ++ turn ∷ []
   pub place : turn ≡ length (v.seen ++ between)
+  -- it was out of memory only where, in the state at its place, it takes memory
+  pub ready : reply_of item.replied ≡ None → takes_no_memory (now_of (v.seen ++ between)) (call_of item.asked) ≡ false
   pub legal : IsLegal opening w.seen
   pub clean : AreClean w.seen
   pub clients : v.owner ≡ true → AllClient between

@@ -109,6 +109,7 @@ impl<'a> Chair<'a> {
             (show_client_call call) result self.new }
         ensures spent { (n : ℕ) → result ≡ Err (DeskFault.Spent n) → (n ≡ 2 ^ 64 - 1)
             × (self.new.spent ≡ true) }
+        ensures spent_stays { HasTurn result (self.new.spent ≡ self.old.spent) }
         ensures float_free { IfOk result (λ reply. reply_has_float (show_client_reply reply)
             ≡ false) }
     {
@@ -141,6 +142,7 @@ impl<'a> Chair<'a> {
             (show_server_call call) result self.new }
         ensures spent { (n : ℕ) → result ≡ Err (DeskFault.Spent n) → (n ≡ 2 ^ 64 - 1)
             × (self.new.spent ≡ true) }
+        ensures spent_stays { HasTurn result (self.new.spent ≡ self.old.spent) }
         ensures float_free { IfOk result (λ reply. reply_has_float (show_server_reply reply)
             ≡ false) }
     {

@@ -67,6 +67,8 @@ impl<'a, R: Wait + Sync> Caller for SharedClient<'a, R> {
             (show_client_call call) result self.new }
         ensures spent { (n : ℕ) → result ≡ Err (DeskFault.Spent n) → (n ≡ 2 ^ 64 - 1)
             × (client_meaning.spent self.new ≡ true) }
+        ensures spent_stays { HasTurn result (client_meaning.spent self.new
+            ≡ client_meaning.spent self.old) }
         ensures float_free { IfOk result (λ reply. reply_has_float (show_client_reply reply)
             ≡ false) }
     {
@@ -99,6 +101,8 @@ impl<'a, R: Wait + Sync> Caller for DeskOwner<'a, R> {
             (show_client_call call) result self.new }
         ensures spent { (n : ℕ) → result ≡ Err (DeskFault.Spent n) → (n ≡ 2 ^ 64 - 1)
             × (owner_meaning.spent self.new ≡ true) }
+        ensures spent_stays { HasTurn result (owner_meaning.spent self.new
+            ≡ owner_meaning.spent self.old) }
         ensures float_free { IfOk result (λ reply. reply_has_float (show_client_reply reply)
             ≡ false) }
     {
@@ -129,6 +133,8 @@ impl<'a, R: Wait + Sync> Desk for DeskOwner<'a, R> {
             (show_server_call call) result self.new }
         ensures spent { (n : ℕ) → result ≡ Err (DeskFault.Spent n) → (n ≡ 2 ^ 64 - 1)
             × (owner_meaning.spent self.new ≡ true) }
+        ensures spent_stays { HasTurn result (owner_meaning.spent self.new
+            ≡ owner_meaning.spent self.old) }
         ensures float_free { IfOk result (λ reply. reply_has_float (show_server_reply reply)
             ≡ false) }
     {

@@ -54,6 +54,7 @@ impl<'a> OwnerChair<'a> {
             (show_client_call call) result self.new.chair }
         ensures spent { (n : ℕ) → result ≡ Err (DeskFault.Spent n) → (n ≡ 2 ^ 64 - 1)
             × (chair_meaning.spent self.new.chair ≡ true) }
+        ensures spent_stays { HasTurn result (self.new.chair.spent ≡ self.old.chair.spent) }
         ensures float_free { IfOk result (λ reply. reply_has_float (show_client_reply reply)
             ≡ false) }
     {
@@ -74,6 +75,7 @@ impl<'a> OwnerChair<'a> {
             (show_server_call call) result self.new.chair }
         ensures spent { (n : ℕ) → result ≡ Err (DeskFault.Spent n) → (n ≡ 2 ^ 64 - 1)
             × (chair_meaning.spent self.new.chair ≡ true) }
+        ensures spent_stays { HasTurn result (self.new.chair.spent ≡ self.old.chair.spent) }
         ensures float_free { IfOk result (λ reply. reply_has_float (show_server_reply reply)
             ≡ false) }
     {
@@ -166,6 +168,7 @@ impl<'a> ClientChair<'a> {
             (show_client_call call) result self.new.chair }
         ensures spent { (n : ℕ) → result ≡ Err (DeskFault.Spent n) → (n ≡ 2 ^ 64 - 1)
             × (chair_meaning.spent self.new.chair ≡ true) }
+        ensures spent_stays { HasTurn result (self.new.chair.spent ≡ self.old.chair.spent) }
         ensures float_free { IfOk result (λ reply. reply_has_float (show_client_reply reply)
             ≡ false) }
     {

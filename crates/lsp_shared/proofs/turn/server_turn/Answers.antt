@@ -5,7 +5,7 @@ use Rattle.atomic_table.specs.Table.{rest}
 use Rattle.lsp_desk.specs.Shown.{show_server_call, show_server_reply}
 use Rattle.lsp_shared.specs.Rule.{call_of}
 use Rattle.lsp_shared.specs.Steps.{Mine, by_server}
-use Rattle.lsp_shared.proofs.Turning.{ready_of, answered_of, clean_of, server_same, steps_as, inside_of, once_of}
+use Rattle.lsp_shared.proofs.Turning.{ready_of, answered_of, clean_of, server_same, steps_as, ready_as, inside_of, once_of}
 use Rattle.lsp_shared.proofs.turn.server_turn.Goals as goal
 
 pub slot_mut-requires : goal.slot_mut-requires
@@ -14,17 +14,19 @@ slot_mut-requires g c = let got = c.wait_turn.ensures.got in (c.wait_turn.ensure
 pub pass_server-requires-clause-ready : goal.pass_server-requires-clause-ready
 pass_server-requires-clause-ready g c =
     let steps = (steps_as show_server_reply (show_server_call c.args.call) _ c.slot_mut.result.now _ _ (ap call_of c.requires.note) c.server-result.ensures.steps) in
+    let ready = ready_as (show_server_call c.args.call) _ c.slot_mut.result.now _ (ap call_of c.requires.note) c.server-result.ensures.ready in
     let clean = clean_of show_server_reply by_server server_same g.N.Note.call _ (ap (λ n. call_has_float (call_of n)) c.requires.note ∙ c.requires.float_free) c.server-result.ensures.float_free in
     ready_of show_server_reply by_server server_same g.N.Note.call _ _ _ c.slot_mut.result.now _ _ c.wait_turn.ensures.got
-    (λ no. absurd (true≢false (sym (ap (λ (m : Mine). m.0.owner) c.in-Some.ensures.drawn ∙ c.requires.owner) ∙ no))) c.slot_mut.ensures.value steps clean
+    (λ no. absurd (true≢false (sym (ap (λ (m : Mine). m.0.owner) c.in-Some.ensures.drawn ∙ c.requires.owner) ∙ no))) c.slot_mut.ensures.value steps ready clean
 
 pub returns-clause-answered : goal.returns-clause-answered
 returns-clause-answered g c =
     let steps = (steps_as show_server_reply (show_server_call c.args.call) _ c.slot_mut.result.now _ _ (ap call_of c.requires.note) c.server-result.ensures.steps) in
+    let ready = ready_as (show_server_call c.args.call) _ c.slot_mut.result.now _ (ap call_of c.requires.note) c.server-result.ensures.ready in
     let clean = clean_of show_server_reply by_server server_same g.N.Note.call _ (ap (λ n. call_has_float (call_of n)) c.requires.note ∙ c.requires.float_free) c.server-result.ensures.float_free in
     answered_of show_server_reply by_server g.N.Note.call _ _ _ _ _ c.slot_mut.result.now _ _ c.in-Some.ensures.drawn c.wait_turn.ensures.got
     (ready_of show_server_reply by_server server_same g.N.Note.call _ _ _ c.slot_mut.result.now _ _ c.wait_turn.ensures.got
-    (λ no. absurd (true≢false (sym (ap (λ (m : Mine). m.0.owner) c.in-Some.ensures.drawn ∙ c.requires.owner) ∙ no))) c.slot_mut.ensures.value steps clean)
+    (λ no. absurd (true≢false (sym (ap (λ (m : Mine). m.0.owner) c.in-Some.ensures.drawn ∙ c.requires.owner) ∙ no))) c.slot_mut.ensures.value steps ready clean)
     steps c.pass_server.ensures.passed c.in-Some.ensures.small
 
 pub returns-clause-inside : goal.returns-clause-inside
