@@ -12,7 +12,7 @@ unspent_alone m laws old new grown alone = laws.alone_unspent new (grown.grows.a
 
 pub never_alone : {D : Type 0} (m : Meaning D) → IsLawful m → (old new : D) → Grown m old new → (error : ServeError) → SaysSpent m new error
     → m.alone old ≡ true → (n : ℕ) → error ≡ DeskSpent n → ⊥
-never_alone m laws old new grown (DeskSpent k) says alone n e = true≢false (sym says ∙ unspent_alone m laws old new grown alone)
+never_alone m laws old new grown (DeskSpent k) says alone n e = true≢false (sym says.1 ∙ unspent_alone m laws old new grown alone)
 never_alone m laws old new grown error says alone n e = cc
 
 shared_where_spent : {D : Type 0} (m : Meaning D) → IsLawful m → (old new : D) → Grown m old new → m.spent new ≡ true → (b : Bool) → m.alone old ≡ b → b ≡ false
@@ -29,7 +29,7 @@ unfailed m laws old new grown WriteFault says read wrote reads bytes left told r
 unfailed m laws old new grown ReadsSpent says read wrote reads bytes None told r w s enough no_read no_write = told refl
 unfailed m laws old new grown ReadsSpent says read wrote reads bytes (Some rest) told r w s enough no_read no_write =
     let few : reads + length rest ≤ length bytes = s refl in absurd (omega (arith, few, enough))
-unfailed m laws old new grown (DeskSpent n) says read wrote reads bytes left told r w s enough no_read no_write = shared_where_spent m laws old new grown says (m.alone old) refl
+unfailed m laws old new grown (DeskSpent n) says read wrote reads bytes left told r w s enough no_read no_write = shared_where_spent m laws old new grown says.1 (m.alone old) refl
 unfailed m laws old new grown NoMemory says read wrote reads bytes left told r w s enough no_read no_write = tt
 
 -- ---- an error stands, or one of the sink takes its place

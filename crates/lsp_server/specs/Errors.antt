@@ -1,5 +1,5 @@
 -- Which errors of a server come when.
-use Rattle.std.specs.Prelude.{◌≡◌, ⊤, Bool, true, false}
+use Rattle.std.specs.Prelude.{◌≡◌, ◌^◌, ◌-◌, ⊤, Bool, true, false}
 use Rattle.lsp_desk.specs.Meaning.{Meaning}
 use Rattle.lsp_server.specs.declared.step.ServeError.{ServeError}
 use Rattle.lsp_server.specs.declared.step.ServeError.TheVariants.{ReadFault, WriteFault, ReadsSpent, DeskSpent, NoMemory}
@@ -36,12 +36,12 @@ LeavesSink ReadsSpent = ⊤
 LeavesSink (DeskSpent n) = ⊤
 LeavesSink NoMemory = ⊤
 
--- an error says that the desk is spent only where it is
+-- an error says that the desk is spent only where it is, and then it says the number of its last turn
 abbrev pub SaysSpent : {D : Type 0} → Meaning D → D → ServeError → Type 0
 SaysSpent m desk ReadFault = ⊤
 SaysSpent m desk WriteFault = ⊤
 SaysSpent m desk ReadsSpent = ⊤
-SaysSpent m desk (DeskSpent n) = m.spent desk ≡ true
+SaysSpent m desk (DeskSpent n) = (n ≡ 2 ^ 64 - 1) × (m.spent desk ≡ true)
 SaysSpent m desk NoMemory = ⊤
 
 -- without a failure, and with reads left, only NoMemory comes, and DeskSpent over a desk that others use
