@@ -1,15 +1,16 @@
 -- What a call that fails has put out.
-use Rattle.std.proofs.Common.{◌≡◌, inl, inr, ℕ, ◌%◌, List, [], ◌∷◌, ◌++◌, map, true, refl, sym, ◌∙◌, ap, subst, append_assoc}
+use Rattle.std.proofs.Common.{◌≡◌, ◌≤◌, inl, inr, arith, ℕ, ◌%◌, List, [], ◌∷◌, ◌++◌, map, true, refl, sym, ◌∙◌, ap, subst, append_assoc}
 use Rattle.std.specs.Prelude.{Some}
 use Rattle.std.proofs.lemmas.List.{append-nil, append_cancel_left}
 use Rattle.lsp_rpc.specs.Message.{RequestData, MessageData, request}
 use Rattle.lsp_desk.specs.Trace.{Makes}
 use Rattle.lsp_desk.specs.Meaning.{Meaning, Grows, Grown, PollsOn}
 use Rattle.lsp_desk.proofs.TraceLemmas.{grows_none, grows_on, makes_of}
+use Rattle.lsp_session.specs.Item.{ItemData}
 use Rattle.lsp_session.specs.Semantics.{Semantics}
-use Rattle.lsp_session.specs.State.{State, Effect, both, dues, live, moved_up}
-use Rattle.lsp_session.specs.Run.{Order, Poll, SomePolls, Quits, closed, cancelled}
-use Rattle.lsp_session.specs.Session.{SessionView, Advances, Extends, PutsSome, IsCut, PutsPart}
+use Rattle.lsp_session.specs.State.{State, Effect, nothing, both, marked, dues, live, moved_up}
+use Rattle.lsp_session.specs.Run.{Order, Poll, Rounds, SomePolls, SomeRounds, SomeStep, Both, Admitting, Drains, Quits, closed, cancelled}
+use Rattle.lsp_session.specs.Session.{SessionView, Advances, Extends, PutsSome, IsCut, PutsPart, Fails}
 use Rattle.lsp_session.proofs.RoundLemmas.{Rounding, polls_more}
 use Rattle.lsp_session.proofs.WorkLemmas.{quit_state}
 
@@ -94,6 +95,68 @@ module _ {H D C T P : Type 0} (semantics : Semantics H C T) (m : Meaning D) (ord
     further = b.further;
     puts = some_after old.out mid.out new.out so_far.effect.out b.effect.out so_far.out b.puts;
   })
+
+  -- nothing was put out, as after no poll
+  pub cut_none : (mid new : SessionView H D semantics.Call semantics.Task) (q : P) → Grown m mid.desk new.desk → new.out ≡ mid.out → IsCut m mid (SomePolls semantics order q) new
+  cut_none mid new q grown is = record {
+    effect = nothing;
+    last = record mid.state { slots = map marked mid.state.slots };
+    does = ([], q, (refl, refl, refl));
+    desk = mid.desk;
+    grows = grows_none m mid.desk;
+    further = grown;
+    puts = some_all mid.out [] new.out (is ∙ sym (append-nil mid.out));
+  }
+
+  cut_polls : (mid new : SessionView H D semantics.Call semantics.Task) (q : P) → Grown m mid.desk new.desk → PutsPart m mid (SomePolls semantics order q) new → IsCut m mid (SomePolls semantics order q) new
+  cut_polls mid new q grown (inl is) = cut_none mid new q grown is
+  cut_polls mid new q grown (inr b) = b
+
+  -- ---- a step
+
+  -- rounds were made, and then some polls, or none
+  cut_rounds : (rounds n : ℕ) (old mid new : SessionView H D semantics.Call semantics.Task) (p q : P) → n ≤ rounds → Advances m old (λ s e s2. Rounds semantics order n s p e s2 q) mid
+      → IsCut m mid (SomePolls semantics order q) new → IsCut m old (SomeRounds semantics order rounds p) new
+  cut_rounds rounds n old mid new p q few a b =
+      cut_after m (λ s e s2. Rounds semantics order n s p e s2 q) (SomePolls semantics order q) (SomeRounds semantics order rounds p) old mid new a
+      (λ e last done. (n, q, few, record { first = a.effect; mid = mid.state; does_first = a.does; rest = e; does_rest = done; adds = refl })) b
+
+  pub cut_round : (rounds n : ℕ) (old mid new : SessionView H D semantics.Call semantics.Task) (p q : P) → n ≤ rounds → Advances m old (λ s e s2. Rounds semantics order n s p e s2 q) mid
+      → Fails m mid (SomePolls semantics order q) new → IsCut m old (SomeRounds semantics order rounds p) new
+  cut_round rounds n old mid new p q few a f = cut_rounds rounds n old mid new p q few a (cut_polls mid new q f.desk f.puts)
+
+  module _ (rounds : ℕ) (item : ItemData) (old admitted : SessionView H D semantics.Call semantics.Task) (p : P) where
+    pub part_admission : (new : SessionView H D semantics.Call semantics.Task) → PutsPart m old (Admitting semantics item) new → PutsPart m old (SomeStep semantics order rounds p item) new
+    part_admission new (inl is) = inl is
+    part_admission new (inr b) = inr (record { effect = b.effect; last = b.last; does = inl b.does; desk = b.desk; grows = b.grows; further = b.further; puts = b.puts })
+
+    module _ (a : Advances m old (Admitting semantics item) admitted) where
+      pub part_rounds : (new : SessionView H D semantics.Call semantics.Task) → IsCut m admitted (SomeRounds semantics order rounds p) new → PutsPart m old (SomeStep semantics order rounds p item) new
+      part_rounds new b = inr (cut_after m (Admitting semantics item) (SomeRounds semantics order rounds p) (SomeStep semantics order rounds p item) old admitted new a
+          (λ e last done. inr (inl (record { first = a.effect; mid = admitted.state; does_first = a.does; rest = e; does_rest = done; adds = refl }))) b)
+
+      pub part_drain : (polled new : SessionView H D semantics.Call semantics.Task) (q : P) → Advances m admitted (λ s e s2. Rounds semantics order rounds s p e s2 q) polled → Grown m polled.desk new.desk
+          → PutsPart m polled Drains new → PutsPart m old (SomeStep semantics order rounds p item) new
+      part_drain polled new q r grown (inl is) = part_rounds new (cut_rounds rounds rounds admitted polled new p q (omega arith) r (cut_none polled new q grown is))
+      part_drain polled new q r grown (inr b) =
+          let last : IsCut m admitted (Both (λ s e s2. Rounds semantics order rounds s p e s2 q) Drains) new =
+          cut_after m (λ s e s2. Rounds semantics order rounds s p e s2 q) Drains (Both (λ s e s2. Rounds semantics order rounds s p e s2 q) Drains) admitted polled new r
+          (λ e last done. record { first = r.effect; mid = polled.state; does_first = r.does; rest = e; does_rest = done; adds = refl }) b in
+          inr (cut_after m (Admitting semantics item) (Both (λ s e s2. Rounds semantics order rounds s p e s2 q) Drains) (SomeStep semantics order rounds p item) old admitted new a
+          (λ e s2 done. inr (inr (
+            q,
+            record {
+              first = a.effect;
+              admitted = admitted.state;
+              admits = a.does;
+              second = done.first;
+              polled = done.mid;
+              polls = done.does_first;
+              third = done.rest;
+              drains = done.does_rest;
+              adds = ap (both a.effect) done.adds;
+            },
+          ))) last)
 
 -- ---- an exit whose desk was closed
 
