@@ -1,5 +1,5 @@
 -- A number without a plus sign.
-use Rattle.std.proofs.Common.{◌≡◌, ◌==◌, ◌≤◌, ◌<◌, length, ℕ, List, [], ◌∷◌, true, false, nat_eq, Option, Some, None, codes, refl, arith}
+use Rattle.std.proofs.Common.{◌≡◌, ◌==◌, ◌≤◌, ◌<◌, length, ℕ, List, [], ◌∷◌, false, nat_eq, None, codes, refl, arith}
 use Rattle.std.specs.List.{starts_with}
 use Rattle.std.specs.Str.Parse.{without_leading_plus}
 use Rattle.lsp_frame.specs.Headers.{length_of}

@@ -1,7 +1,7 @@
 -- A made-up session, and its summary.
-use Rattle.std.specs.Prelude.{◌≡◌, ◌⊎◌, ℕ, suc, zero, ◌+◌, ◌*◌, ◌/◌, ◌%◌, ◌==◌, List, [], ◌∷◌, ◌++◌, length, codes, decimal, count_by, Bool, true, false, Option, Some, is_err, ⊤, if◌then◌else◌}
+use Rattle.std.specs.Prelude.{◌≡◌, ◌⊎◌, ℕ, suc, zero, ◌+◌, ◌*◌, ◌/◌, ◌%◌, ◌==◌, List, [], ◌++◌, length, codes, decimal, count_by, Bool, true, false, Option, Some, is_err, ⊤, if◌then◌else◌}
 use Rattle.std.specs.Io.KnownBytes.{Appends}
-use Rattle.lsp_rpc.specs.Message.{MessageData, response, request}
+use Rattle.lsp_rpc.specs.Message.{response, request}
 use Rattle.lsp_frame.specs.Codec.{Item, message, fault, told, default_limits}
 use Rattle.lsp_frame.specs.Frames.{framed}
 use Rattle.lsp_server.specs.Served.{call_bytes}

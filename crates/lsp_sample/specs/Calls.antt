@@ -1,5 +1,5 @@
 -- What is asked of the sample, as plain data, and what it answers.
-use Rattle.std.specs.Prelude.{ℕ, codes, Bool, true, false, not, Result, Ok, Err}
+use Rattle.std.specs.Prelude.{ℕ, codes, Bool, true, not, Result, Ok, Err}
 use Rattle.serde_json.specs.Data.{Data, null, number, unsigned, string, object, no_members, member}
 use Rattle.serde_json.specs.Written.{has_float}
 use Rattle.lsp_rpc.specs.declared.code.ErrorCode.TheVariants.{InvalidParams}

@@ -1,5 +1,5 @@
 -- What the sample reads of params.
-use Rattle.std.specs.Prelude.{ℕ, List, codes, bytes_eq, Bool, true, false, nat_le, if◌then◌else◌, is_some, Option, Some, None, option_map, option_and_then}
+use Rattle.std.specs.Prelude.{ℕ, List, codes, bytes_eq, Bool, nat_le, if◌then◌else◌, is_some, Option, Some, None, option_map, option_and_then}
 use Rattle.serde_json.specs.Data.{Data, Items, no_items, item}
 use Rattle.serde_json.specs.Find.{get, as_object, as_str, as_array, as_number, as_u64}
 use Rattle.lsp_sample.specs.Calls.{CommandData, Echo, Wait, Unknown}

@@ -1,7 +1,6 @@
 -- What the sample's calls mean.
-use Rattle.std.specs.Prelude.{◌≡◌, ◌==◌, ◌-◌, ℕ, List, [], ◌∷◌, bytes_eq, codes, false, if◌then◌else◌, Option, Some, None, Result, Ok}
+use Rattle.std.specs.Prelude.{◌≡◌, ◌==◌, ◌-◌, ℕ, List, [], ◌∷◌, bytes_eq, codes, false, if◌then◌else◌, Option, Some, None, Ok}
 use Rattle.serde_json.specs.Data.{Data, number, unsigned}
-use Rattle.lsp_rpc.specs.Message.{ErrorData}
 use Rattle.lsp_desk.specs.Call.{Tell}
 use Rattle.lsp_desk.specs.Reply.{Reply}
 use Rattle.lsp_desk.specs.Trace.{DeskEntry}

@@ -1,13 +1,12 @@
 -- The sample keeps the laws of servers.
-use Rattle.std.specs.Prelude.{◌≡◌, ◌==◌, ◌-◌, ◌||◌, ℕ, List, [], ◌∷◌, true, false, not, if◌then◌else◌, codes, bytes_eq, nat_le, Bool, Option, Some, None, option_map, option_and_then, Result, Ok, Err, refl}
-use Rattle.serde_json.specs.Data.{Data, null, boolean, number, string, array, object, Items, no_items, item, Num, unsigned, negative, float}
-use Rattle.serde_json.specs.Find.{get, as_str, as_array, as_number, as_u64}
+use Rattle.std.specs.Prelude.{◌≡◌, ◌==◌, ◌-◌, ◌||◌, ℕ, List, true, false, not, if◌then◌else◌, codes, bytes_eq, nat_le, Bool, Option, Some, None, option_and_then, Ok, refl}
+use Rattle.serde_json.specs.Data.{Data, null, boolean, number, string, array, object, Items, no_items, item, unsigned}
+use Rattle.serde_json.specs.Find.{get, as_str, as_number, as_u64}
 use Rattle.serde_json.specs.Written.{has_float, items_have_float}
-use Rattle.lsp_rpc.specs.Message.{ErrorData, body_has_float, may_have_float}
+use Rattle.lsp_rpc.specs.Message.{body_has_float, may_have_float}
 use Rattle.lsp_rpc.proofs.Floats.{get_clean}
 use Rattle.std.proofs.Common.{ap, sym, ◌∙◌, subst, true≢false}
 use Rattle.lsp_desk.specs.Trace.{DeskEntry}
-use Rattle.lsp_session.specs.declared.table.Entry.{Entry}
 use Rattle.lsp_session.specs.declared.table.Kind.{Kind}
 use Rattle.lsp_session.specs.declared.table.Kind.TheVariants.{Request, Notification}
 use Rattle.lsp_session.specs.declared.table.Layer.{Layer}
@@ -15,9 +14,9 @@ use Rattle.lsp_session.specs.declared.table.Layer.TheVariants as layers
 use Rattle.lsp_session.specs.Semantics.{Reading, call, missing, unexpected, unfit, Progress, Pending, Done, Phase, Fresh, Held, Polls, call_in, AreClient, IsLawful}
 use Rattle.lsp_sample.specs.declared.sample.Sample.{Sample}
 use Rattle.lsp_sample.specs.declared.command.Waiting.{Waiting}
-use Rattle.lsp_sample.specs.Calls.{CommandData, Echo, Wait, Unknown, CallData, Initialize, Initialized, Shutdown, Execute, command_outcome, outcome_of, is_sound}
+use Rattle.lsp_sample.specs.Calls.{CommandData, Echo, Wait, Unknown, CallData, Initialize, Initialized, Shutdown, Execute, outcome_of, is_sound}
 use Rattle.lsp_sample.specs.Params.{is_object, has_capabilities, sole, echo, wait_for, command, command_with, command_in}
-use Rattle.lsp_sample.specs.Sample.{Asks, waits, first, Begins, Resumes, call_of_wait, read_by, executes, sample_semantics}
+use Rattle.lsp_sample.specs.Sample.{Asks, waits, first, call_of_wait, read_by, executes, sample_semantics}
 
 -- ---- what is read may be begun
 
