@@ -8,7 +8,7 @@ use Rattle.std.specs.HashMap.{HashMap, get}
 use Rattle.std.proofs.lemmas.Bool.{eqb-true, eq-eqb}
 use Rattle.lsp_proxy.specs.declared.table.Asker.{Asker}
 use Rattle.lsp_proxy.specs.Entries.{Entry, same_asker, asker_at, place_of, without, AreBelow, same_asker-Decides}
-use Rattle.lsp_proxy.specs.Tables.{show_asker, entries_of, same_shown, is_place, AreIndexed}
+use Rattle.lsp_proxy.specs.Tables.{show_asker, entries_of, same_shown, is_place, AreIndexed, AreKept}
 use Rattle.lsp_proxy.proofs.EntryLemmas.{below_head, below_tail, place_of-append_found, place_of-append_none, AreApart-append, place_of-without_other, place_of-without_later, place_of-without_none, AreApart-without, same_asker-sym}
 
 abbrev Slot : Type 0
@@ -148,6 +148,14 @@ module _ {S : Type 0} where
     found = λ q. ap (λ ps. lookup (same_shown q) ps) same ∙ was.found q ∙ ap (place_of (show_asker q)) (sym is);
     apart = λ h. rw is (was.apart h);
   }
+
+  -- an entry is at the end
+  pub kept_pushed : (es es2 : List Slot) (places : HashMap Asker ℕ S) (repeats : Bool) (e : Entry) → AreIndexed es2 places repeats → entries_of es2 ≡ entries_of es ++ e ∷ [] → AreKept es2 places repeats
+  kept_pushed es es2 places repeats e indexed is = record { indexed = indexed; fresh = λ none. absurd (some (entries_of es) (sym is ∙ none)) }
+    where
+      some : (xs : List Entry) → xs ++ e ∷ [] ≡ [] → ⊥
+      some [] h = cc
+      some (x ∷ xs) h = cc
 
 -- ---- what a lookup told
 

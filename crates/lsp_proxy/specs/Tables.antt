@@ -1,5 +1,5 @@
 -- How a table's two maps hold its entries.
-use Rattle.std.specs.Prelude.{◌≡◌, ◌==◌, ℕ, List, map, Bool, false, Option, Some, None}
+use Rattle.std.specs.Prelude.{◌≡◌, ◌==◌, ℕ, List, [], map, Bool, false, Option, Some, None}
 use Rattle.std.specs.HashMap.{HashMap, get}
 use Rattle.lsp_rpc.specs.Shown.{show_id}
 use Rattle.lsp_proxy.specs.declared.table.Asker.{Asker}
@@ -18,6 +18,11 @@ same_shown a b = same_asker (show_asker a) (show_asker b)
 pub record AreIndexed {S : Type 0} (es : List (ℕ × Asker)) (places : HashMap Asker ℕ S) (repeats : Bool) : Type 0 where
   pub found : (a : Asker) → get same_shown places a ≡ place_of (show_asker a) (entries_of es)
   pub apart : repeats ≡ false → AreApart (entries_of es)
+
+-- the same, and no two are noted to have one asker where there are none
+pub record AreKept {S : Type 0} (es : List (ℕ × Asker)) (places : HashMap Asker ℕ S) (repeats : Bool) : Type 0 where
+  pub indexed : AreIndexed es places repeats
+  pub fresh : entries_of es ≡ [] → repeats ≡ false
 
 -- the place found is this one
 abbrev pub is_place : ℕ → Option ℕ → Bool

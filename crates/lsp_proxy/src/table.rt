@@ -4,7 +4,7 @@ ghost use Rattle.std.specs.Cmp.{on_equiv, on_per, partial_equiv_from_equiv};
 ghost use Rattle.lsp_proxy.specs.Entries.{asker_at, place_of, without, AreBelow, same_asker_equiv, asker_writes, asker_writes_alike};
 ghost use Rattle.lsp_proxy.specs.Proxy.{refused};
 ghost use Rattle.lsp_proxy.specs.Sent.{all_sent};
-ghost use Rattle.lsp_proxy.specs.Tables.{show_asker, same_shown, entries_of, is_place, AreIndexed};
+ghost use Rattle.lsp_proxy.specs.Tables.{show_asker, same_shown, entries_of, is_place, AreIndexed, AreKept};
 ghost use Rattle.lsp_proxy.specs.declared.table.Asker.{Asker as AskerOf};
 ghost use Rattle.std.specs.HashMap.{get};
 
@@ -70,20 +70,20 @@ pub(crate) struct Table {
     entries: BTreeMap<u64, Asker>,
     // the drawn id of each asker's first entry
     places: HashMap<Asker, u64>,
-    // whether two entries may have one asker
+    // whether two entries may have one asker: false where there are none
     repeats: bool,
 }
 
 impl Model for Table {
     ghost use Rattle.std.specs.Prelude.{List};
     ghost use Rattle.lsp_proxy.specs.Entries.{Entry};
-    ghost use Rattle.lsp_proxy.specs.Tables.{entries_of, AreIndexed};
+    ghost use Rattle.lsp_proxy.specs.Tables.{entries_of, AreKept};
 
     ghost Value = { List Entry };
 
     ghost view = { λ t. entries_of t.entries.entries };
 
-    ghost invariant = { λ t. AreIndexed t.entries.entries t.places t.repeats };
+    ghost invariant = { λ t. AreKept t.entries.entries t.places t.repeats };
 }
 
 impl Table {
@@ -141,6 +141,9 @@ impl Table {
         ensures { self.new ≡ without n self.old }
     {
         remove_entry(&mut self.entries, &mut self.places, self.repeats, n);
+        if self.entries.is_empty() {
+            self.repeats = false;
+        }
     }
 
     /// The responses that refuse each of the requests, in order.
@@ -174,13 +177,13 @@ fn push_new(
     key: Asker,
 ) -> Result<(), NoMemory>
     requires below { AreBelow n (entries_of entries.old.entries) }
-    requires indexed { AreIndexed entries.old.entries places.old repeats }
+    requires kept { AreKept entries.old.entries places.old repeats }
     requires same { show_asker key ≡ show_asker asker }
     requires new { place_of (show_asker asker) (entries_of entries.old.entries) ≡ None }
     ensures ok { OnOk result (entries_of entries.new.entries
         ≡ entries_of entries.old.entries ++ record { n = n; asker = show_asker asker } ∷ []) }
     ensures err { OnErr result (entries_of entries.new.entries ≡ entries_of entries.old.entries) }
-    ensures indexed { AreIndexed entries.new.entries places.new repeats }
+    ensures kept { AreKept entries.new.entries places.new repeats }
 {
     entries.insert(n, asker)?;
     match places.insert(key, n) {
