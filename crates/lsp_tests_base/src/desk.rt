@@ -17,7 +17,7 @@ const TOLD: &str = "{\"jsonrpc\":\"2.0\",\"method\":\"m\",\"params\":null}";
 const ASKED: &str = "{\"jsonrpc\":\"2.0\",\"method\":\"m\",\"params\":null,\"id\":1}";
 
 // What a desk replies to a call of a server.
-fn ask<D: Caller>(alloc: Global, desk: &mut D, call: ClientCall) -> Result<String, Fail>
+pub(crate) fn ask<D: Caller>(alloc: Global, desk: &mut D, call: ClientCall) -> Result<String, Fail>
     requires { call_has_float (show_client_call call) ≡ false }
 {
     match desk.client(call) {
@@ -27,7 +27,7 @@ fn ask<D: Caller>(alloc: Global, desk: &mut D, call: ClientCall) -> Result<Strin
 }
 
 // What a desk replies to a call of the session.
-fn serve<D: Desk>(alloc: Global, desk: &mut D, call: ServerCall) -> Result<String, Fail>
+pub(crate) fn serve<D: Desk>(alloc: Global, desk: &mut D, call: ServerCall) -> Result<String, Fail>
     requires { call_has_float (show_server_call call) ≡ false }
 {
     match desk.server(call) {
@@ -37,7 +37,7 @@ fn serve<D: Desk>(alloc: Global, desk: &mut D, call: ServerCall) -> Result<Strin
     }
 }
 
-fn asks(alloc: Global, gated: bool) -> Result<ClientCall, Fail>
+pub(crate) fn asks(alloc: Global, gated: bool) -> Result<ClientCall, Fail>
     ensures { IfOk result (λ call. call_has_float (show_client_call call) ≡ false) }
 {
     let method = String::from_str(alloc, "m")?;
@@ -48,7 +48,7 @@ fn asks(alloc: Global, gated: bool) -> Result<ClientCall, Fail>
     })
 }
 
-fn tells(alloc: Global, gated: bool) -> Result<ClientCall, Fail>
+pub(crate) fn tells(alloc: Global, gated: bool) -> Result<ClientCall, Fail>
     ensures { IfOk result (λ call. call_has_float (show_client_call call) ≡ false) }
 {
     let method = String::from_str(alloc, "m")?;
@@ -59,18 +59,31 @@ fn tells(alloc: Global, gated: bool) -> Result<ClientCall, Fail>
     })
 }
 
-fn raw(alloc: Global) -> Result<ClientCall, Fail>
+pub(crate) fn raw(alloc: Global) -> Result<ClientCall, Fail>
+    ensures { IfOk result (λ call. call_has_float (show_client_call call) ≡ false) }
+{
+    raw_under(alloc, Id::Number(1))
+}
+
+fn raw_under(alloc: Global, id: Id) -> Result<ClientCall, Fail>
     ensures { IfOk result (λ call. call_has_float (show_client_call call) ≡ false) }
 {
     let method = String::from_str(alloc, "m")?;
-    Ok(ClientCall::Raw(Request::build(method).id(Id::Number(1)).finish()))
+    Ok(ClientCall::Raw(Request::build(method).id(id).finish()))
 }
 
-fn answer(alloc: Global, text: &str) -> Result<ServerCall, Fail>
+pub(crate) fn answer(alloc: Global, text: &str) -> Result<ServerCall, Fail>
     ensures { IfOk result (λ call. call_has_float (show_server_call call) ≡ false) }
 {
     let text = String::from_str(alloc, text)?;
     Ok(ServerCall::Answer(Response::from_ok(Id::Number(1), Value::String(text))))
+}
+
+// The response that an editor writes so.
+fn written(alloc: Global, text: &str) -> Result<ServerCall, Fail>
+    ensures { IfOk result (λ call. call_has_float (show_server_call call) ≡ false) }
+{
+    Ok(ServerCall::Answer(Response::from_text(alloc, text)?))
 }
 
 fn rise_or_fall(alloc: Global, desk: &mut PlainDesk, rise: Option<Life>) -> Result<String, Fail> {
@@ -113,6 +126,48 @@ fn answers_in_order(rt: HostRuntime) -> Result<(), Fail> {
             reply
         );
     }
+    Ok(())
+}
+
+#[test]
+fn answers_that_nobody_awaits(rt: HostRuntime) -> Result<(), Fail> {
+    let alloc = rt.alloc();
+    let mut desk = PlainDesk::new(alloc);
+    assert_eq!(rt;
+        ask(alloc, &mut desk, raw_under(alloc, Id::Null)?)?.as_str(),
+        "Ok(Ticket(0, Null))"
+    );
+    assert_eq!(rt;
+        ask(alloc, &mut desk, raw(alloc)?)?.as_str(),
+        "Ok(Ticket(1, Number(1)))"
+    );
+    let responses = [
+        (
+            "{\"jsonrpc\":\"2.0\",\"error\":{\"code\":-32700,\"message\":\"x\"},\"id\":null}",
+            "Ok(Ignored)",
+        ),
+        (
+            "{\"jsonrpc\":\"2.0\",\"result\":1,\"id\":null}",
+            "Ok(Ignored)",
+        ),
+        (
+            "{\"jsonrpc\":\"2.0\",\"result\":1,\"id\":\"1\"}",
+            "Ok(Ignored)",
+        ),
+        ("{\"jsonrpc\":\"2.0\",\"result\":1,\"id\":0}", "Ok(Ignored)"),
+        ("{\"jsonrpc\":\"2.0\",\"result\":1,\"id\":1}", "Ok(Given)"),
+    ];
+    for (response, reply) in responses {
+        assert_eq!(rt;
+            serve(alloc, &mut desk, written(alloc, response)?)?.as_str(),
+            reply,
+            "{response}"
+        );
+    }
+    assert_eq!(rt;
+        ask(alloc, &mut desk, ClientCall::Poll(0))?.as_str(),
+        "Ok(Awaited)"
+    );
     Ok(())
 }
 
