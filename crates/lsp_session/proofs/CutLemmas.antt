@@ -1,5 +1,5 @@
 -- What a call that fails has put out.
-use Rattle.std.proofs.Common.{◌≡◌, ◌≤◌, inl, inr, arith, ℕ, ◌%◌, List, [], ◌∷◌, ◌++◌, map, true, refl, sym, ◌∙◌, ap, subst, append_assoc}
+use Rattle.std.proofs.Common.{◌≡◌, ◌<◌, inl, inr, ℕ, ◌%◌, List, [], ◌∷◌, ◌++◌, map, true, refl, sym, ◌∙◌, ap, subst, append_assoc}
 use Rattle.std.specs.Prelude.{Some}
 use Rattle.std.proofs.lemmas.List.{append-nil, append_cancel_left}
 use Rattle.lsp_rpc.specs.Message.{RequestData, MessageData, request}
@@ -114,14 +114,14 @@ module _ {H D C T P : Type 0} (semantics : Semantics H C T) (m : Meaning D) (ord
 
   -- ---- a step
 
-  -- rounds were made, and then some polls, or none
-  cut_rounds : (rounds n : ℕ) (old mid new : SessionView H D semantics.Call semantics.Task) (p q : P) → n ≤ rounds → Advances m old (λ s e s2. Rounds semantics order n s p e s2 q) mid
+  -- fewer rounds were made, and then some polls, or none
+  cut_rounds : (rounds n : ℕ) (old mid new : SessionView H D semantics.Call semantics.Task) (p q : P) → n < rounds → Advances m old (λ s e s2. Rounds semantics order n s p e s2 q) mid
       → IsCut m mid (SomePolls semantics order q) new → IsCut m old (SomeRounds semantics order rounds p) new
   cut_rounds rounds n old mid new p q few a b =
       cut_after m (λ s e s2. Rounds semantics order n s p e s2 q) (SomePolls semantics order q) (SomeRounds semantics order rounds p) old mid new a
-      (λ e last done. (n, q, few, record { first = a.effect; mid = mid.state; does_first = a.does; rest = e; does_rest = done; adds = refl })) b
+      (λ e last done. inr (n, q, few, record { first = a.effect; mid = mid.state; does_first = a.does; rest = e; does_rest = done; adds = refl })) b
 
-  pub cut_round : (rounds n : ℕ) (old mid new : SessionView H D semantics.Call semantics.Task) (p q : P) → n ≤ rounds → Advances m old (λ s e s2. Rounds semantics order n s p e s2 q) mid
+  pub cut_round : (rounds n : ℕ) (old mid new : SessionView H D semantics.Call semantics.Task) (p q : P) → n < rounds → Advances m old (λ s e s2. Rounds semantics order n s p e s2 q) mid
       → Fails m mid (SomePolls semantics order q) new → IsCut m old (SomeRounds semantics order rounds p) new
   cut_round rounds n old mid new p q few a f = cut_rounds rounds n old mid new p q few a (cut_polls mid new q f.desk f.puts)
 
@@ -137,7 +137,15 @@ module _ {H D C T P : Type 0} (semantics : Semantics H C T) (m : Meaning D) (ord
 
       pub part_drain : (polled new : SessionView H D semantics.Call semantics.Task) (q : P) → Advances m admitted (λ s e s2. Rounds semantics order rounds s p e s2 q) polled → Grown m polled.desk new.desk
           → PutsPart m polled Drains new → PutsPart m old (SomeStep semantics order rounds p item) new
-      part_drain polled new q r grown (inl is) = part_rounds new (cut_rounds rounds rounds admitted polled new p q (omega arith) r (cut_none polled new q grown is))
+      part_drain polled new q r grown (inl is) = part_rounds new (record {
+        effect = r.effect;
+        last = polled.state;
+        does = inl (q, r.does);
+        desk = polled.desk;
+        grows = r.grows;
+        further = grown;
+        puts = some_all admitted.out r.effect.out new.out (is ∙ r.out);
+      })
       part_drain polled new q r grown (inr b) =
           let last : IsCut m admitted (Both (λ s e s2. Rounds semantics order rounds s p e s2 q) Drains) new =
           cut_after m (λ s e s2. Rounds semantics order rounds s p e s2 q) Drains (Both (λ s e s2. Rounds semantics order rounds s p e s2 q) Drains) admitted polled new r
