@@ -31,16 +31,17 @@ impl Waiting {
 
     /// Awaits an answer after the others. After 2^64 tickets the numbers begin again; there is no
     /// place for one while an answer of a greater one is awaited.
-    pub(crate) fn push(&mut self, ticket: u64, id: Id) -> Result<(), NoMemory>
+    pub(crate) fn push(&mut self, ticket: u64, id: &Id) -> Result<(), NoMemory>
         ensures ok { OnOk result (show_waiting self.new
-            ≡ show_waiting self.old ++ record { ticket = ticket; id = show_id id } ∷ []) }
+            ≡ show_waiting self.old ++ record { ticket = ticket; id = show_id id.now } ∷ []) }
         ensures err { OnErr result (show_waiting self.new ≡ show_waiting self.old) }
     {
         if !self.awaited.is_above(ticket) {
             return Err(NoMemory);
         }
+        let key = id.clone(self.alloc)?;
         let same = id.clone(self.alloc)?;
-        self.awaited.push(ticket, id, same, ())
+        self.awaited.push(ticket, key, same, ())
     }
 
     /// The ticket of the oldest request of an id.

@@ -169,11 +169,11 @@ impl LanguageServerCodec {
             self.bytes.as_slice(),
             self.looked,
         )?;
+        drop(next.item);
         if next.unfinished {
-            Ok(Some(ParseError::Rest))
-        } else {
-            Ok(None)
+            return Ok(Some(ParseError::Rest));
         }
+        Ok(None)
     }
 
     /// Appends the frame of the message, whose values hold no float.
