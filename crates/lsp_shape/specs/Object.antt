@@ -16,13 +16,14 @@ read_from reader = members_view reader.object.now.entries
 abbrev pub misfit_of : Reader → Option Misfit
 misfit_of reader = reader.misfit
 
--- A call took a member, which is read as r, for p. A misfit that was met stays, and `Unfit` is told only where r is None.
+-- A call took p for a member that is read as r. The first misfit is kept, and it is `Unfit` only where r is None.
 abbrev pub Takes : Reader → Reader → Option Plain → Plain → Type 0
 Takes old new r p =
     (read_from new ≡ read_from old)
     × (misfit_of new ≡ None → misfit_of old ≡ None)
     × (misfit_of new ≡ None → r ≡ Some p)
     × (misfit_of new ≡ Some Unfit → (r ≡ None) ⊎ (misfit_of old ≡ Some Unfit))
+    × ((m : Misfit) → misfit_of old ≡ Some m → misfit_of new ≡ Some m)
 
 -- the members of an object that is written
 abbrev pub written_to : Writer → Members

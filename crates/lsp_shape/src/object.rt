@@ -1,6 +1,6 @@
 // An object that is read, and one that is written. What fails on the way is told at the end, so that
 // a record with many members is read and written line by line, with no test after each.
-ghost use Rattle.std.specs.Prelude.{◌≡◌, IfOk, OnOk, true, IsErrOf, Some, None, option_map, Option, List, ℕ, map};
+ghost use Rattle.std.specs.Prelude.{◌≡◌, IfOk, OnOk, IsOk, true, IsErrOf, Some, None, option_map, Option, List, ℕ, map};
 ghost use Rattle.serde_json.specs.Data.{Data, Members, object as object_of, put as with_member, no_members, string};
 ghost use Rattle.serde_json.specs.Find.{get_member};
 ghost use Rattle.serde_json.specs.View.{view};
@@ -152,6 +152,8 @@ impl<'v> Reader<'v> {
         ensures value { IfOk result (λ x. x ≡ read) }
         ensures fits { OnOk result (misfit_of self.entry ≡ None) }
         ensures unfit { IsErrOf result Misfit.Unfit → misfit_of self.entry ≡ Some Misfit.Unfit }
+        ensures no_memory { IsErrOf result Misfit.NoMemory
+            → misfit_of self.entry ≡ Some Misfit.NoMemory }
     {
         match self.misfit {
             None => Ok(read),
@@ -297,6 +299,7 @@ impl Writer {
     pub fn end(self) -> Result<Value, NoMemory>
         ensures whole { OnOk result (is_whole self ≡ true) }
         ensures written { IfOk result (λ v. view v ≡ object_of (written_to self)) }
+        ensures no_memory { is_whole self ≡ true → IsOk result }
     {
         if self.is_whole {
             Ok(Value::Object(self.object))
