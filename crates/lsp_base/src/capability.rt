@@ -20,15 +20,16 @@ impl Wire for SymbolKindCapability {
     ghost shown = { symbol_kind_capability_row.shown };
 
     fn from_value(alloc: Global, value: &Value) -> Result<SymbolKindCapability, Misfit> {
-        let object = Reader::new(alloc, value)?;
-        Ok(SymbolKindCapability {
-            value_set: object.optional("valueSet")?,
-        })
+        let mut object = Reader::new(alloc, value)?;
+        let read = SymbolKindCapability {
+            value_set: object.optional("valueSet"),
+        };
+        object.end(read)
     }
 
     fn to_value(&self, alloc: Global) -> Result<Value, NoMemory> {
         let mut object = Writer::new(alloc);
-        object.nullable("valueSet", &self.value_set)?;
-        Ok(object.end())
+        object.nullable("valueSet", &self.value_set);
+        object.end()
     }
 }

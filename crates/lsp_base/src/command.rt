@@ -46,19 +46,20 @@ impl Wire for Command {
     ghost shown = { command_row.shown };
 
     fn from_value(alloc: Global, value: &Value) -> Result<Command, Misfit> {
-        let object = Reader::new(alloc, value)?;
-        Ok(Command {
+        let mut object = Reader::new(alloc, value)?;
+        let read = Command {
             title: object.field("title")?,
             command: object.field("command")?,
-            arguments: object.optional("arguments")?,
-        })
+            arguments: object.optional("arguments"),
+        };
+        object.end(read)
     }
 
     fn to_value(&self, alloc: Global) -> Result<Value, NoMemory> {
         let mut object = Writer::new(alloc);
-        object.field("title", &self.title)?;
-        object.field("command", &self.command)?;
-        object.optional("arguments", &self.arguments)?;
-        Ok(object.end())
+        object.field("title", &self.title);
+        object.field("command", &self.command);
+        object.optional("arguments", &self.arguments);
+        object.end()
     }
 }

@@ -32,8 +32,8 @@ impl Wire for CodeDescription {
 
     fn to_value(&self, alloc: Global) -> Result<Value, NoMemory> {
         let mut object = Writer::new(alloc);
-        object.field("href", &self.href)?;
-        Ok(object.end())
+        object.field("href", &self.href);
+        object.end()
     }
 }
 
@@ -62,9 +62,9 @@ impl Wire for DiagnosticRelatedInformation {
 
     fn to_value(&self, alloc: Global) -> Result<Value, NoMemory> {
         let mut object = Writer::new(alloc);
-        object.field("location", &self.location)?;
-        object.field("message", &self.message)?;
-        Ok(object.end())
+        object.field("location", &self.location);
+        object.field("message", &self.message);
+        object.end()
     }
 }
 
@@ -167,31 +167,32 @@ impl Wire for Diagnostic {
     ghost shown = { diagnostic_row.shown };
 
     fn from_value(alloc: Global, value: &Value) -> Result<Diagnostic, Misfit> {
-        let object = Reader::new(alloc, value)?;
-        Ok(Diagnostic {
+        let mut object = Reader::new(alloc, value)?;
+        let read = Diagnostic {
             range: object.field("range")?,
-            severity: object.optional("severity")?,
-            code: object.optional("code")?,
-            code_description: object.optional("codeDescription")?,
-            source: object.optional("source")?,
+            severity: object.optional("severity"),
+            code: object.optional("code"),
+            code_description: object.optional("codeDescription"),
+            source: object.optional("source"),
             message: object.field("message")?,
-            related_information: object.optional("relatedInformation")?,
-            tags: object.optional("tags")?,
-            payload: object.optional("data")?,
-        })
+            related_information: object.optional("relatedInformation"),
+            tags: object.optional("tags"),
+            payload: object.optional("data"),
+        };
+        object.end(read)
     }
 
     fn to_value(&self, alloc: Global) -> Result<Value, NoMemory> {
         let mut object = Writer::new(alloc);
-        object.field("range", &self.range)?;
-        object.optional("severity", &self.severity)?;
-        object.optional("code", &self.code)?;
-        object.optional("codeDescription", &self.code_description)?;
-        object.optional("source", &self.source)?;
-        object.field("message", &self.message)?;
-        object.optional("relatedInformation", &self.related_information)?;
-        object.optional("tags", &self.tags)?;
-        object.optional("data", &self.payload)?;
-        Ok(object.end())
+        object.field("range", &self.range);
+        object.optional("severity", &self.severity);
+        object.optional("code", &self.code);
+        object.optional("codeDescription", &self.code_description);
+        object.optional("source", &self.source);
+        object.field("message", &self.message);
+        object.optional("relatedInformation", &self.related_information);
+        object.optional("tags", &self.tags);
+        object.optional("data", &self.payload);
+        object.end()
     }
 }

@@ -39,8 +39,8 @@ impl Wire for TextDocumentIdentifier {
 
     fn to_value(&self, alloc: Global) -> Result<Value, NoMemory> {
         let mut object = Writer::new(alloc);
-        object.field("uri", &self.uri)?;
-        Ok(object.end())
+        object.field("uri", &self.uri);
+        object.end()
     }
 }
 
@@ -90,11 +90,11 @@ impl Wire for TextDocumentItem {
 
     fn to_value(&self, alloc: Global) -> Result<Value, NoMemory> {
         let mut object = Writer::new(alloc);
-        object.field("uri", &self.uri)?;
-        object.field("languageId", &self.language_id)?;
-        object.field("version", &self.version)?;
-        object.field("text", &self.text)?;
-        Ok(object.end())
+        object.field("uri", &self.uri);
+        object.field("languageId", &self.language_id);
+        object.field("version", &self.version);
+        object.field("text", &self.text);
+        object.end()
     }
 }
 
@@ -132,9 +132,9 @@ impl Wire for VersionedTextDocumentIdentifier {
 
     fn to_value(&self, alloc: Global) -> Result<Value, NoMemory> {
         let mut object = Writer::new(alloc);
-        object.field("uri", &self.uri)?;
-        object.field("version", &self.version)?;
-        Ok(object.end())
+        object.field("uri", &self.uri);
+        object.field("version", &self.version);
+        object.end()
     }
 }
 
@@ -170,18 +170,19 @@ impl Wire for OptionalVersionedTextDocumentIdentifier {
         alloc: Global,
         value: &Value,
     ) -> Result<OptionalVersionedTextDocumentIdentifier, Misfit> {
-        let object = Reader::new(alloc, value)?;
-        Ok(OptionalVersionedTextDocumentIdentifier {
+        let mut object = Reader::new(alloc, value)?;
+        let read = OptionalVersionedTextDocumentIdentifier {
             uri: object.field("uri")?,
-            version: object.optional("version")?,
-        })
+            version: object.optional("version"),
+        };
+        object.end(read)
     }
 
     fn to_value(&self, alloc: Global) -> Result<Value, NoMemory> {
         let mut object = Writer::new(alloc);
-        object.field("uri", &self.uri)?;
-        object.nullable("version", &self.version)?;
-        Ok(object.end())
+        object.field("uri", &self.uri);
+        object.nullable("version", &self.version);
+        object.end()
     }
 }
 
@@ -226,9 +227,9 @@ impl Wire for TextDocumentPositionParams {
 
     fn to_value(&self, alloc: Global) -> Result<Value, NoMemory> {
         let mut object = Writer::new(alloc);
-        object.field("textDocument", &self.text_document)?;
-        object.field("position", &self.position)?;
-        Ok(object.end())
+        object.field("textDocument", &self.text_document);
+        object.field("position", &self.position);
+        object.end()
     }
 }
 
@@ -251,20 +252,21 @@ impl Wire for DocumentFilter {
     ghost shown = { document_filter_row.shown };
 
     fn from_value(alloc: Global, value: &Value) -> Result<DocumentFilter, Misfit> {
-        let object = Reader::new(alloc, value)?;
-        Ok(DocumentFilter {
-            language: object.optional("language")?,
-            scheme: object.optional("scheme")?,
-            pattern: object.optional("pattern")?,
-        })
+        let mut object = Reader::new(alloc, value)?;
+        let read = DocumentFilter {
+            language: object.optional("language"),
+            scheme: object.optional("scheme"),
+            pattern: object.optional("pattern"),
+        };
+        object.end(read)
     }
 
     fn to_value(&self, alloc: Global) -> Result<Value, NoMemory> {
         let mut object = Writer::new(alloc);
-        object.optional("language", &self.language)?;
-        object.optional("scheme", &self.scheme)?;
-        object.optional("pattern", &self.pattern)?;
-        Ok(object.end())
+        object.optional("language", &self.language);
+        object.optional("scheme", &self.scheme);
+        object.optional("pattern", &self.pattern);
+        object.end()
     }
 }
 
@@ -289,20 +291,21 @@ impl Wire for TextDocumentContentChangeEvent {
     ghost shown = { text_document_content_change_event_row.shown };
 
     fn from_value(alloc: Global, value: &Value) -> Result<TextDocumentContentChangeEvent, Misfit> {
-        let object = Reader::new(alloc, value)?;
-        Ok(TextDocumentContentChangeEvent {
-            range: object.optional("range")?,
-            range_length: object.optional("rangeLength")?,
+        let mut object = Reader::new(alloc, value)?;
+        let read = TextDocumentContentChangeEvent {
+            range: object.optional("range"),
+            range_length: object.optional("rangeLength"),
             text: object.field("text")?,
-        })
+        };
+        object.end(read)
     }
 
     fn to_value(&self, alloc: Global) -> Result<Value, NoMemory> {
         let mut object = Writer::new(alloc);
-        object.optional("range", &self.range)?;
-        object.optional("rangeLength", &self.range_length)?;
-        object.field("text", &self.text)?;
-        Ok(object.end())
+        object.optional("range", &self.range);
+        object.optional("rangeLength", &self.range_length);
+        object.field("text", &self.text);
+        object.end()
     }
 }
 
@@ -331,8 +334,8 @@ impl Wire for WorkspaceFolder {
 
     fn to_value(&self, alloc: Global) -> Result<Value, NoMemory> {
         let mut object = Writer::new(alloc);
-        object.field("uri", &self.uri)?;
-        object.field("name", &self.name)?;
-        Ok(object.end())
+        object.field("uri", &self.uri);
+        object.field("name", &self.name);
+        object.end()
     }
 }

@@ -87,9 +87,9 @@ impl Wire for TextEdit {
 
     fn to_value(&self, alloc: Global) -> Result<Value, NoMemory> {
         let mut object = Writer::new(alloc);
-        object.field("range", &self.range)?;
-        object.field("newText", &self.new_text)?;
-        Ok(object.end())
+        object.field("range", &self.range);
+        object.field("newText", &self.new_text);
+        object.end()
     }
 }
 
@@ -122,9 +122,9 @@ impl Wire for AnnotatedTextEdit {
 
     fn to_value(&self, alloc: Global) -> Result<Value, NoMemory> {
         let mut object = Writer::new(alloc);
-        object.flat(&self.text_edit)?;
-        object.field("annotationId", &self.annotation_id)?;
-        Ok(object.end())
+        object.flat(&self.text_edit);
+        object.field("annotationId", &self.annotation_id);
+        object.end()
     }
 }
 
@@ -153,9 +153,9 @@ impl Wire for TextDocumentEdit {
 
     fn to_value(&self, alloc: Global) -> Result<Value, NoMemory> {
         let mut object = Writer::new(alloc);
-        object.field("textDocument", &self.text_document)?;
-        object.field("edits", &self.edits)?;
-        Ok(object.end())
+        object.field("textDocument", &self.text_document);
+        object.field("edits", &self.edits);
+        object.end()
     }
 }
 
@@ -178,19 +178,20 @@ impl Wire for ChangeAnnotation {
     ghost shown = { change_annotation_row.shown };
 
     fn from_value(alloc: Global, value: &Value) -> Result<ChangeAnnotation, Misfit> {
-        let object = Reader::new(alloc, value)?;
-        Ok(ChangeAnnotation {
+        let mut object = Reader::new(alloc, value)?;
+        let read = ChangeAnnotation {
             label: object.field("label")?,
-            needs_confirmation: object.optional("needsConfirmation")?,
-            description: object.optional("description")?,
-        })
+            needs_confirmation: object.optional("needsConfirmation"),
+            description: object.optional("description"),
+        };
+        object.end(read)
     }
 
     fn to_value(&self, alloc: Global) -> Result<Value, NoMemory> {
         let mut object = Writer::new(alloc);
-        object.field("label", &self.label)?;
-        object.optional("needsConfirmation", &self.needs_confirmation)?;
-        object.optional("description", &self.description)?;
-        Ok(object.end())
+        object.field("label", &self.label);
+        object.optional("needsConfirmation", &self.needs_confirmation);
+        object.optional("description", &self.description);
+        object.end()
     }
 }

@@ -79,8 +79,8 @@ impl Wire for CancelParams {
 
     fn to_value(&self, alloc: Global) -> Result<Value, NoMemory> {
         let mut object = Writer::new(alloc);
-        object.field("id", &self.id)?;
-        Ok(object.end())
+        object.field("id", &self.id);
+        object.end()
     }
 }
 
@@ -171,9 +171,9 @@ impl Wire for Position {
 
     fn to_value(&self, alloc: Global) -> Result<Value, NoMemory> {
         let mut object = Writer::new(alloc);
-        object.field("line", &self.line)?;
-        object.field("character", &self.character)?;
-        Ok(object.end())
+        object.field("line", &self.line);
+        object.field("character", &self.character);
+        object.end()
     }
 }
 
@@ -211,9 +211,9 @@ impl Wire for Range {
 
     fn to_value(&self, alloc: Global) -> Result<Value, NoMemory> {
         let mut object = Writer::new(alloc);
-        object.field("start", &self.start)?;
-        object.field("end", &self.end)?;
-        Ok(object.end())
+        object.field("start", &self.start);
+        object.field("end", &self.end);
+        object.end()
     }
 }
 
@@ -251,9 +251,9 @@ impl Wire for Location {
 
     fn to_value(&self, alloc: Global) -> Result<Value, NoMemory> {
         let mut object = Writer::new(alloc);
-        object.field("uri", &self.uri)?;
-        object.field("range", &self.range)?;
-        Ok(object.end())
+        object.field("uri", &self.uri);
+        object.field("range", &self.range);
+        object.end()
     }
 }
 
@@ -279,21 +279,22 @@ impl Wire for LocationLink {
     ghost shown = { location_link_row.shown };
 
     fn from_value(alloc: Global, value: &Value) -> Result<LocationLink, Misfit> {
-        let object = Reader::new(alloc, value)?;
-        Ok(LocationLink {
-            origin_selection_range: object.optional("originSelectionRange")?,
+        let mut object = Reader::new(alloc, value)?;
+        let read = LocationLink {
+            origin_selection_range: object.optional("originSelectionRange"),
             target_uri: object.field("targetUri")?,
             target_range: object.field("targetRange")?,
             target_selection_range: object.field("targetSelectionRange")?,
-        })
+        };
+        object.end(read)
     }
 
     fn to_value(&self, alloc: Global) -> Result<Value, NoMemory> {
         let mut object = Writer::new(alloc);
-        object.optional("originSelectionRange", &self.origin_selection_range)?;
-        object.field("targetUri", &self.target_uri)?;
-        object.field("targetRange", &self.target_range)?;
-        object.field("targetSelectionRange", &self.target_selection_range)?;
-        Ok(object.end())
+        object.optional("originSelectionRange", &self.origin_selection_range);
+        object.field("targetUri", &self.target_uri);
+        object.field("targetRange", &self.target_range);
+        object.field("targetSelectionRange", &self.target_selection_range);
+        object.end()
     }
 }

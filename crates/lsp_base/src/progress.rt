@@ -25,16 +25,17 @@ impl Wire for PartialResultParams {
     ghost shown = { partial_result_params_row.shown };
 
     fn from_value(alloc: Global, value: &Value) -> Result<PartialResultParams, Misfit> {
-        let object = Reader::new(alloc, value)?;
-        Ok(PartialResultParams {
-            partial_result_token: object.optional("partialResultToken")?,
-        })
+        let mut object = Reader::new(alloc, value)?;
+        let read = PartialResultParams {
+            partial_result_token: object.optional("partialResultToken"),
+        };
+        object.end(read)
     }
 
     fn to_value(&self, alloc: Global) -> Result<Value, NoMemory> {
         let mut object = Writer::new(alloc);
-        object.optional("partialResultToken", &self.partial_result_token)?;
-        Ok(object.end())
+        object.optional("partialResultToken", &self.partial_result_token);
+        object.end()
     }
 }
 
@@ -53,15 +54,16 @@ impl Wire for WorkDoneProgressParams {
     ghost shown = { work_done_progress_params_row.shown };
 
     fn from_value(alloc: Global, value: &Value) -> Result<WorkDoneProgressParams, Misfit> {
-        let object = Reader::new(alloc, value)?;
-        Ok(WorkDoneProgressParams {
-            work_done_token: object.optional("workDoneToken")?,
-        })
+        let mut object = Reader::new(alloc, value)?;
+        let read = WorkDoneProgressParams {
+            work_done_token: object.optional("workDoneToken"),
+        };
+        object.end(read)
     }
 
     fn to_value(&self, alloc: Global) -> Result<Value, NoMemory> {
         let mut object = Writer::new(alloc);
-        object.optional("workDoneToken", &self.work_done_token)?;
-        Ok(object.end())
+        object.optional("workDoneToken", &self.work_done_token);
+        object.end()
     }
 }

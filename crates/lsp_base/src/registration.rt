@@ -41,8 +41,8 @@ impl<T: Wire> Wire for TagSupport<T> {
 
     fn to_value(&self, alloc: Global) -> Result<Value, NoMemory> {
         let mut object = Writer::new(alloc);
-        object.field("valueSet", &self.value_set)?;
-        Ok(object.end())
+        object.field("valueSet", &self.value_set);
+        object.end()
     }
 }
 
@@ -63,16 +63,17 @@ impl Wire for DynamicRegistrationClientCapabilities {
         alloc: Global,
         value: &Value,
     ) -> Result<DynamicRegistrationClientCapabilities, Misfit> {
-        let object = Reader::new(alloc, value)?;
-        Ok(DynamicRegistrationClientCapabilities {
-            dynamic_registration: object.optional("dynamicRegistration")?,
-        })
+        let mut object = Reader::new(alloc, value)?;
+        let read = DynamicRegistrationClientCapabilities {
+            dynamic_registration: object.optional("dynamicRegistration"),
+        };
+        object.end(read)
     }
 
     fn to_value(&self, alloc: Global) -> Result<Value, NoMemory> {
         let mut object = Writer::new(alloc);
-        object.optional("dynamicRegistration", &self.dynamic_registration)?;
-        Ok(object.end())
+        object.optional("dynamicRegistration", &self.dynamic_registration);
+        object.end()
     }
 }
 
@@ -93,18 +94,19 @@ impl Wire for GotoCapability {
     ghost shown = { goto_capability_row.shown };
 
     fn from_value(alloc: Global, value: &Value) -> Result<GotoCapability, Misfit> {
-        let object = Reader::new(alloc, value)?;
-        Ok(GotoCapability {
-            dynamic_registration: object.optional("dynamicRegistration")?,
-            link_support: object.optional("linkSupport")?,
-        })
+        let mut object = Reader::new(alloc, value)?;
+        let read = GotoCapability {
+            dynamic_registration: object.optional("dynamicRegistration"),
+            link_support: object.optional("linkSupport"),
+        };
+        object.end(read)
     }
 
     fn to_value(&self, alloc: Global) -> Result<Value, NoMemory> {
         let mut object = Writer::new(alloc);
-        object.optional("dynamicRegistration", &self.dynamic_registration)?;
-        object.optional("linkSupport", &self.link_support)?;
-        Ok(object.end())
+        object.optional("dynamicRegistration", &self.dynamic_registration);
+        object.optional("linkSupport", &self.link_support);
+        object.end()
     }
 }
 
@@ -122,16 +124,17 @@ impl Wire for TextDocumentRegistrationOptions {
     ghost shown = { text_document_registration_options_row.shown };
 
     fn from_value(alloc: Global, value: &Value) -> Result<TextDocumentRegistrationOptions, Misfit> {
-        let object = Reader::new(alloc, value)?;
-        Ok(TextDocumentRegistrationOptions {
-            document_selector: object.optional("documentSelector")?,
-        })
+        let mut object = Reader::new(alloc, value)?;
+        let read = TextDocumentRegistrationOptions {
+            document_selector: object.optional("documentSelector"),
+        };
+        object.end(read)
     }
 
     fn to_value(&self, alloc: Global) -> Result<Value, NoMemory> {
         let mut object = Writer::new(alloc);
-        object.nullable("documentSelector", &self.document_selector)?;
-        Ok(object.end())
+        object.nullable("documentSelector", &self.document_selector);
+        object.end()
     }
 }
 
@@ -151,15 +154,16 @@ impl Wire for StaticRegistrationOptions {
     ghost shown = { static_registration_options_row.shown };
 
     fn from_value(alloc: Global, value: &Value) -> Result<StaticRegistrationOptions, Misfit> {
-        let object = Reader::new(alloc, value)?;
-        Ok(StaticRegistrationOptions {
-            id: object.optional("id")?,
-        })
+        let mut object = Reader::new(alloc, value)?;
+        let read = StaticRegistrationOptions {
+            id: object.optional("id"),
+        };
+        object.end(read)
     }
 
     fn to_value(&self, alloc: Global) -> Result<Value, NoMemory> {
         let mut object = Writer::new(alloc);
-        object.optional("id", &self.id)?;
-        Ok(object.end())
+        object.optional("id", &self.id);
+        object.end()
     }
 }

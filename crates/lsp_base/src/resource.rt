@@ -23,18 +23,19 @@ impl Wire for CreateFileOptions {
     ghost shown = { create_file_options_row.shown };
 
     fn from_value(alloc: Global, value: &Value) -> Result<CreateFileOptions, Misfit> {
-        let object = Reader::new(alloc, value)?;
-        Ok(CreateFileOptions {
-            overwrite: object.optional("overwrite")?,
-            ignore_if_exists: object.optional("ignoreIfExists")?,
-        })
+        let mut object = Reader::new(alloc, value)?;
+        let read = CreateFileOptions {
+            overwrite: object.optional("overwrite"),
+            ignore_if_exists: object.optional("ignoreIfExists"),
+        };
+        object.end(read)
     }
 
     fn to_value(&self, alloc: Global) -> Result<Value, NoMemory> {
         let mut object = Writer::new(alloc);
-        object.optional("overwrite", &self.overwrite)?;
-        object.optional("ignoreIfExists", &self.ignore_if_exists)?;
-        Ok(object.end())
+        object.optional("overwrite", &self.overwrite);
+        object.optional("ignoreIfExists", &self.ignore_if_exists);
+        object.end()
     }
 }
 
@@ -56,20 +57,21 @@ impl Wire for CreateFile {
     ghost shown = { create_file_row.shown };
 
     fn from_value(alloc: Global, value: &Value) -> Result<CreateFile, Misfit> {
-        let object = Reader::new(alloc, value)?;
-        Ok(CreateFile {
+        let mut object = Reader::new(alloc, value)?;
+        let read = CreateFile {
             uri: object.field("uri")?,
-            options: object.optional("options")?,
-            annotation_id: object.optional("annotationId")?,
-        })
+            options: object.optional("options"),
+            annotation_id: object.optional("annotationId"),
+        };
+        object.end(read)
     }
 
     fn to_value(&self, alloc: Global) -> Result<Value, NoMemory> {
         let mut object = Writer::new(alloc);
-        object.field("uri", &self.uri)?;
-        object.optional("options", &self.options)?;
-        object.optional("annotationId", &self.annotation_id)?;
-        Ok(object.end())
+        object.field("uri", &self.uri);
+        object.optional("options", &self.options);
+        object.optional("annotationId", &self.annotation_id);
+        object.end()
     }
 }
 
@@ -90,18 +92,19 @@ impl Wire for RenameFileOptions {
     ghost shown = { rename_file_options_row.shown };
 
     fn from_value(alloc: Global, value: &Value) -> Result<RenameFileOptions, Misfit> {
-        let object = Reader::new(alloc, value)?;
-        Ok(RenameFileOptions {
-            overwrite: object.optional("overwrite")?,
-            ignore_if_exists: object.optional("ignoreIfExists")?,
-        })
+        let mut object = Reader::new(alloc, value)?;
+        let read = RenameFileOptions {
+            overwrite: object.optional("overwrite"),
+            ignore_if_exists: object.optional("ignoreIfExists"),
+        };
+        object.end(read)
     }
 
     fn to_value(&self, alloc: Global) -> Result<Value, NoMemory> {
         let mut object = Writer::new(alloc);
-        object.optional("overwrite", &self.overwrite)?;
-        object.optional("ignoreIfExists", &self.ignore_if_exists)?;
-        Ok(object.end())
+        object.optional("overwrite", &self.overwrite);
+        object.optional("ignoreIfExists", &self.ignore_if_exists);
+        object.end()
     }
 }
 
@@ -125,22 +128,23 @@ impl Wire for RenameFile {
     ghost shown = { rename_file_row.shown };
 
     fn from_value(alloc: Global, value: &Value) -> Result<RenameFile, Misfit> {
-        let object = Reader::new(alloc, value)?;
-        Ok(RenameFile {
+        let mut object = Reader::new(alloc, value)?;
+        let read = RenameFile {
             old_uri: object.field("oldUri")?,
             new_uri: object.field("newUri")?,
-            options: object.optional("options")?,
-            annotation_id: object.optional("annotationId")?,
-        })
+            options: object.optional("options"),
+            annotation_id: object.optional("annotationId"),
+        };
+        object.end(read)
     }
 
     fn to_value(&self, alloc: Global) -> Result<Value, NoMemory> {
         let mut object = Writer::new(alloc);
-        object.field("oldUri", &self.old_uri)?;
-        object.field("newUri", &self.new_uri)?;
-        object.optional("options", &self.options)?;
-        object.optional("annotationId", &self.annotation_id)?;
-        Ok(object.end())
+        object.field("oldUri", &self.old_uri);
+        object.field("newUri", &self.new_uri);
+        object.optional("options", &self.options);
+        object.optional("annotationId", &self.annotation_id);
+        object.end()
     }
 }
 
@@ -165,20 +169,21 @@ impl Wire for DeleteFileOptions {
     ghost shown = { delete_file_options_row.shown };
 
     fn from_value(alloc: Global, value: &Value) -> Result<DeleteFileOptions, Misfit> {
-        let object = Reader::new(alloc, value)?;
-        Ok(DeleteFileOptions {
-            recursive: object.optional("recursive")?,
-            ignore_if_not_exists: object.optional("ignoreIfNotExists")?,
-            annotation_id: object.optional("annotationId")?,
-        })
+        let mut object = Reader::new(alloc, value)?;
+        let read = DeleteFileOptions {
+            recursive: object.optional("recursive"),
+            ignore_if_not_exists: object.optional("ignoreIfNotExists"),
+            annotation_id: object.optional("annotationId"),
+        };
+        object.end(read)
     }
 
     fn to_value(&self, alloc: Global) -> Result<Value, NoMemory> {
         let mut object = Writer::new(alloc);
-        object.optional("recursive", &self.recursive)?;
-        object.optional("ignoreIfNotExists", &self.ignore_if_not_exists)?;
-        object.optional("annotationId", &self.annotation_id)?;
-        Ok(object.end())
+        object.optional("recursive", &self.recursive);
+        object.optional("ignoreIfNotExists", &self.ignore_if_not_exists);
+        object.optional("annotationId", &self.annotation_id);
+        object.end()
     }
 }
 
@@ -198,18 +203,19 @@ impl Wire for DeleteFile {
     ghost shown = { delete_file_row.shown };
 
     fn from_value(alloc: Global, value: &Value) -> Result<DeleteFile, Misfit> {
-        let object = Reader::new(alloc, value)?;
-        Ok(DeleteFile {
+        let mut object = Reader::new(alloc, value)?;
+        let read = DeleteFile {
             uri: object.field("uri")?,
-            options: object.optional("options")?,
-        })
+            options: object.optional("options"),
+        };
+        object.end(read)
     }
 
     fn to_value(&self, alloc: Global) -> Result<Value, NoMemory> {
         let mut object = Writer::new(alloc);
-        object.field("uri", &self.uri)?;
-        object.optional("options", &self.options)?;
-        Ok(object.end())
+        object.field("uri", &self.uri);
+        object.optional("options", &self.options);
+        object.end()
     }
 }
 

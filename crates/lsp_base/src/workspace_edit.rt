@@ -47,20 +47,21 @@ impl Wire for WorkspaceEdit {
     ghost shown = { workspace_edit_row.shown };
 
     fn from_value(alloc: Global, value: &Value) -> Result<WorkspaceEdit, Misfit> {
-        let object = Reader::new(alloc, value)?;
-        Ok(WorkspaceEdit {
-            changes: object.optional("changes")?,
-            document_changes: object.optional("documentChanges")?,
-            change_annotations: object.optional("changeAnnotations")?,
-        })
+        let mut object = Reader::new(alloc, value)?;
+        let read = WorkspaceEdit {
+            changes: object.optional("changes"),
+            document_changes: object.optional("documentChanges"),
+            change_annotations: object.optional("changeAnnotations"),
+        };
+        object.end(read)
     }
 
     fn to_value(&self, alloc: Global) -> Result<Value, NoMemory> {
         let mut object = Writer::new(alloc);
-        object.optional("changes", &self.changes)?;
-        object.optional("documentChanges", &self.document_changes)?;
-        object.optional("changeAnnotations", &self.change_annotations)?;
-        Ok(object.end())
+        object.optional("changes", &self.changes);
+        object.optional("documentChanges", &self.document_changes);
+        object.optional("changeAnnotations", &self.change_annotations);
+        object.end()
     }
 }
 

@@ -40,31 +40,32 @@ impl Wire for CodeActionClientCapabilities {
     ghost shown = { code_action_client_capabilities_row.shown };
 
     fn from_value(alloc: Global, value: &Value) -> Result<CodeActionClientCapabilities, Misfit> {
-        let object = Reader::new(alloc, value)?;
-        Ok(CodeActionClientCapabilities {
-            dynamic_registration: object.optional("dynamicRegistration")?,
-            code_action_literal_support: object.optional("codeActionLiteralSupport")?,
-            is_preferred_support: object.optional("isPreferredSupport")?,
-            disabled_support: object.optional("disabledSupport")?,
-            data_support: object.optional("dataSupport")?,
-            resolve_support: object.optional("resolveSupport")?,
-            honors_change_annotations: object.optional("honorsChangeAnnotations")?,
-        })
+        let mut object = Reader::new(alloc, value)?;
+        let read = CodeActionClientCapabilities {
+            dynamic_registration: object.optional("dynamicRegistration"),
+            code_action_literal_support: object.optional("codeActionLiteralSupport"),
+            is_preferred_support: object.optional("isPreferredSupport"),
+            disabled_support: object.optional("disabledSupport"),
+            data_support: object.optional("dataSupport"),
+            resolve_support: object.optional("resolveSupport"),
+            honors_change_annotations: object.optional("honorsChangeAnnotations"),
+        };
+        object.end(read)
     }
 
     fn to_value(&self, alloc: Global) -> Result<Value, NoMemory> {
         let mut object = Writer::new(alloc);
-        object.optional("dynamicRegistration", &self.dynamic_registration)?;
+        object.optional("dynamicRegistration", &self.dynamic_registration);
         object.optional(
             "codeActionLiteralSupport",
             &self.code_action_literal_support,
-        )?;
-        object.optional("isPreferredSupport", &self.is_preferred_support)?;
-        object.optional("disabledSupport", &self.disabled_support)?;
-        object.optional("dataSupport", &self.data_support)?;
-        object.optional("resolveSupport", &self.resolve_support)?;
-        object.optional("honorsChangeAnnotations", &self.honors_change_annotations)?;
-        Ok(object.end())
+        );
+        object.optional("isPreferredSupport", &self.is_preferred_support);
+        object.optional("disabledSupport", &self.disabled_support);
+        object.optional("dataSupport", &self.data_support);
+        object.optional("resolveSupport", &self.resolve_support);
+        object.optional("honorsChangeAnnotations", &self.honors_change_annotations);
+        object.end()
     }
 }
 
@@ -105,8 +106,8 @@ impl Wire for CodeActionCapabilityResolveSupport {
 
     fn to_value(&self, alloc: Global) -> Result<Value, NoMemory> {
         let mut object = Writer::new(alloc);
-        object.field("properties", &self.properties)?;
-        Ok(object.end())
+        object.field("properties", &self.properties);
+        object.end()
     }
 }
 
@@ -144,8 +145,8 @@ impl Wire for CodeActionLiteralSupport {
 
     fn to_value(&self, alloc: Global) -> Result<Value, NoMemory> {
         let mut object = Writer::new(alloc);
-        object.field("codeActionKind", &self.code_action_kind)?;
-        Ok(object.end())
+        object.field("codeActionKind", &self.code_action_kind);
+        object.end()
     }
 }
 
@@ -182,7 +183,7 @@ impl Wire for CodeActionKindLiteralSupport {
 
     fn to_value(&self, alloc: Global) -> Result<Value, NoMemory> {
         let mut object = Writer::new(alloc);
-        object.field("valueSet", &self.value_set)?;
-        Ok(object.end())
+        object.field("valueSet", &self.value_set);
+        object.end()
     }
 }

@@ -36,26 +36,27 @@ impl Wire for CompletionClientCapabilities {
     ghost shown = { completion_client_capabilities_row.shown };
 
     fn from_value(alloc: Global, value: &Value) -> Result<CompletionClientCapabilities, Misfit> {
-        let object = Reader::new(alloc, value)?;
-        Ok(CompletionClientCapabilities {
-            dynamic_registration: object.optional("dynamicRegistration")?,
-            completion_item: object.optional("completionItem")?,
-            completion_item_kind: object.optional("completionItemKind")?,
-            context_support: object.optional("contextSupport")?,
-            insert_text_mode: object.optional("insertTextMode")?,
-            completion_list: object.optional("completionList")?,
-        })
+        let mut object = Reader::new(alloc, value)?;
+        let read = CompletionClientCapabilities {
+            dynamic_registration: object.optional("dynamicRegistration"),
+            completion_item: object.optional("completionItem"),
+            completion_item_kind: object.optional("completionItemKind"),
+            context_support: object.optional("contextSupport"),
+            insert_text_mode: object.optional("insertTextMode"),
+            completion_list: object.optional("completionList"),
+        };
+        object.end(read)
     }
 
     fn to_value(&self, alloc: Global) -> Result<Value, NoMemory> {
         let mut object = Writer::new(alloc);
-        object.optional("dynamicRegistration", &self.dynamic_registration)?;
-        object.optional("completionItem", &self.completion_item)?;
-        object.optional("completionItemKind", &self.completion_item_kind)?;
-        object.optional("contextSupport", &self.context_support)?;
-        object.optional("insertTextMode", &self.insert_text_mode)?;
-        object.optional("completionList", &self.completion_list)?;
-        Ok(object.end())
+        object.optional("dynamicRegistration", &self.dynamic_registration);
+        object.optional("completionItem", &self.completion_item);
+        object.optional("completionItemKind", &self.completion_item_kind);
+        object.optional("contextSupport", &self.context_support);
+        object.optional("insertTextMode", &self.insert_text_mode);
+        object.optional("completionList", &self.completion_list);
+        object.end()
     }
 }
 
@@ -98,34 +99,35 @@ impl Wire for CompletionItemCapability {
     ghost shown = { completion_item_capability_row.shown };
 
     fn from_value(alloc: Global, value: &Value) -> Result<CompletionItemCapability, Misfit> {
-        let object = Reader::new(alloc, value)?;
-        Ok(CompletionItemCapability {
-            snippet_support: object.optional("snippetSupport")?,
-            commit_characters_support: object.optional("commitCharactersSupport")?,
-            documentation_format: object.optional("documentationFormat")?,
-            deprecated_support: object.optional("deprecatedSupport")?,
-            preselect_support: object.optional("preselectSupport")?,
-            tag_support: object.supported("tagSupport")?,
-            insert_replace_support: object.optional("insertReplaceSupport")?,
-            resolve_support: object.optional("resolveSupport")?,
-            insert_text_mode_support: object.optional("insertTextModeSupport")?,
-            label_details_support: object.optional("labelDetailsSupport")?,
-        })
+        let mut object = Reader::new(alloc, value)?;
+        let read = CompletionItemCapability {
+            snippet_support: object.optional("snippetSupport"),
+            commit_characters_support: object.optional("commitCharactersSupport"),
+            documentation_format: object.optional("documentationFormat"),
+            deprecated_support: object.optional("deprecatedSupport"),
+            preselect_support: object.optional("preselectSupport"),
+            tag_support: object.supported("tagSupport"),
+            insert_replace_support: object.optional("insertReplaceSupport"),
+            resolve_support: object.optional("resolveSupport"),
+            insert_text_mode_support: object.optional("insertTextModeSupport"),
+            label_details_support: object.optional("labelDetailsSupport"),
+        };
+        object.end(read)
     }
 
     fn to_value(&self, alloc: Global) -> Result<Value, NoMemory> {
         let mut object = Writer::new(alloc);
-        object.optional("snippetSupport", &self.snippet_support)?;
-        object.optional("commitCharactersSupport", &self.commit_characters_support)?;
-        object.optional("documentationFormat", &self.documentation_format)?;
-        object.optional("deprecatedSupport", &self.deprecated_support)?;
-        object.optional("preselectSupport", &self.preselect_support)?;
-        object.optional("tagSupport", &self.tag_support)?;
-        object.optional("insertReplaceSupport", &self.insert_replace_support)?;
-        object.optional("resolveSupport", &self.resolve_support)?;
-        object.optional("insertTextModeSupport", &self.insert_text_mode_support)?;
-        object.optional("labelDetailsSupport", &self.label_details_support)?;
-        Ok(object.end())
+        object.optional("snippetSupport", &self.snippet_support);
+        object.optional("commitCharactersSupport", &self.commit_characters_support);
+        object.optional("documentationFormat", &self.documentation_format);
+        object.optional("deprecatedSupport", &self.deprecated_support);
+        object.optional("preselectSupport", &self.preselect_support);
+        object.optional("tagSupport", &self.tag_support);
+        object.optional("insertReplaceSupport", &self.insert_replace_support);
+        object.optional("resolveSupport", &self.resolve_support);
+        object.optional("insertTextModeSupport", &self.insert_text_mode_support);
+        object.optional("labelDetailsSupport", &self.label_details_support);
+        object.end()
     }
 }
 
@@ -166,8 +168,8 @@ impl Wire for CompletionItemCapabilityResolveSupport {
 
     fn to_value(&self, alloc: Global) -> Result<Value, NoMemory> {
         let mut object = Writer::new(alloc);
-        object.field("properties", &self.properties)?;
-        Ok(object.end())
+        object.field("properties", &self.properties);
+        object.end()
     }
 }
 
@@ -205,8 +207,8 @@ impl Wire for InsertTextModeSupport {
 
     fn to_value(&self, alloc: Global) -> Result<Value, NoMemory> {
         let mut object = Writer::new(alloc);
-        object.field("valueSet", &self.value_set)?;
-        Ok(object.end())
+        object.field("valueSet", &self.value_set);
+        object.end()
     }
 }
 
@@ -226,16 +228,17 @@ impl Wire for CompletionItemKindCapability {
     ghost shown = { completion_item_kind_capability_row.shown };
 
     fn from_value(alloc: Global, value: &Value) -> Result<CompletionItemKindCapability, Misfit> {
-        let object = Reader::new(alloc, value)?;
-        Ok(CompletionItemKindCapability {
-            value_set: object.optional("valueSet")?,
-        })
+        let mut object = Reader::new(alloc, value)?;
+        let read = CompletionItemKindCapability {
+            value_set: object.optional("valueSet"),
+        };
+        object.end(read)
     }
 
     fn to_value(&self, alloc: Global) -> Result<Value, NoMemory> {
         let mut object = Writer::new(alloc);
-        object.optional("valueSet", &self.value_set)?;
-        Ok(object.end())
+        object.optional("valueSet", &self.value_set);
+        object.end()
     }
 }
 
@@ -255,15 +258,16 @@ impl Wire for CompletionListCapability {
     ghost shown = { completion_list_capability_row.shown };
 
     fn from_value(alloc: Global, value: &Value) -> Result<CompletionListCapability, Misfit> {
-        let object = Reader::new(alloc, value)?;
-        Ok(CompletionListCapability {
-            item_defaults: object.optional("itemDefaults")?,
-        })
+        let mut object = Reader::new(alloc, value)?;
+        let read = CompletionListCapability {
+            item_defaults: object.optional("itemDefaults"),
+        };
+        object.end(read)
     }
 
     fn to_value(&self, alloc: Global) -> Result<Value, NoMemory> {
         let mut object = Writer::new(alloc);
-        object.optional("itemDefaults", &self.item_defaults)?;
-        Ok(object.end())
+        object.optional("itemDefaults", &self.item_defaults);
+        object.end()
     }
 }

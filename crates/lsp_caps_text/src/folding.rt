@@ -32,24 +32,25 @@ impl Wire for FoldingRangeClientCapabilities {
     ghost shown = { folding_range_client_capabilities_row.shown };
 
     fn from_value(alloc: Global, value: &Value) -> Result<FoldingRangeClientCapabilities, Misfit> {
-        let object = Reader::new(alloc, value)?;
-        Ok(FoldingRangeClientCapabilities {
-            dynamic_registration: object.optional("dynamicRegistration")?,
-            range_limit: object.optional("rangeLimit")?,
-            line_folding_only: object.optional("lineFoldingOnly")?,
-            folding_range_kind: object.optional("foldingRangeKind")?,
-            folding_range: object.optional("foldingRange")?,
-        })
+        let mut object = Reader::new(alloc, value)?;
+        let read = FoldingRangeClientCapabilities {
+            dynamic_registration: object.optional("dynamicRegistration"),
+            range_limit: object.optional("rangeLimit"),
+            line_folding_only: object.optional("lineFoldingOnly"),
+            folding_range_kind: object.optional("foldingRangeKind"),
+            folding_range: object.optional("foldingRange"),
+        };
+        object.end(read)
     }
 
     fn to_value(&self, alloc: Global) -> Result<Value, NoMemory> {
         let mut object = Writer::new(alloc);
-        object.optional("dynamicRegistration", &self.dynamic_registration)?;
-        object.optional("rangeLimit", &self.range_limit)?;
-        object.optional("lineFoldingOnly", &self.line_folding_only)?;
-        object.optional("foldingRangeKind", &self.folding_range_kind)?;
-        object.optional("foldingRange", &self.folding_range)?;
-        Ok(object.end())
+        object.optional("dynamicRegistration", &self.dynamic_registration);
+        object.optional("rangeLimit", &self.range_limit);
+        object.optional("lineFoldingOnly", &self.line_folding_only);
+        object.optional("foldingRangeKind", &self.folding_range_kind);
+        object.optional("foldingRange", &self.folding_range);
+        object.end()
     }
 }
 
@@ -69,16 +70,17 @@ impl Wire for FoldingRangeKindCapability {
     ghost shown = { folding_range_kind_capability_row.shown };
 
     fn from_value(alloc: Global, value: &Value) -> Result<FoldingRangeKindCapability, Misfit> {
-        let object = Reader::new(alloc, value)?;
-        Ok(FoldingRangeKindCapability {
-            value_set: object.optional("valueSet")?,
-        })
+        let mut object = Reader::new(alloc, value)?;
+        let read = FoldingRangeKindCapability {
+            value_set: object.optional("valueSet"),
+        };
+        object.end(read)
     }
 
     fn to_value(&self, alloc: Global) -> Result<Value, NoMemory> {
         let mut object = Writer::new(alloc);
-        object.optional("valueSet", &self.value_set)?;
-        Ok(object.end())
+        object.optional("valueSet", &self.value_set);
+        object.end()
     }
 }
 
@@ -97,15 +99,16 @@ impl Wire for FoldingRangeCapability {
     ghost shown = { folding_range_capability_row.shown };
 
     fn from_value(alloc: Global, value: &Value) -> Result<FoldingRangeCapability, Misfit> {
-        let object = Reader::new(alloc, value)?;
-        Ok(FoldingRangeCapability {
-            collapsed_text: object.optional("collapsedText")?,
-        })
+        let mut object = Reader::new(alloc, value)?;
+        let read = FoldingRangeCapability {
+            collapsed_text: object.optional("collapsedText"),
+        };
+        object.end(read)
     }
 
     fn to_value(&self, alloc: Global) -> Result<Value, NoMemory> {
         let mut object = Writer::new(alloc);
-        object.optional("collapsedText", &self.collapsed_text)?;
-        Ok(object.end())
+        object.optional("collapsedText", &self.collapsed_text);
+        object.end()
     }
 }

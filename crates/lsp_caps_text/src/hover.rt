@@ -24,17 +24,18 @@ impl Wire for HoverClientCapabilities {
     ghost shown = { hover_client_capabilities_row.shown };
 
     fn from_value(alloc: Global, value: &Value) -> Result<HoverClientCapabilities, Misfit> {
-        let object = Reader::new(alloc, value)?;
-        Ok(HoverClientCapabilities {
-            dynamic_registration: object.optional("dynamicRegistration")?,
-            content_format: object.optional("contentFormat")?,
-        })
+        let mut object = Reader::new(alloc, value)?;
+        let read = HoverClientCapabilities {
+            dynamic_registration: object.optional("dynamicRegistration"),
+            content_format: object.optional("contentFormat"),
+        };
+        object.end(read)
     }
 
     fn to_value(&self, alloc: Global) -> Result<Value, NoMemory> {
         let mut object = Writer::new(alloc);
-        object.optional("dynamicRegistration", &self.dynamic_registration)?;
-        object.optional("contentFormat", &self.content_format)?;
-        Ok(object.end())
+        object.optional("dynamicRegistration", &self.dynamic_registration);
+        object.optional("contentFormat", &self.content_format);
+        object.end()
     }
 }

@@ -25,18 +25,19 @@ impl Wire for InlayHintClientCapabilities {
     ghost shown = { inlay_hint_client_capabilities_row.shown };
 
     fn from_value(alloc: Global, value: &Value) -> Result<InlayHintClientCapabilities, Misfit> {
-        let object = Reader::new(alloc, value)?;
-        Ok(InlayHintClientCapabilities {
-            dynamic_registration: object.optional("dynamicRegistration")?,
-            resolve_support: object.optional("resolveSupport")?,
-        })
+        let mut object = Reader::new(alloc, value)?;
+        let read = InlayHintClientCapabilities {
+            dynamic_registration: object.optional("dynamicRegistration"),
+            resolve_support: object.optional("resolveSupport"),
+        };
+        object.end(read)
     }
 
     fn to_value(&self, alloc: Global) -> Result<Value, NoMemory> {
         let mut object = Writer::new(alloc);
-        object.optional("dynamicRegistration", &self.dynamic_registration)?;
-        object.optional("resolveSupport", &self.resolve_support)?;
-        Ok(object.end())
+        object.optional("dynamicRegistration", &self.dynamic_registration);
+        object.optional("resolveSupport", &self.resolve_support);
+        object.end()
     }
 }
 
@@ -77,8 +78,8 @@ impl Wire for InlayHintResolveClientCapabilities {
 
     fn to_value(&self, alloc: Global) -> Result<Value, NoMemory> {
         let mut object = Writer::new(alloc);
-        object.field("properties", &self.properties)?;
-        Ok(object.end())
+        object.field("properties", &self.properties);
+        object.end()
     }
 }
 

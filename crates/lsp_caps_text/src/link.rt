@@ -23,17 +23,18 @@ impl Wire for DocumentLinkClientCapabilities {
     ghost shown = { document_link_client_capabilities_row.shown };
 
     fn from_value(alloc: Global, value: &Value) -> Result<DocumentLinkClientCapabilities, Misfit> {
-        let object = Reader::new(alloc, value)?;
-        Ok(DocumentLinkClientCapabilities {
-            dynamic_registration: object.optional("dynamicRegistration")?,
-            tooltip_support: object.optional("tooltipSupport")?,
-        })
+        let mut object = Reader::new(alloc, value)?;
+        let read = DocumentLinkClientCapabilities {
+            dynamic_registration: object.optional("dynamicRegistration"),
+            tooltip_support: object.optional("tooltipSupport"),
+        };
+        object.end(read)
     }
 
     fn to_value(&self, alloc: Global) -> Result<Value, NoMemory> {
         let mut object = Writer::new(alloc);
-        object.optional("dynamicRegistration", &self.dynamic_registration)?;
-        object.optional("tooltipSupport", &self.tooltip_support)?;
-        Ok(object.end())
+        object.optional("dynamicRegistration", &self.dynamic_registration);
+        object.optional("tooltipSupport", &self.tooltip_support);
+        object.end()
     }
 }

@@ -35,24 +35,25 @@ impl Wire for PublishDiagnosticsClientCapabilities {
         alloc: Global,
         value: &Value,
     ) -> Result<PublishDiagnosticsClientCapabilities, Misfit> {
-        let object = Reader::new(alloc, value)?;
-        Ok(PublishDiagnosticsClientCapabilities {
-            related_information: object.optional("relatedInformation")?,
-            tag_support: object.supported("tagSupport")?,
-            version_support: object.optional("versionSupport")?,
-            code_description_support: object.optional("codeDescriptionSupport")?,
-            data_support: object.optional("dataSupport")?,
-        })
+        let mut object = Reader::new(alloc, value)?;
+        let read = PublishDiagnosticsClientCapabilities {
+            related_information: object.optional("relatedInformation"),
+            tag_support: object.supported("tagSupport"),
+            version_support: object.optional("versionSupport"),
+            code_description_support: object.optional("codeDescriptionSupport"),
+            data_support: object.optional("dataSupport"),
+        };
+        object.end(read)
     }
 
     fn to_value(&self, alloc: Global) -> Result<Value, NoMemory> {
         let mut object = Writer::new(alloc);
-        object.optional("relatedInformation", &self.related_information)?;
-        object.optional("tagSupport", &self.tag_support)?;
-        object.optional("versionSupport", &self.version_support)?;
-        object.optional("codeDescriptionSupport", &self.code_description_support)?;
-        object.optional("dataSupport", &self.data_support)?;
-        Ok(object.end())
+        object.optional("relatedInformation", &self.related_information);
+        object.optional("tagSupport", &self.tag_support);
+        object.optional("versionSupport", &self.version_support);
+        object.optional("codeDescriptionSupport", &self.code_description_support);
+        object.optional("dataSupport", &self.data_support);
+        object.end()
     }
 }
 
@@ -74,17 +75,18 @@ impl Wire for DiagnosticClientCapabilities {
     ghost shown = { diagnostic_client_capabilities_row.shown };
 
     fn from_value(alloc: Global, value: &Value) -> Result<DiagnosticClientCapabilities, Misfit> {
-        let object = Reader::new(alloc, value)?;
-        Ok(DiagnosticClientCapabilities {
-            dynamic_registration: object.optional("dynamicRegistration")?,
-            related_document_support: object.optional("relatedDocumentSupport")?,
-        })
+        let mut object = Reader::new(alloc, value)?;
+        let read = DiagnosticClientCapabilities {
+            dynamic_registration: object.optional("dynamicRegistration"),
+            related_document_support: object.optional("relatedDocumentSupport"),
+        };
+        object.end(read)
     }
 
     fn to_value(&self, alloc: Global) -> Result<Value, NoMemory> {
         let mut object = Writer::new(alloc);
-        object.optional("dynamicRegistration", &self.dynamic_registration)?;
-        object.optional("relatedDocumentSupport", &self.related_document_support)?;
-        Ok(object.end())
+        object.optional("dynamicRegistration", &self.dynamic_registration);
+        object.optional("relatedDocumentSupport", &self.related_document_support);
+        object.end()
     }
 }

@@ -31,24 +31,25 @@ impl Wire for RenameClientCapabilities {
     ghost shown = { rename_client_capabilities_row.shown };
 
     fn from_value(alloc: Global, value: &Value) -> Result<RenameClientCapabilities, Misfit> {
-        let object = Reader::new(alloc, value)?;
-        Ok(RenameClientCapabilities {
-            dynamic_registration: object.optional("dynamicRegistration")?,
-            prepare_support: object.optional("prepareSupport")?,
-            prepare_support_default_behavior: object.optional("prepareSupportDefaultBehavior")?,
-            honors_change_annotations: object.optional("honorsChangeAnnotations")?,
-        })
+        let mut object = Reader::new(alloc, value)?;
+        let read = RenameClientCapabilities {
+            dynamic_registration: object.optional("dynamicRegistration"),
+            prepare_support: object.optional("prepareSupport"),
+            prepare_support_default_behavior: object.optional("prepareSupportDefaultBehavior"),
+            honors_change_annotations: object.optional("honorsChangeAnnotations"),
+        };
+        object.end(read)
     }
 
     fn to_value(&self, alloc: Global) -> Result<Value, NoMemory> {
         let mut object = Writer::new(alloc);
-        object.optional("dynamicRegistration", &self.dynamic_registration)?;
-        object.optional("prepareSupport", &self.prepare_support)?;
+        object.optional("dynamicRegistration", &self.dynamic_registration);
+        object.optional("prepareSupport", &self.prepare_support);
         object.optional(
             "prepareSupportDefaultBehavior",
             &self.prepare_support_default_behavior,
-        )?;
-        object.optional("honorsChangeAnnotations", &self.honors_change_annotations)?;
-        Ok(object.end())
+        );
+        object.optional("honorsChangeAnnotations", &self.honors_change_annotations);
+        object.end()
     }
 }

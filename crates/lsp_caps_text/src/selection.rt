@@ -25,16 +25,17 @@ impl Wire for SelectionRangeClientCapabilities {
         alloc: Global,
         value: &Value,
     ) -> Result<SelectionRangeClientCapabilities, Misfit> {
-        let object = Reader::new(alloc, value)?;
-        Ok(SelectionRangeClientCapabilities {
-            dynamic_registration: object.optional("dynamicRegistration")?,
-        })
+        let mut object = Reader::new(alloc, value)?;
+        let read = SelectionRangeClientCapabilities {
+            dynamic_registration: object.optional("dynamicRegistration"),
+        };
+        object.end(read)
     }
 
     fn to_value(&self, alloc: Global) -> Result<Value, NoMemory> {
         let mut object = Writer::new(alloc);
-        object.optional("dynamicRegistration", &self.dynamic_registration)?;
-        Ok(object.end())
+        object.optional("dynamicRegistration", &self.dynamic_registration);
+        object.end()
     }
 }
 

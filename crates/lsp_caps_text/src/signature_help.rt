@@ -27,20 +27,21 @@ impl Wire for SignatureHelpClientCapabilities {
     ghost shown = { signature_help_client_capabilities_row.shown };
 
     fn from_value(alloc: Global, value: &Value) -> Result<SignatureHelpClientCapabilities, Misfit> {
-        let object = Reader::new(alloc, value)?;
-        Ok(SignatureHelpClientCapabilities {
-            dynamic_registration: object.optional("dynamicRegistration")?,
-            signature_information: object.optional("signatureInformation")?,
-            context_support: object.optional("contextSupport")?,
-        })
+        let mut object = Reader::new(alloc, value)?;
+        let read = SignatureHelpClientCapabilities {
+            dynamic_registration: object.optional("dynamicRegistration"),
+            signature_information: object.optional("signatureInformation"),
+            context_support: object.optional("contextSupport"),
+        };
+        object.end(read)
     }
 
     fn to_value(&self, alloc: Global) -> Result<Value, NoMemory> {
         let mut object = Writer::new(alloc);
-        object.optional("dynamicRegistration", &self.dynamic_registration)?;
-        object.optional("signatureInformation", &self.signature_information)?;
-        object.optional("contextSupport", &self.context_support)?;
-        Ok(object.end())
+        object.optional("dynamicRegistration", &self.dynamic_registration);
+        object.optional("signatureInformation", &self.signature_information);
+        object.optional("contextSupport", &self.context_support);
+        object.end()
     }
 }
 
@@ -64,20 +65,21 @@ impl Wire for SignatureInformationSettings {
     ghost shown = { signature_information_settings_row.shown };
 
     fn from_value(alloc: Global, value: &Value) -> Result<SignatureInformationSettings, Misfit> {
-        let object = Reader::new(alloc, value)?;
-        Ok(SignatureInformationSettings {
-            documentation_format: object.optional("documentationFormat")?,
-            parameter_information: object.optional("parameterInformation")?,
-            active_parameter_support: object.optional("activeParameterSupport")?,
-        })
+        let mut object = Reader::new(alloc, value)?;
+        let read = SignatureInformationSettings {
+            documentation_format: object.optional("documentationFormat"),
+            parameter_information: object.optional("parameterInformation"),
+            active_parameter_support: object.optional("activeParameterSupport"),
+        };
+        object.end(read)
     }
 
     fn to_value(&self, alloc: Global) -> Result<Value, NoMemory> {
         let mut object = Writer::new(alloc);
-        object.optional("documentationFormat", &self.documentation_format)?;
-        object.optional("parameterInformation", &self.parameter_information)?;
-        object.optional("activeParameterSupport", &self.active_parameter_support)?;
-        Ok(object.end())
+        object.optional("documentationFormat", &self.documentation_format);
+        object.optional("parameterInformation", &self.parameter_information);
+        object.optional("activeParameterSupport", &self.active_parameter_support);
+        object.end()
     }
 }
 
@@ -98,15 +100,16 @@ impl Wire for ParameterInformationSettings {
     ghost shown = { parameter_information_settings_row.shown };
 
     fn from_value(alloc: Global, value: &Value) -> Result<ParameterInformationSettings, Misfit> {
-        let object = Reader::new(alloc, value)?;
-        Ok(ParameterInformationSettings {
-            label_offset_support: object.optional("labelOffsetSupport")?,
-        })
+        let mut object = Reader::new(alloc, value)?;
+        let read = ParameterInformationSettings {
+            label_offset_support: object.optional("labelOffsetSupport"),
+        };
+        object.end(read)
     }
 
     fn to_value(&self, alloc: Global) -> Result<Value, NoMemory> {
         let mut object = Writer::new(alloc);
-        object.optional("labelOffsetSupport", &self.label_offset_support)?;
-        Ok(object.end())
+        object.optional("labelOffsetSupport", &self.label_offset_support);
+        object.end()
     }
 }

@@ -35,26 +35,27 @@ impl Wire for DocumentSymbolClientCapabilities {
         alloc: Global,
         value: &Value,
     ) -> Result<DocumentSymbolClientCapabilities, Misfit> {
-        let object = Reader::new(alloc, value)?;
-        Ok(DocumentSymbolClientCapabilities {
-            dynamic_registration: object.optional("dynamicRegistration")?,
-            symbol_kind: object.optional("symbolKind")?,
+        let mut object = Reader::new(alloc, value)?;
+        let read = DocumentSymbolClientCapabilities {
+            dynamic_registration: object.optional("dynamicRegistration"),
+            symbol_kind: object.optional("symbolKind"),
             hierarchical_document_symbol_support: object.optional(
                 "hierarchicalDocumentSymbolSupport",
-            )?,
-            tag_support: object.supported("tagSupport")?,
-        })
+            ),
+            tag_support: object.supported("tagSupport"),
+        };
+        object.end(read)
     }
 
     fn to_value(&self, alloc: Global) -> Result<Value, NoMemory> {
         let mut object = Writer::new(alloc);
-        object.optional("dynamicRegistration", &self.dynamic_registration)?;
-        object.optional("symbolKind", &self.symbol_kind)?;
+        object.optional("dynamicRegistration", &self.dynamic_registration);
+        object.optional("symbolKind", &self.symbol_kind);
         object.optional(
             "hierarchicalDocumentSymbolSupport",
             &self.hierarchical_document_symbol_support,
-        )?;
-        object.optional("tagSupport", &self.tag_support)?;
-        Ok(object.end())
+        );
+        object.optional("tagSupport", &self.tag_support);
+        object.end()
     }
 }

@@ -31,21 +31,22 @@ impl Wire for TextDocumentSyncClientCapabilities {
         alloc: Global,
         value: &Value,
     ) -> Result<TextDocumentSyncClientCapabilities, Misfit> {
-        let object = Reader::new(alloc, value)?;
-        Ok(TextDocumentSyncClientCapabilities {
-            dynamic_registration: object.optional("dynamicRegistration")?,
-            will_save: object.optional("willSave")?,
-            will_save_wait_until: object.optional("willSaveWaitUntil")?,
-            did_save: object.optional("didSave")?,
-        })
+        let mut object = Reader::new(alloc, value)?;
+        let read = TextDocumentSyncClientCapabilities {
+            dynamic_registration: object.optional("dynamicRegistration"),
+            will_save: object.optional("willSave"),
+            will_save_wait_until: object.optional("willSaveWaitUntil"),
+            did_save: object.optional("didSave"),
+        };
+        object.end(read)
     }
 
     fn to_value(&self, alloc: Global) -> Result<Value, NoMemory> {
         let mut object = Writer::new(alloc);
-        object.optional("dynamicRegistration", &self.dynamic_registration)?;
-        object.optional("willSave", &self.will_save)?;
-        object.optional("willSaveWaitUntil", &self.will_save_wait_until)?;
-        object.optional("didSave", &self.did_save)?;
-        Ok(object.end())
+        object.optional("dynamicRegistration", &self.dynamic_registration);
+        object.optional("willSave", &self.will_save);
+        object.optional("willSaveWaitUntil", &self.will_save_wait_until);
+        object.optional("didSave", &self.did_save);
+        object.end()
     }
 }

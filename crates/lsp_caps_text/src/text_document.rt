@@ -103,73 +103,74 @@ impl Wire for TextDocumentClientCapabilities {
     ghost shown = { text_document_client_capabilities_row.shown };
 
     fn from_value(alloc: Global, value: &Value) -> Result<TextDocumentClientCapabilities, Misfit> {
-        let object = Reader::new(alloc, value)?;
-        Ok(TextDocumentClientCapabilities {
-            synchronization: object.optional("synchronization")?,
-            completion: object.optional("completion")?,
-            hover: object.optional("hover")?,
-            signature_help: object.optional("signatureHelp")?,
-            references: object.optional("references")?,
-            document_highlight: object.optional("documentHighlight")?,
-            document_symbol: object.optional("documentSymbol")?,
-            formatting: object.optional("formatting")?,
-            range_formatting: object.optional("rangeFormatting")?,
-            on_type_formatting: object.optional("onTypeFormatting")?,
-            declaration: object.optional("declaration")?,
-            definition: object.optional("definition")?,
-            type_definition: object.optional("typeDefinition")?,
-            implementation: object.optional("implementation")?,
-            code_action: object.optional("codeAction")?,
-            code_lens: object.optional("codeLens")?,
-            document_link: object.optional("documentLink")?,
-            color_provider: object.optional("colorProvider")?,
-            rename: object.optional("rename")?,
-            publish_diagnostics: object.optional("publishDiagnostics")?,
-            folding_range: object.optional("foldingRange")?,
-            selection_range: object.optional("selectionRange")?,
-            linked_editing_range: object.optional("linkedEditingRange")?,
-            call_hierarchy: object.optional("callHierarchy")?,
-            semantic_tokens: object.optional("semanticTokens")?,
-            moniker: object.optional("moniker")?,
-            type_hierarchy: object.optional("typeHierarchy")?,
-            inline_value: object.optional("inlineValue")?,
-            inlay_hint: object.optional("inlayHint")?,
-            diagnostic: object.optional("diagnostic")?,
-        })
+        let mut object = Reader::new(alloc, value)?;
+        let read = TextDocumentClientCapabilities {
+            synchronization: object.optional("synchronization"),
+            completion: object.optional("completion"),
+            hover: object.optional("hover"),
+            signature_help: object.optional("signatureHelp"),
+            references: object.optional("references"),
+            document_highlight: object.optional("documentHighlight"),
+            document_symbol: object.optional("documentSymbol"),
+            formatting: object.optional("formatting"),
+            range_formatting: object.optional("rangeFormatting"),
+            on_type_formatting: object.optional("onTypeFormatting"),
+            declaration: object.optional("declaration"),
+            definition: object.optional("definition"),
+            type_definition: object.optional("typeDefinition"),
+            implementation: object.optional("implementation"),
+            code_action: object.optional("codeAction"),
+            code_lens: object.optional("codeLens"),
+            document_link: object.optional("documentLink"),
+            color_provider: object.optional("colorProvider"),
+            rename: object.optional("rename"),
+            publish_diagnostics: object.optional("publishDiagnostics"),
+            folding_range: object.optional("foldingRange"),
+            selection_range: object.optional("selectionRange"),
+            linked_editing_range: object.optional("linkedEditingRange"),
+            call_hierarchy: object.optional("callHierarchy"),
+            semantic_tokens: object.optional("semanticTokens"),
+            moniker: object.optional("moniker"),
+            type_hierarchy: object.optional("typeHierarchy"),
+            inline_value: object.optional("inlineValue"),
+            inlay_hint: object.optional("inlayHint"),
+            diagnostic: object.optional("diagnostic"),
+        };
+        object.end(read)
     }
 
     fn to_value(&self, alloc: Global) -> Result<Value, NoMemory> {
         let mut object = Writer::new(alloc);
-        object.optional("synchronization", &self.synchronization)?;
-        object.optional("completion", &self.completion)?;
-        object.optional("hover", &self.hover)?;
-        object.optional("signatureHelp", &self.signature_help)?;
-        object.optional("references", &self.references)?;
-        object.optional("documentHighlight", &self.document_highlight)?;
-        object.optional("documentSymbol", &self.document_symbol)?;
-        object.optional("formatting", &self.formatting)?;
-        object.optional("rangeFormatting", &self.range_formatting)?;
-        object.optional("onTypeFormatting", &self.on_type_formatting)?;
-        object.optional("declaration", &self.declaration)?;
-        object.optional("definition", &self.definition)?;
-        object.optional("typeDefinition", &self.type_definition)?;
-        object.optional("implementation", &self.implementation)?;
-        object.optional("codeAction", &self.code_action)?;
-        object.optional("codeLens", &self.code_lens)?;
-        object.optional("documentLink", &self.document_link)?;
-        object.optional("colorProvider", &self.color_provider)?;
-        object.optional("rename", &self.rename)?;
-        object.optional("publishDiagnostics", &self.publish_diagnostics)?;
-        object.optional("foldingRange", &self.folding_range)?;
-        object.optional("selectionRange", &self.selection_range)?;
-        object.optional("linkedEditingRange", &self.linked_editing_range)?;
-        object.optional("callHierarchy", &self.call_hierarchy)?;
-        object.optional("semanticTokens", &self.semantic_tokens)?;
-        object.optional("moniker", &self.moniker)?;
-        object.optional("typeHierarchy", &self.type_hierarchy)?;
-        object.optional("inlineValue", &self.inline_value)?;
-        object.optional("inlayHint", &self.inlay_hint)?;
-        object.optional("diagnostic", &self.diagnostic)?;
-        Ok(object.end())
+        object.optional("synchronization", &self.synchronization);
+        object.optional("completion", &self.completion);
+        object.optional("hover", &self.hover);
+        object.optional("signatureHelp", &self.signature_help);
+        object.optional("references", &self.references);
+        object.optional("documentHighlight", &self.document_highlight);
+        object.optional("documentSymbol", &self.document_symbol);
+        object.optional("formatting", &self.formatting);
+        object.optional("rangeFormatting", &self.range_formatting);
+        object.optional("onTypeFormatting", &self.on_type_formatting);
+        object.optional("declaration", &self.declaration);
+        object.optional("definition", &self.definition);
+        object.optional("typeDefinition", &self.type_definition);
+        object.optional("implementation", &self.implementation);
+        object.optional("codeAction", &self.code_action);
+        object.optional("codeLens", &self.code_lens);
+        object.optional("documentLink", &self.document_link);
+        object.optional("colorProvider", &self.color_provider);
+        object.optional("rename", &self.rename);
+        object.optional("publishDiagnostics", &self.publish_diagnostics);
+        object.optional("foldingRange", &self.folding_range);
+        object.optional("selectionRange", &self.selection_range);
+        object.optional("linkedEditingRange", &self.linked_editing_range);
+        object.optional("callHierarchy", &self.call_hierarchy);
+        object.optional("semanticTokens", &self.semantic_tokens);
+        object.optional("moniker", &self.moniker);
+        object.optional("typeHierarchy", &self.type_hierarchy);
+        object.optional("inlineValue", &self.inline_value);
+        object.optional("inlayHint", &self.inlay_hint);
+        object.optional("diagnostic", &self.diagnostic);
+        object.end()
     }
 }

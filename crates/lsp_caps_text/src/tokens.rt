@@ -72,32 +72,33 @@ impl Wire for SemanticTokensClientCapabilities {
         alloc: Global,
         value: &Value,
     ) -> Result<SemanticTokensClientCapabilities, Misfit> {
-        let object = Reader::new(alloc, value)?;
-        Ok(SemanticTokensClientCapabilities {
-            dynamic_registration: object.optional("dynamicRegistration")?,
+        let mut object = Reader::new(alloc, value)?;
+        let read = SemanticTokensClientCapabilities {
+            dynamic_registration: object.optional("dynamicRegistration"),
             requests: object.field("requests")?,
             token_types: object.field("tokenTypes")?,
             token_modifiers: object.field("tokenModifiers")?,
             formats: object.field("formats")?,
-            overlapping_token_support: object.optional("overlappingTokenSupport")?,
-            multiline_token_support: object.optional("multilineTokenSupport")?,
-            server_cancel_support: object.optional("serverCancelSupport")?,
-            augments_syntax_tokens: object.optional("augmentsSyntaxTokens")?,
-        })
+            overlapping_token_support: object.optional("overlappingTokenSupport"),
+            multiline_token_support: object.optional("multilineTokenSupport"),
+            server_cancel_support: object.optional("serverCancelSupport"),
+            augments_syntax_tokens: object.optional("augmentsSyntaxTokens"),
+        };
+        object.end(read)
     }
 
     fn to_value(&self, alloc: Global) -> Result<Value, NoMemory> {
         let mut object = Writer::new(alloc);
-        object.optional("dynamicRegistration", &self.dynamic_registration)?;
-        object.field("requests", &self.requests)?;
-        object.field("tokenTypes", &self.token_types)?;
-        object.field("tokenModifiers", &self.token_modifiers)?;
-        object.field("formats", &self.formats)?;
-        object.optional("overlappingTokenSupport", &self.overlapping_token_support)?;
-        object.optional("multilineTokenSupport", &self.multiline_token_support)?;
-        object.optional("serverCancelSupport", &self.server_cancel_support)?;
-        object.optional("augmentsSyntaxTokens", &self.augments_syntax_tokens)?;
-        Ok(object.end())
+        object.optional("dynamicRegistration", &self.dynamic_registration);
+        object.field("requests", &self.requests);
+        object.field("tokenTypes", &self.token_types);
+        object.field("tokenModifiers", &self.token_modifiers);
+        object.field("formats", &self.formats);
+        object.optional("overlappingTokenSupport", &self.overlapping_token_support);
+        object.optional("multilineTokenSupport", &self.multiline_token_support);
+        object.optional("serverCancelSupport", &self.server_cancel_support);
+        object.optional("augmentsSyntaxTokens", &self.augments_syntax_tokens);
+        object.end()
     }
 }
 
@@ -123,17 +124,18 @@ impl Wire for SemanticTokensClientCapabilitiesRequests {
         alloc: Global,
         value: &Value,
     ) -> Result<SemanticTokensClientCapabilitiesRequests, Misfit> {
-        let object = Reader::new(alloc, value)?;
-        Ok(SemanticTokensClientCapabilitiesRequests {
-            range: object.optional("range")?,
-            full: object.optional("full")?,
-        })
+        let mut object = Reader::new(alloc, value)?;
+        let read = SemanticTokensClientCapabilitiesRequests {
+            range: object.optional("range"),
+            full: object.optional("full"),
+        };
+        object.end(read)
     }
 
     fn to_value(&self, alloc: Global) -> Result<Value, NoMemory> {
         let mut object = Writer::new(alloc);
-        object.optional("range", &self.range)?;
-        object.optional("full", &self.full)?;
-        Ok(object.end())
+        object.optional("range", &self.range);
+        object.optional("full", &self.full);
+        object.end()
     }
 }

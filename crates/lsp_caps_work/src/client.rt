@@ -22,18 +22,19 @@ impl Wire for ClientInfo {
     ghost shown = { client_info_row.shown };
 
     fn from_value(alloc: Global, value: &Value) -> Result<ClientInfo, Misfit> {
-        let object = Reader::new(alloc, value)?;
-        Ok(ClientInfo {
+        let mut object = Reader::new(alloc, value)?;
+        let read = ClientInfo {
             name: object.field("name")?,
-            version: object.optional("version")?,
-        })
+            version: object.optional("version"),
+        };
+        object.end(read)
     }
 
     fn to_value(&self, alloc: Global) -> Result<Value, NoMemory> {
         let mut object = Writer::new(alloc);
-        object.field("name", &self.name)?;
-        object.optional("version", &self.version)?;
-        Ok(object.end())
+        object.field("name", &self.name);
+        object.optional("version", &self.version);
+        object.end()
     }
 }
 
@@ -55,6 +56,6 @@ impl Wire for InitializedParams {
 
     fn to_value(&self, alloc: Global) -> Result<Value, NoMemory> {
         let object = Writer::new(alloc);
-        Ok(object.end())
+        object.end()
     }
 }

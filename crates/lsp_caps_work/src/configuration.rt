@@ -32,18 +32,19 @@ impl Wire for DidChangeWatchedFilesClientCapabilities {
         alloc: Global,
         value: &Value,
     ) -> Result<DidChangeWatchedFilesClientCapabilities, Misfit> {
-        let object = Reader::new(alloc, value)?;
-        Ok(DidChangeWatchedFilesClientCapabilities {
-            dynamic_registration: object.optional("dynamicRegistration")?,
-            relative_pattern_support: object.optional("relativePatternSupport")?,
-        })
+        let mut object = Reader::new(alloc, value)?;
+        let read = DidChangeWatchedFilesClientCapabilities {
+            dynamic_registration: object.optional("dynamicRegistration"),
+            relative_pattern_support: object.optional("relativePatternSupport"),
+        };
+        object.end(read)
     }
 
     fn to_value(&self, alloc: Global) -> Result<Value, NoMemory> {
         let mut object = Writer::new(alloc);
-        object.optional("dynamicRegistration", &self.dynamic_registration)?;
-        object.optional("relativePatternSupport", &self.relative_pattern_support)?;
-        Ok(object.end())
+        object.optional("dynamicRegistration", &self.dynamic_registration);
+        object.optional("relativePatternSupport", &self.relative_pattern_support);
+        object.end()
     }
 }
 

@@ -30,24 +30,25 @@ impl Wire for WorkspaceEditClientCapabilities {
     ghost shown = { workspace_edit_client_capabilities_row.shown };
 
     fn from_value(alloc: Global, value: &Value) -> Result<WorkspaceEditClientCapabilities, Misfit> {
-        let object = Reader::new(alloc, value)?;
-        Ok(WorkspaceEditClientCapabilities {
-            document_changes: object.optional("documentChanges")?,
-            resource_operations: object.optional("resourceOperations")?,
-            failure_handling: object.optional("failureHandling")?,
-            normalizes_line_endings: object.optional("normalizesLineEndings")?,
-            change_annotation_support: object.optional("changeAnnotationSupport")?,
-        })
+        let mut object = Reader::new(alloc, value)?;
+        let read = WorkspaceEditClientCapabilities {
+            document_changes: object.optional("documentChanges"),
+            resource_operations: object.optional("resourceOperations"),
+            failure_handling: object.optional("failureHandling"),
+            normalizes_line_endings: object.optional("normalizesLineEndings"),
+            change_annotation_support: object.optional("changeAnnotationSupport"),
+        };
+        object.end(read)
     }
 
     fn to_value(&self, alloc: Global) -> Result<Value, NoMemory> {
         let mut object = Writer::new(alloc);
-        object.optional("documentChanges", &self.document_changes)?;
-        object.optional("resourceOperations", &self.resource_operations)?;
-        object.optional("failureHandling", &self.failure_handling)?;
-        object.optional("normalizesLineEndings", &self.normalizes_line_endings)?;
-        object.optional("changeAnnotationSupport", &self.change_annotation_support)?;
-        Ok(object.end())
+        object.optional("documentChanges", &self.document_changes);
+        object.optional("resourceOperations", &self.resource_operations);
+        object.optional("failureHandling", &self.failure_handling);
+        object.optional("normalizesLineEndings", &self.normalizes_line_endings);
+        object.optional("changeAnnotationSupport", &self.change_annotation_support);
+        object.end()
     }
 }
 
@@ -69,16 +70,17 @@ impl Wire for ChangeAnnotationWorkspaceEditClientCapabilities {
         alloc: Global,
         value: &Value,
     ) -> Result<ChangeAnnotationWorkspaceEditClientCapabilities, Misfit> {
-        let object = Reader::new(alloc, value)?;
-        Ok(ChangeAnnotationWorkspaceEditClientCapabilities {
-            groups_on_label: object.optional("groupsOnLabel")?,
-        })
+        let mut object = Reader::new(alloc, value)?;
+        let read = ChangeAnnotationWorkspaceEditClientCapabilities {
+            groups_on_label: object.optional("groupsOnLabel"),
+        };
+        object.end(read)
     }
 
     fn to_value(&self, alloc: Global) -> Result<Value, NoMemory> {
         let mut object = Writer::new(alloc);
-        object.optional("groupsOnLabel", &self.groups_on_label)?;
-        Ok(object.end())
+        object.optional("groupsOnLabel", &self.groups_on_label);
+        object.end()
     }
 }
 

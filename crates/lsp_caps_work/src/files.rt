@@ -37,27 +37,28 @@ impl Wire for WorkspaceFileOperationsClientCapabilities {
         alloc: Global,
         value: &Value,
     ) -> Result<WorkspaceFileOperationsClientCapabilities, Misfit> {
-        let object = Reader::new(alloc, value)?;
-        Ok(WorkspaceFileOperationsClientCapabilities {
-            dynamic_registration: object.optional("dynamicRegistration")?,
-            did_create: object.optional("didCreate")?,
-            will_create: object.optional("willCreate")?,
-            did_rename: object.optional("didRename")?,
-            will_rename: object.optional("willRename")?,
-            did_delete: object.optional("didDelete")?,
-            will_delete: object.optional("willDelete")?,
-        })
+        let mut object = Reader::new(alloc, value)?;
+        let read = WorkspaceFileOperationsClientCapabilities {
+            dynamic_registration: object.optional("dynamicRegistration"),
+            did_create: object.optional("didCreate"),
+            will_create: object.optional("willCreate"),
+            did_rename: object.optional("didRename"),
+            will_rename: object.optional("willRename"),
+            did_delete: object.optional("didDelete"),
+            will_delete: object.optional("willDelete"),
+        };
+        object.end(read)
     }
 
     fn to_value(&self, alloc: Global) -> Result<Value, NoMemory> {
         let mut object = Writer::new(alloc);
-        object.optional("dynamicRegistration", &self.dynamic_registration)?;
-        object.optional("didCreate", &self.did_create)?;
-        object.optional("willCreate", &self.will_create)?;
-        object.optional("didRename", &self.did_rename)?;
-        object.optional("willRename", &self.will_rename)?;
-        object.optional("didDelete", &self.did_delete)?;
-        object.optional("willDelete", &self.will_delete)?;
-        Ok(object.end())
+        object.optional("dynamicRegistration", &self.dynamic_registration);
+        object.optional("didCreate", &self.did_create);
+        object.optional("willCreate", &self.will_create);
+        object.optional("didRename", &self.did_rename);
+        object.optional("willRename", &self.will_rename);
+        object.optional("didDelete", &self.did_delete);
+        object.optional("willDelete", &self.will_delete);
+        object.end()
     }
 }

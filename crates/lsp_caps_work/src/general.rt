@@ -29,22 +29,23 @@ impl Wire for GeneralClientCapabilities {
     ghost shown = { general_client_capabilities_row.shown };
 
     fn from_value(alloc: Global, value: &Value) -> Result<GeneralClientCapabilities, Misfit> {
-        let object = Reader::new(alloc, value)?;
-        Ok(GeneralClientCapabilities {
-            regular_expressions: object.optional("regularExpressions")?,
-            markdown: object.optional("markdown")?,
-            stale_request_support: object.optional("staleRequestSupport")?,
-            position_encodings: object.optional("positionEncodings")?,
-        })
+        let mut object = Reader::new(alloc, value)?;
+        let read = GeneralClientCapabilities {
+            regular_expressions: object.optional("regularExpressions"),
+            markdown: object.optional("markdown"),
+            stale_request_support: object.optional("staleRequestSupport"),
+            position_encodings: object.optional("positionEncodings"),
+        };
+        object.end(read)
     }
 
     fn to_value(&self, alloc: Global) -> Result<Value, NoMemory> {
         let mut object = Writer::new(alloc);
-        object.optional("regularExpressions", &self.regular_expressions)?;
-        object.optional("markdown", &self.markdown)?;
-        object.optional("staleRequestSupport", &self.stale_request_support)?;
-        object.optional("positionEncodings", &self.position_encodings)?;
-        Ok(object.end())
+        object.optional("regularExpressions", &self.regular_expressions);
+        object.optional("markdown", &self.markdown);
+        object.optional("staleRequestSupport", &self.stale_request_support);
+        object.optional("positionEncodings", &self.position_encodings);
+        object.end()
     }
 }
 
@@ -92,9 +93,9 @@ impl Wire for StaleRequestSupportClientCapabilities {
 
     fn to_value(&self, alloc: Global) -> Result<Value, NoMemory> {
         let mut object = Writer::new(alloc);
-        object.field("cancel", &self.cancel)?;
-        object.field("retryOnContentModified", &self.retry_on_content_modified)?;
-        Ok(object.end())
+        object.field("cancel", &self.cancel);
+        object.field("retryOnContentModified", &self.retry_on_content_modified);
+        object.end()
     }
 }
 
@@ -132,18 +133,19 @@ impl Wire for RegularExpressionsClientCapabilities {
         alloc: Global,
         value: &Value,
     ) -> Result<RegularExpressionsClientCapabilities, Misfit> {
-        let object = Reader::new(alloc, value)?;
-        Ok(RegularExpressionsClientCapabilities {
+        let mut object = Reader::new(alloc, value)?;
+        let read = RegularExpressionsClientCapabilities {
             engine: object.field("engine")?,
-            version: object.optional("version")?,
-        })
+            version: object.optional("version"),
+        };
+        object.end(read)
     }
 
     fn to_value(&self, alloc: Global) -> Result<Value, NoMemory> {
         let mut object = Writer::new(alloc);
-        object.field("engine", &self.engine)?;
-        object.optional("version", &self.version)?;
-        Ok(object.end())
+        object.field("engine", &self.engine);
+        object.optional("version", &self.version);
+        object.end()
     }
 }
 
@@ -182,19 +184,20 @@ impl Wire for MarkdownClientCapabilities {
     ghost shown = { markdown_client_capabilities_row.shown };
 
     fn from_value(alloc: Global, value: &Value) -> Result<MarkdownClientCapabilities, Misfit> {
-        let object = Reader::new(alloc, value)?;
-        Ok(MarkdownClientCapabilities {
+        let mut object = Reader::new(alloc, value)?;
+        let read = MarkdownClientCapabilities {
             parser: object.field("parser")?,
-            version: object.optional("version")?,
-            allowed_tags: object.optional("allowedTags")?,
-        })
+            version: object.optional("version"),
+            allowed_tags: object.optional("allowedTags"),
+        };
+        object.end(read)
     }
 
     fn to_value(&self, alloc: Global) -> Result<Value, NoMemory> {
         let mut object = Writer::new(alloc);
-        object.field("parser", &self.parser)?;
-        object.optional("version", &self.version)?;
-        object.optional("allowedTags", &self.allowed_tags)?;
-        Ok(object.end())
+        object.field("parser", &self.parser);
+        object.optional("version", &self.version);
+        object.optional("allowedTags", &self.allowed_tags);
+        object.end()
     }
 }

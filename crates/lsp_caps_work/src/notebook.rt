@@ -31,8 +31,8 @@ impl Wire for NotebookDocumentClientCapabilities {
 
     fn to_value(&self, alloc: Global) -> Result<Value, NoMemory> {
         let mut object = Writer::new(alloc);
-        object.field("synchronization", &self.synchronization)?;
-        Ok(object.end())
+        object.field("synchronization", &self.synchronization);
+        object.end()
     }
 }
 
@@ -57,17 +57,18 @@ impl Wire for NotebookDocumentSyncClientCapabilities {
         alloc: Global,
         value: &Value,
     ) -> Result<NotebookDocumentSyncClientCapabilities, Misfit> {
-        let object = Reader::new(alloc, value)?;
-        Ok(NotebookDocumentSyncClientCapabilities {
-            dynamic_registration: object.optional("dynamicRegistration")?,
-            execution_summary_report: object.optional("executionSummaryReport")?,
-        })
+        let mut object = Reader::new(alloc, value)?;
+        let read = NotebookDocumentSyncClientCapabilities {
+            dynamic_registration: object.optional("dynamicRegistration"),
+            execution_summary_report: object.optional("executionSummaryReport"),
+        };
+        object.end(read)
     }
 
     fn to_value(&self, alloc: Global) -> Result<Value, NoMemory> {
         let mut object = Writer::new(alloc);
-        object.optional("dynamicRegistration", &self.dynamic_registration)?;
-        object.optional("executionSummaryReport", &self.execution_summary_report)?;
-        Ok(object.end())
+        object.optional("dynamicRegistration", &self.dynamic_registration);
+        object.optional("executionSummaryReport", &self.execution_summary_report);
+        object.end()
     }
 }

@@ -24,16 +24,17 @@ impl Wire for CodeLensWorkspaceClientCapabilities {
         alloc: Global,
         value: &Value,
     ) -> Result<CodeLensWorkspaceClientCapabilities, Misfit> {
-        let object = Reader::new(alloc, value)?;
-        Ok(CodeLensWorkspaceClientCapabilities {
-            refresh_support: object.optional("refreshSupport")?,
-        })
+        let mut object = Reader::new(alloc, value)?;
+        let read = CodeLensWorkspaceClientCapabilities {
+            refresh_support: object.optional("refreshSupport"),
+        };
+        object.end(read)
     }
 
     fn to_value(&self, alloc: Global) -> Result<Value, NoMemory> {
         let mut object = Writer::new(alloc);
-        object.optional("refreshSupport", &self.refresh_support)?;
-        Ok(object.end())
+        object.optional("refreshSupport", &self.refresh_support);
+        object.end()
     }
 }
 
@@ -56,16 +57,17 @@ impl Wire for SemanticTokensWorkspaceClientCapabilities {
         alloc: Global,
         value: &Value,
     ) -> Result<SemanticTokensWorkspaceClientCapabilities, Misfit> {
-        let object = Reader::new(alloc, value)?;
-        Ok(SemanticTokensWorkspaceClientCapabilities {
-            refresh_support: object.optional("refreshSupport")?,
-        })
+        let mut object = Reader::new(alloc, value)?;
+        let read = SemanticTokensWorkspaceClientCapabilities {
+            refresh_support: object.optional("refreshSupport"),
+        };
+        object.end(read)
     }
 
     fn to_value(&self, alloc: Global) -> Result<Value, NoMemory> {
         let mut object = Writer::new(alloc);
-        object.nullable("refreshSupport", &self.refresh_support)?;
-        Ok(object.end())
+        object.nullable("refreshSupport", &self.refresh_support);
+        object.end()
     }
 }
 
@@ -88,16 +90,17 @@ impl Wire for InlayHintWorkspaceClientCapabilities {
         alloc: Global,
         value: &Value,
     ) -> Result<InlayHintWorkspaceClientCapabilities, Misfit> {
-        let object = Reader::new(alloc, value)?;
-        Ok(InlayHintWorkspaceClientCapabilities {
-            refresh_support: object.optional("refreshSupport")?,
-        })
+        let mut object = Reader::new(alloc, value)?;
+        let read = InlayHintWorkspaceClientCapabilities {
+            refresh_support: object.optional("refreshSupport"),
+        };
+        object.end(read)
     }
 
     fn to_value(&self, alloc: Global) -> Result<Value, NoMemory> {
         let mut object = Writer::new(alloc);
-        object.optional("refreshSupport", &self.refresh_support)?;
-        Ok(object.end())
+        object.optional("refreshSupport", &self.refresh_support);
+        object.end()
     }
 }
 
@@ -120,16 +123,17 @@ impl Wire for InlineValueWorkspaceClientCapabilities {
         alloc: Global,
         value: &Value,
     ) -> Result<InlineValueWorkspaceClientCapabilities, Misfit> {
-        let object = Reader::new(alloc, value)?;
-        Ok(InlineValueWorkspaceClientCapabilities {
-            refresh_support: object.optional("refreshSupport")?,
-        })
+        let mut object = Reader::new(alloc, value)?;
+        let read = InlineValueWorkspaceClientCapabilities {
+            refresh_support: object.optional("refreshSupport"),
+        };
+        object.end(read)
     }
 
     fn to_value(&self, alloc: Global) -> Result<Value, NoMemory> {
         let mut object = Writer::new(alloc);
-        object.optional("refreshSupport", &self.refresh_support)?;
-        Ok(object.end())
+        object.optional("refreshSupport", &self.refresh_support);
+        object.end()
     }
 }
 
@@ -152,15 +156,16 @@ impl Wire for DiagnosticWorkspaceClientCapabilities {
         alloc: Global,
         value: &Value,
     ) -> Result<DiagnosticWorkspaceClientCapabilities, Misfit> {
-        let object = Reader::new(alloc, value)?;
-        Ok(DiagnosticWorkspaceClientCapabilities {
-            refresh_support: object.optional("refreshSupport")?,
-        })
+        let mut object = Reader::new(alloc, value)?;
+        let read = DiagnosticWorkspaceClientCapabilities {
+            refresh_support: object.optional("refreshSupport"),
+        };
+        object.end(read)
     }
 
     fn to_value(&self, alloc: Global) -> Result<Value, NoMemory> {
         let mut object = Writer::new(alloc);
-        object.optional("refreshSupport", &self.refresh_support)?;
-        Ok(object.end())
+        object.optional("refreshSupport", &self.refresh_support);
+        object.end()
     }
 }

@@ -35,22 +35,23 @@ impl Wire for WorkspaceSymbolClientCapabilities {
         alloc: Global,
         value: &Value,
     ) -> Result<WorkspaceSymbolClientCapabilities, Misfit> {
-        let object = Reader::new(alloc, value)?;
-        Ok(WorkspaceSymbolClientCapabilities {
-            dynamic_registration: object.optional("dynamicRegistration")?,
-            symbol_kind: object.optional("symbolKind")?,
-            tag_support: object.supported("tagSupport")?,
-            resolve_support: object.optional("resolveSupport")?,
-        })
+        let mut object = Reader::new(alloc, value)?;
+        let read = WorkspaceSymbolClientCapabilities {
+            dynamic_registration: object.optional("dynamicRegistration"),
+            symbol_kind: object.optional("symbolKind"),
+            tag_support: object.supported("tagSupport"),
+            resolve_support: object.optional("resolveSupport"),
+        };
+        object.end(read)
     }
 
     fn to_value(&self, alloc: Global) -> Result<Value, NoMemory> {
         let mut object = Writer::new(alloc);
-        object.optional("dynamicRegistration", &self.dynamic_registration)?;
-        object.optional("symbolKind", &self.symbol_kind)?;
-        object.optional("tagSupport", &self.tag_support)?;
-        object.optional("resolveSupport", &self.resolve_support)?;
-        Ok(object.end())
+        object.optional("dynamicRegistration", &self.dynamic_registration);
+        object.optional("symbolKind", &self.symbol_kind);
+        object.optional("tagSupport", &self.tag_support);
+        object.optional("resolveSupport", &self.resolve_support);
+        object.end()
     }
 }
 
@@ -92,7 +93,7 @@ impl Wire for WorkspaceSymbolResolveSupportCapability {
 
     fn to_value(&self, alloc: Global) -> Result<Value, NoMemory> {
         let mut object = Writer::new(alloc);
-        object.field("properties", &self.properties)?;
-        Ok(object.end())
+        object.field("properties", &self.properties);
+        object.end()
     }
 }

@@ -26,20 +26,21 @@ impl Wire for WindowClientCapabilities {
     ghost shown = { window_client_capabilities_row.shown };
 
     fn from_value(alloc: Global, value: &Value) -> Result<WindowClientCapabilities, Misfit> {
-        let object = Reader::new(alloc, value)?;
-        Ok(WindowClientCapabilities {
-            work_done_progress: object.optional("workDoneProgress")?,
-            show_message: object.optional("showMessage")?,
-            show_document: object.optional("showDocument")?,
-        })
+        let mut object = Reader::new(alloc, value)?;
+        let read = WindowClientCapabilities {
+            work_done_progress: object.optional("workDoneProgress"),
+            show_message: object.optional("showMessage"),
+            show_document: object.optional("showDocument"),
+        };
+        object.end(read)
     }
 
     fn to_value(&self, alloc: Global) -> Result<Value, NoMemory> {
         let mut object = Writer::new(alloc);
-        object.optional("workDoneProgress", &self.work_done_progress)?;
-        object.optional("showMessage", &self.show_message)?;
-        object.optional("showDocument", &self.show_document)?;
-        Ok(object.end())
+        object.optional("workDoneProgress", &self.work_done_progress);
+        object.optional("showMessage", &self.show_message);
+        object.optional("showDocument", &self.show_document);
+        object.end()
     }
 }
 
@@ -61,16 +62,17 @@ impl Wire for ShowMessageRequestClientCapabilities {
         alloc: Global,
         value: &Value,
     ) -> Result<ShowMessageRequestClientCapabilities, Misfit> {
-        let object = Reader::new(alloc, value)?;
-        Ok(ShowMessageRequestClientCapabilities {
-            message_action_item: object.optional("messageActionItem")?,
-        })
+        let mut object = Reader::new(alloc, value)?;
+        let read = ShowMessageRequestClientCapabilities {
+            message_action_item: object.optional("messageActionItem"),
+        };
+        object.end(read)
     }
 
     fn to_value(&self, alloc: Global) -> Result<Value, NoMemory> {
         let mut object = Writer::new(alloc);
-        object.optional("messageActionItem", &self.message_action_item)?;
-        Ok(object.end())
+        object.optional("messageActionItem", &self.message_action_item);
+        object.end()
     }
 }
 
@@ -90,10 +92,11 @@ impl Wire for MessageActionItemCapabilities {
     ghost shown = { message_action_item_capabilities_row.shown };
 
     fn from_value(alloc: Global, value: &Value) -> Result<MessageActionItemCapabilities, Misfit> {
-        let object = Reader::new(alloc, value)?;
-        Ok(MessageActionItemCapabilities {
-            additional_properties_support: object.optional("additionalPropertiesSupport")?,
-        })
+        let mut object = Reader::new(alloc, value)?;
+        let read = MessageActionItemCapabilities {
+            additional_properties_support: object.optional("additionalPropertiesSupport"),
+        };
+        object.end(read)
     }
 
     fn to_value(&self, alloc: Global) -> Result<Value, NoMemory> {
@@ -101,8 +104,8 @@ impl Wire for MessageActionItemCapabilities {
         object.optional(
             "additionalPropertiesSupport",
             &self.additional_properties_support,
-        )?;
-        Ok(object.end())
+        );
+        object.end()
     }
 }
 
@@ -129,7 +132,7 @@ impl Wire for ShowDocumentClientCapabilities {
 
     fn to_value(&self, alloc: Global) -> Result<Value, NoMemory> {
         let mut object = Writer::new(alloc);
-        object.field("support", &self.support)?;
-        Ok(object.end())
+        object.field("support", &self.support);
+        object.end()
     }
 }

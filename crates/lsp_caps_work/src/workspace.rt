@@ -62,41 +62,42 @@ impl Wire for WorkspaceClientCapabilities {
     ghost shown = { workspace_client_capabilities_row.shown };
 
     fn from_value(alloc: Global, value: &Value) -> Result<WorkspaceClientCapabilities, Misfit> {
-        let object = Reader::new(alloc, value)?;
-        Ok(WorkspaceClientCapabilities {
-            apply_edit: object.optional("applyEdit")?,
-            workspace_edit: object.optional("workspaceEdit")?,
-            did_change_configuration: object.optional("didChangeConfiguration")?,
-            did_change_watched_files: object.optional("didChangeWatchedFiles")?,
-            symbol: object.optional("symbol")?,
-            execute_command: object.optional("executeCommand")?,
-            workspace_folders: object.optional("workspaceFolders")?,
-            configuration: object.optional("configuration")?,
-            semantic_tokens: object.optional("semanticTokens")?,
-            code_lens: object.optional("codeLens")?,
-            file_operations: object.optional("fileOperations")?,
-            inline_value: object.optional("inlineValue")?,
-            inlay_hint: object.optional("inlayHint")?,
-            diagnostic: object.optional("diagnostic")?,
-        })
+        let mut object = Reader::new(alloc, value)?;
+        let read = WorkspaceClientCapabilities {
+            apply_edit: object.optional("applyEdit"),
+            workspace_edit: object.optional("workspaceEdit"),
+            did_change_configuration: object.optional("didChangeConfiguration"),
+            did_change_watched_files: object.optional("didChangeWatchedFiles"),
+            symbol: object.optional("symbol"),
+            execute_command: object.optional("executeCommand"),
+            workspace_folders: object.optional("workspaceFolders"),
+            configuration: object.optional("configuration"),
+            semantic_tokens: object.optional("semanticTokens"),
+            code_lens: object.optional("codeLens"),
+            file_operations: object.optional("fileOperations"),
+            inline_value: object.optional("inlineValue"),
+            inlay_hint: object.optional("inlayHint"),
+            diagnostic: object.optional("diagnostic"),
+        };
+        object.end(read)
     }
 
     fn to_value(&self, alloc: Global) -> Result<Value, NoMemory> {
         let mut object = Writer::new(alloc);
-        object.optional("applyEdit", &self.apply_edit)?;
-        object.optional("workspaceEdit", &self.workspace_edit)?;
-        object.optional("didChangeConfiguration", &self.did_change_configuration)?;
-        object.optional("didChangeWatchedFiles", &self.did_change_watched_files)?;
-        object.optional("symbol", &self.symbol)?;
-        object.optional("executeCommand", &self.execute_command)?;
-        object.optional("workspaceFolders", &self.workspace_folders)?;
-        object.optional("configuration", &self.configuration)?;
-        object.optional("semanticTokens", &self.semantic_tokens)?;
-        object.optional("codeLens", &self.code_lens)?;
-        object.optional("fileOperations", &self.file_operations)?;
-        object.optional("inlineValue", &self.inline_value)?;
-        object.optional("inlayHint", &self.inlay_hint)?;
-        object.optional("diagnostic", &self.diagnostic)?;
-        Ok(object.end())
+        object.optional("applyEdit", &self.apply_edit);
+        object.optional("workspaceEdit", &self.workspace_edit);
+        object.optional("didChangeConfiguration", &self.did_change_configuration);
+        object.optional("didChangeWatchedFiles", &self.did_change_watched_files);
+        object.optional("symbol", &self.symbol);
+        object.optional("executeCommand", &self.execute_command);
+        object.optional("workspaceFolders", &self.workspace_folders);
+        object.optional("configuration", &self.configuration);
+        object.optional("semanticTokens", &self.semantic_tokens);
+        object.optional("codeLens", &self.code_lens);
+        object.optional("fileOperations", &self.file_operations);
+        object.optional("inlineValue", &self.inline_value);
+        object.optional("inlayHint", &self.inlay_hint);
+        object.optional("diagnostic", &self.diagnostic);
+        object.end()
     }
 }

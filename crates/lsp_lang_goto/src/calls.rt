@@ -33,9 +33,9 @@ impl Wire for CallHierarchyPrepareParams {
 
     fn to_value(&self, alloc: Global) -> Result<Value, NoMemory> {
         let mut object = Writer::new(alloc);
-        object.flat(&self.text_document_position_params)?;
-        object.flat(&self.work_done_progress_params)?;
-        Ok(object.end())
+        object.flat(&self.text_document_position_params);
+        object.flat(&self.work_done_progress_params);
+        object.end()
     }
 }
 
@@ -72,30 +72,31 @@ impl Wire for CallHierarchyItem {
     ghost shown = { call_hierarchy_item_row.shown };
 
     fn from_value(alloc: Global, value: &Value) -> Result<CallHierarchyItem, Misfit> {
-        let object = Reader::new(alloc, value)?;
-        Ok(CallHierarchyItem {
+        let mut object = Reader::new(alloc, value)?;
+        let read = CallHierarchyItem {
             name: object.field("name")?,
             kind: object.field("kind")?,
-            tags: object.optional("tags")?,
-            detail: object.optional("detail")?,
+            tags: object.optional("tags"),
+            detail: object.optional("detail"),
             uri: object.field("uri")?,
             range: object.field("range")?,
             selection_range: object.field("selectionRange")?,
-            payload: object.optional("data")?,
-        })
+            payload: object.optional("data"),
+        };
+        object.end(read)
     }
 
     fn to_value(&self, alloc: Global) -> Result<Value, NoMemory> {
         let mut object = Writer::new(alloc);
-        object.field("name", &self.name)?;
-        object.field("kind", &self.kind)?;
-        object.optional("tags", &self.tags)?;
-        object.optional("detail", &self.detail)?;
-        object.field("uri", &self.uri)?;
-        object.field("range", &self.range)?;
-        object.field("selectionRange", &self.selection_range)?;
-        object.optional("data", &self.payload)?;
-        Ok(object.end())
+        object.field("name", &self.name);
+        object.field("kind", &self.kind);
+        object.optional("tags", &self.tags);
+        object.optional("detail", &self.detail);
+        object.field("uri", &self.uri);
+        object.field("range", &self.range);
+        object.field("selectionRange", &self.selection_range);
+        object.optional("data", &self.payload);
+        object.end()
     }
 }
 
@@ -132,10 +133,10 @@ impl Wire for CallHierarchyIncomingCallsParams {
 
     fn to_value(&self, alloc: Global) -> Result<Value, NoMemory> {
         let mut object = Writer::new(alloc);
-        object.field("item", &self.item)?;
-        object.flat(&self.work_done_progress_params)?;
-        object.flat(&self.partial_result_params)?;
-        Ok(object.end())
+        object.field("item", &self.item);
+        object.flat(&self.work_done_progress_params);
+        object.flat(&self.partial_result_params);
+        object.end()
     }
 }
 
@@ -165,9 +166,9 @@ impl Wire for CallHierarchyIncomingCall {
 
     fn to_value(&self, alloc: Global) -> Result<Value, NoMemory> {
         let mut object = Writer::new(alloc);
-        object.field("from", &self.from)?;
-        object.field("fromRanges", &self.from_ranges)?;
-        Ok(object.end())
+        object.field("from", &self.from);
+        object.field("fromRanges", &self.from_ranges);
+        object.end()
     }
 }
 
@@ -204,10 +205,10 @@ impl Wire for CallHierarchyOutgoingCallsParams {
 
     fn to_value(&self, alloc: Global) -> Result<Value, NoMemory> {
         let mut object = Writer::new(alloc);
-        object.field("item", &self.item)?;
-        object.flat(&self.work_done_progress_params)?;
-        object.flat(&self.partial_result_params)?;
-        Ok(object.end())
+        object.field("item", &self.item);
+        object.flat(&self.work_done_progress_params);
+        object.flat(&self.partial_result_params);
+        object.end()
     }
 }
 
@@ -238,8 +239,8 @@ impl Wire for CallHierarchyOutgoingCall {
 
     fn to_value(&self, alloc: Global) -> Result<Value, NoMemory> {
         let mut object = Writer::new(alloc);
-        object.field("to", &self.to)?;
-        object.field("fromRanges", &self.from_ranges)?;
-        Ok(object.end())
+        object.field("to", &self.to);
+        object.field("fromRanges", &self.from_ranges);
+        object.end()
     }
 }

@@ -38,10 +38,10 @@ impl Wire for CodeLensParams {
 
     fn to_value(&self, alloc: Global) -> Result<Value, NoMemory> {
         let mut object = Writer::new(alloc);
-        object.field("textDocument", &self.text_document)?;
-        object.flat(&self.work_done_progress_params)?;
-        object.flat(&self.partial_result_params)?;
-        Ok(object.end())
+        object.field("textDocument", &self.text_document);
+        object.flat(&self.work_done_progress_params);
+        object.flat(&self.partial_result_params);
+        object.end()
     }
 }
 
@@ -64,19 +64,20 @@ impl Wire for CodeLens {
     ghost shown = { code_lens_row.shown };
 
     fn from_value(alloc: Global, value: &Value) -> Result<CodeLens, Misfit> {
-        let object = Reader::new(alloc, value)?;
-        Ok(CodeLens {
+        let mut object = Reader::new(alloc, value)?;
+        let read = CodeLens {
             range: object.field("range")?,
-            command: object.optional("command")?,
-            payload: object.optional("data")?,
-        })
+            command: object.optional("command"),
+            payload: object.optional("data"),
+        };
+        object.end(read)
     }
 
     fn to_value(&self, alloc: Global) -> Result<Value, NoMemory> {
         let mut object = Writer::new(alloc);
-        object.field("range", &self.range)?;
-        object.optional("command", &self.command)?;
-        object.optional("data", &self.payload)?;
-        Ok(object.end())
+        object.field("range", &self.range);
+        object.optional("command", &self.command);
+        object.optional("data", &self.payload);
+        object.end()
     }
 }

@@ -36,9 +36,9 @@ impl Wire for DocumentColorParams {
 
     fn to_value(&self, alloc: Global) -> Result<Value, NoMemory> {
         let mut object = Writer::new(alloc);
-        object.field("textDocument", &self.text_document)?;
-        object.flat(&self.work_done_progress_params)?;
-        object.flat(&self.partial_result_params)?;
-        Ok(object.end())
+        object.field("textDocument", &self.text_document);
+        object.flat(&self.work_done_progress_params);
+        object.flat(&self.partial_result_params);
+        object.end()
     }
 }

@@ -32,9 +32,9 @@ impl Wire for HoverParams {
 
     fn to_value(&self, alloc: Global) -> Result<Value, NoMemory> {
         let mut object = Writer::new(alloc);
-        object.flat(&self.text_document_position_params)?;
-        object.flat(&self.work_done_progress_params)?;
-        Ok(object.end())
+        object.flat(&self.text_document_position_params);
+        object.flat(&self.work_done_progress_params);
+        object.end()
     }
 }
 
@@ -57,18 +57,19 @@ impl Wire for Hover {
     ghost shown = { hover_row.shown };
 
     fn from_value(alloc: Global, value: &Value) -> Result<Hover, Misfit> {
-        let object = Reader::new(alloc, value)?;
-        Ok(Hover {
+        let mut object = Reader::new(alloc, value)?;
+        let read = Hover {
             contents: object.field("contents")?,
-            range: object.optional("range")?,
-        })
+            range: object.optional("range"),
+        };
+        object.end(read)
     }
 
     fn to_value(&self, alloc: Global) -> Result<Value, NoMemory> {
         let mut object = Writer::new(alloc);
-        object.field("contents", &self.contents)?;
-        object.optional("range", &self.range)?;
-        Ok(object.end())
+        object.field("contents", &self.contents);
+        object.optional("range", &self.range);
+        object.end()
     }
 }
 

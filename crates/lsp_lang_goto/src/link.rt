@@ -37,10 +37,10 @@ impl Wire for DocumentLinkParams {
 
     fn to_value(&self, alloc: Global) -> Result<Value, NoMemory> {
         let mut object = Writer::new(alloc);
-        object.field("textDocument", &self.text_document)?;
-        object.flat(&self.work_done_progress_params)?;
-        object.flat(&self.partial_result_params)?;
-        Ok(object.end())
+        object.field("textDocument", &self.text_document);
+        object.flat(&self.work_done_progress_params);
+        object.flat(&self.partial_result_params);
+        object.end()
     }
 }
 
@@ -67,21 +67,22 @@ impl Wire for DocumentLink {
     ghost shown = { document_link_row.shown };
 
     fn from_value(alloc: Global, value: &Value) -> Result<DocumentLink, Misfit> {
-        let object = Reader::new(alloc, value)?;
-        Ok(DocumentLink {
+        let mut object = Reader::new(alloc, value)?;
+        let read = DocumentLink {
             range: object.field("range")?,
-            target: object.optional("target")?,
-            tooltip: object.optional("tooltip")?,
-            payload: object.optional("data")?,
-        })
+            target: object.optional("target"),
+            tooltip: object.optional("tooltip"),
+            payload: object.optional("data"),
+        };
+        object.end(read)
     }
 
     fn to_value(&self, alloc: Global) -> Result<Value, NoMemory> {
         let mut object = Writer::new(alloc);
-        object.field("range", &self.range)?;
-        object.optional("target", &self.target)?;
-        object.optional("tooltip", &self.tooltip)?;
-        object.optional("data", &self.payload)?;
-        Ok(object.end())
+        object.field("range", &self.range);
+        object.optional("target", &self.target);
+        object.optional("tooltip", &self.tooltip);
+        object.optional("data", &self.payload);
+        object.end()
     }
 }

@@ -40,11 +40,11 @@ impl Wire for ReferenceParams {
 
     fn to_value(&self, alloc: Global) -> Result<Value, NoMemory> {
         let mut object = Writer::new(alloc);
-        object.flat(&self.text_document_position)?;
-        object.flat(&self.work_done_progress_params)?;
-        object.flat(&self.partial_result_params)?;
-        object.field("context", &self.context)?;
-        Ok(object.end())
+        object.flat(&self.text_document_position);
+        object.flat(&self.work_done_progress_params);
+        object.flat(&self.partial_result_params);
+        object.field("context", &self.context);
+        object.end()
     }
 }
 
@@ -71,8 +71,8 @@ impl Wire for ReferenceContext {
 
     fn to_value(&self, alloc: Global) -> Result<Value, NoMemory> {
         let mut object = Writer::new(alloc);
-        object.field("includeDeclaration", &self.include_declaration)?;
-        Ok(object.end())
+        object.field("includeDeclaration", &self.include_declaration);
+        object.end()
     }
 }
 
@@ -105,10 +105,10 @@ impl Wire for DocumentHighlightParams {
 
     fn to_value(&self, alloc: Global) -> Result<Value, NoMemory> {
         let mut object = Writer::new(alloc);
-        object.flat(&self.text_document_position_params)?;
-        object.flat(&self.work_done_progress_params)?;
-        object.flat(&self.partial_result_params)?;
-        Ok(object.end())
+        object.flat(&self.text_document_position_params);
+        object.flat(&self.work_done_progress_params);
+        object.flat(&self.partial_result_params);
+        object.end()
     }
 }
 
@@ -129,17 +129,18 @@ impl Wire for DocumentHighlight {
     ghost shown = { document_highlight_row.shown };
 
     fn from_value(alloc: Global, value: &Value) -> Result<DocumentHighlight, Misfit> {
-        let object = Reader::new(alloc, value)?;
-        Ok(DocumentHighlight {
+        let mut object = Reader::new(alloc, value)?;
+        let read = DocumentHighlight {
             range: object.field("range")?,
-            kind: object.optional("kind")?,
-        })
+            kind: object.optional("kind"),
+        };
+        object.end(read)
     }
 
     fn to_value(&self, alloc: Global) -> Result<Value, NoMemory> {
         let mut object = Writer::new(alloc);
-        object.field("range", &self.range)?;
-        object.optional("kind", &self.kind)?;
-        Ok(object.end())
+        object.field("range", &self.range);
+        object.optional("kind", &self.kind);
+        object.end()
     }
 }

@@ -43,10 +43,10 @@ impl Wire for DocumentSymbolParams {
 
     fn to_value(&self, alloc: Global) -> Result<Value, NoMemory> {
         let mut object = Writer::new(alloc);
-        object.field("textDocument", &self.text_document)?;
-        object.flat(&self.work_done_progress_params)?;
-        object.flat(&self.partial_result_params)?;
-        Ok(object.end())
+        object.field("textDocument", &self.text_document);
+        object.flat(&self.work_done_progress_params);
+        object.flat(&self.partial_result_params);
+        object.end()
     }
 }
 
@@ -127,26 +127,27 @@ impl Wire for SymbolInformation {
     ghost shown = { symbol_information_row.shown };
 
     fn from_value(alloc: Global, value: &Value) -> Result<SymbolInformation, Misfit> {
-        let object = Reader::new(alloc, value)?;
-        Ok(SymbolInformation {
+        let mut object = Reader::new(alloc, value)?;
+        let read = SymbolInformation {
             name: object.field("name")?,
             kind: object.field("kind")?,
-            tags: object.optional("tags")?,
-            deprecated: object.optional("deprecated")?,
+            tags: object.optional("tags"),
+            deprecated: object.optional("deprecated"),
             location: object.field("location")?,
-            container_name: object.optional("containerName")?,
-        })
+            container_name: object.optional("containerName"),
+        };
+        object.end(read)
     }
 
     fn to_value(&self, alloc: Global) -> Result<Value, NoMemory> {
         let mut object = Writer::new(alloc);
-        object.field("name", &self.name)?;
-        object.field("kind", &self.kind)?;
-        object.optional("tags", &self.tags)?;
-        object.optional("deprecated", &self.deprecated)?;
-        object.field("location", &self.location)?;
-        object.optional("containerName", &self.container_name)?;
-        Ok(object.end())
+        object.field("name", &self.name);
+        object.field("kind", &self.kind);
+        object.optional("tags", &self.tags);
+        object.optional("deprecated", &self.deprecated);
+        object.field("location", &self.location);
+        object.optional("containerName", &self.container_name);
+        object.end()
     }
 }
 
@@ -195,10 +196,10 @@ impl Wire for WorkspaceSymbolParams {
 
     fn to_value(&self, alloc: Global) -> Result<Value, NoMemory> {
         let mut object = Writer::new(alloc);
-        object.flat(&self.partial_result_params)?;
-        object.flat(&self.work_done_progress_params)?;
-        object.field("query", &self.query)?;
-        Ok(object.end())
+        object.flat(&self.partial_result_params);
+        object.flat(&self.work_done_progress_params);
+        object.field("query", &self.query);
+        object.end()
     }
 }
 
@@ -265,26 +266,27 @@ impl Wire for WorkspaceSymbol {
     ghost shown = { workspace_symbol_row.shown };
 
     fn from_value(alloc: Global, value: &Value) -> Result<WorkspaceSymbol, Misfit> {
-        let object = Reader::new(alloc, value)?;
-        Ok(WorkspaceSymbol {
+        let mut object = Reader::new(alloc, value)?;
+        let read = WorkspaceSymbol {
             name: object.field("name")?,
             kind: object.field("kind")?,
-            tags: object.optional("tags")?,
-            container_name: object.optional("containerName")?,
+            tags: object.optional("tags"),
+            container_name: object.optional("containerName"),
             location: object.field("location")?,
-            payload: object.optional("data")?,
-        })
+            payload: object.optional("data"),
+        };
+        object.end(read)
     }
 
     fn to_value(&self, alloc: Global) -> Result<Value, NoMemory> {
         let mut object = Writer::new(alloc);
-        object.field("name", &self.name)?;
-        object.field("kind", &self.kind)?;
-        object.optional("tags", &self.tags)?;
-        object.optional("containerName", &self.container_name)?;
-        object.field("location", &self.location)?;
-        object.optional("data", &self.payload)?;
-        Ok(object.end())
+        object.field("name", &self.name);
+        object.field("kind", &self.kind);
+        object.optional("tags", &self.tags);
+        object.optional("containerName", &self.container_name);
+        object.field("location", &self.location);
+        object.optional("data", &self.payload);
+        object.end()
     }
 }
 
@@ -311,7 +313,7 @@ impl Wire for WorkspaceLocation {
 
     fn to_value(&self, alloc: Global) -> Result<Value, NoMemory> {
         let mut object = Writer::new(alloc);
-        object.field("uri", &self.uri)?;
-        Ok(object.end())
+        object.field("uri", &self.uri);
+        object.end()
     }
 }

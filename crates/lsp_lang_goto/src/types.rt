@@ -35,9 +35,9 @@ impl Wire for TypeHierarchyPrepareParams {
 
     fn to_value(&self, alloc: Global) -> Result<Value, NoMemory> {
         let mut object = Writer::new(alloc);
-        object.flat(&self.text_document_position_params)?;
-        object.flat(&self.work_done_progress_params)?;
-        Ok(object.end())
+        object.flat(&self.text_document_position_params);
+        object.flat(&self.work_done_progress_params);
+        object.end()
     }
 }
 
@@ -71,10 +71,10 @@ impl Wire for TypeHierarchySupertypesParams {
 
     fn to_value(&self, alloc: Global) -> Result<Value, NoMemory> {
         let mut object = Writer::new(alloc);
-        object.field("item", &self.item)?;
-        object.flat(&self.work_done_progress_params)?;
-        object.flat(&self.partial_result_params)?;
-        Ok(object.end())
+        object.field("item", &self.item);
+        object.flat(&self.work_done_progress_params);
+        object.flat(&self.partial_result_params);
+        object.end()
     }
 }
 
@@ -108,10 +108,10 @@ impl Wire for TypeHierarchySubtypesParams {
 
     fn to_value(&self, alloc: Global) -> Result<Value, NoMemory> {
         let mut object = Writer::new(alloc);
-        object.field("item", &self.item)?;
-        object.flat(&self.work_done_progress_params)?;
-        object.flat(&self.partial_result_params)?;
-        Ok(object.end())
+        object.field("item", &self.item);
+        object.flat(&self.work_done_progress_params);
+        object.flat(&self.partial_result_params);
+        object.end()
     }
 }
 
@@ -147,29 +147,30 @@ impl Wire for TypeHierarchyItem {
     ghost shown = { type_hierarchy_item_row.shown };
 
     fn from_value(alloc: Global, value: &Value) -> Result<TypeHierarchyItem, Misfit> {
-        let object = Reader::new(alloc, value)?;
-        Ok(TypeHierarchyItem {
+        let mut object = Reader::new(alloc, value)?;
+        let read = TypeHierarchyItem {
             name: object.field("name")?,
             kind: object.field("kind")?,
-            tags: object.optional("tags")?,
-            detail: object.optional("detail")?,
+            tags: object.optional("tags"),
+            detail: object.optional("detail"),
             uri: object.field("uri")?,
             range: object.field("range")?,
             selection_range: object.field("selectionRange")?,
-            payload: object.optional("data")?,
-        })
+            payload: object.optional("data"),
+        };
+        object.end(read)
     }
 
     fn to_value(&self, alloc: Global) -> Result<Value, NoMemory> {
         let mut object = Writer::new(alloc);
-        object.field("name", &self.name)?;
-        object.field("kind", &self.kind)?;
-        object.optional("tags", &self.tags)?;
-        object.optional("detail", &self.detail)?;
-        object.field("uri", &self.uri)?;
-        object.field("range", &self.range)?;
-        object.field("selectionRange", &self.selection_range)?;
-        object.optional("data", &self.payload)?;
-        Ok(object.end())
+        object.field("name", &self.name);
+        object.field("kind", &self.kind);
+        object.optional("tags", &self.tags);
+        object.optional("detail", &self.detail);
+        object.field("uri", &self.uri);
+        object.field("range", &self.range);
+        object.field("selectionRange", &self.selection_range);
+        object.optional("data", &self.payload);
+        object.end()
     }
 }

@@ -49,12 +49,12 @@ impl Wire for CodeActionParams {
 
     fn to_value(&self, alloc: Global) -> Result<Value, NoMemory> {
         let mut object = Writer::new(alloc);
-        object.field("textDocument", &self.text_document)?;
-        object.field("range", &self.range)?;
-        object.field("context", &self.context)?;
-        object.flat(&self.work_done_progress_params)?;
-        object.flat(&self.partial_result_params)?;
-        Ok(object.end())
+        object.field("textDocument", &self.text_document);
+        object.field("range", &self.range);
+        object.field("context", &self.context);
+        object.flat(&self.work_done_progress_params);
+        object.flat(&self.partial_result_params);
+        object.end()
     }
 }
 
@@ -94,20 +94,21 @@ impl Wire for CodeActionContext {
     ghost shown = { code_action_context_row.shown };
 
     fn from_value(alloc: Global, value: &Value) -> Result<CodeActionContext, Misfit> {
-        let object = Reader::new(alloc, value)?;
-        Ok(CodeActionContext {
+        let mut object = Reader::new(alloc, value)?;
+        let read = CodeActionContext {
             diagnostics: object.field("diagnostics")?,
-            only: object.optional("only")?,
-            trigger_kind: object.optional("triggerKind")?,
-        })
+            only: object.optional("only"),
+            trigger_kind: object.optional("triggerKind"),
+        };
+        object.end(read)
     }
 
     fn to_value(&self, alloc: Global) -> Result<Value, NoMemory> {
         let mut object = Writer::new(alloc);
-        object.field("diagnostics", &self.diagnostics)?;
-        object.optional("only", &self.only)?;
-        object.optional("triggerKind", &self.trigger_kind)?;
-        Ok(object.end())
+        object.field("diagnostics", &self.diagnostics);
+        object.optional("only", &self.only);
+        object.optional("triggerKind", &self.trigger_kind);
+        object.end()
     }
 }
 
@@ -222,30 +223,31 @@ impl Wire for CodeAction {
     ghost shown = { code_action_row.shown };
 
     fn from_value(alloc: Global, value: &Value) -> Result<CodeAction, Misfit> {
-        let object = Reader::new(alloc, value)?;
-        Ok(CodeAction {
+        let mut object = Reader::new(alloc, value)?;
+        let read = CodeAction {
             title: object.field("title")?,
-            kind: object.optional("kind")?,
-            diagnostics: object.optional("diagnostics")?,
-            edit: object.optional("edit")?,
-            command: object.optional("command")?,
-            is_preferred: object.optional("isPreferred")?,
-            disabled: object.optional("disabled")?,
-            payload: object.optional("data")?,
-        })
+            kind: object.optional("kind"),
+            diagnostics: object.optional("diagnostics"),
+            edit: object.optional("edit"),
+            command: object.optional("command"),
+            is_preferred: object.optional("isPreferred"),
+            disabled: object.optional("disabled"),
+            payload: object.optional("data"),
+        };
+        object.end(read)
     }
 
     fn to_value(&self, alloc: Global) -> Result<Value, NoMemory> {
         let mut object = Writer::new(alloc);
-        object.field("title", &self.title)?;
-        object.optional("kind", &self.kind)?;
-        object.optional("diagnostics", &self.diagnostics)?;
-        object.optional("edit", &self.edit)?;
-        object.optional("command", &self.command)?;
-        object.optional("isPreferred", &self.is_preferred)?;
-        object.optional("disabled", &self.disabled)?;
-        object.optional("data", &self.payload)?;
-        Ok(object.end())
+        object.field("title", &self.title);
+        object.optional("kind", &self.kind);
+        object.optional("diagnostics", &self.diagnostics);
+        object.optional("edit", &self.edit);
+        object.optional("command", &self.command);
+        object.optional("isPreferred", &self.is_preferred);
+        object.optional("disabled", &self.disabled);
+        object.optional("data", &self.payload);
+        object.end()
     }
 }
 
@@ -283,7 +285,7 @@ impl Wire for CodeActionDisabled {
 
     fn to_value(&self, alloc: Global) -> Result<Value, NoMemory> {
         let mut object = Writer::new(alloc);
-        object.field("reason", &self.reason)?;
-        Ok(object.end())
+        object.field("reason", &self.reason);
+        object.end()
     }
 }

@@ -38,22 +38,23 @@ impl Wire for CompletionParams {
     ghost shown = { completion_params_row.shown };
 
     fn from_value(alloc: Global, value: &Value) -> Result<CompletionParams, Misfit> {
-        let object = Reader::new(alloc, value)?;
-        Ok(CompletionParams {
+        let mut object = Reader::new(alloc, value)?;
+        let read = CompletionParams {
             text_document_position: TextDocumentPositionParams::from_value(alloc, value)?,
             work_done_progress_params: WorkDoneProgressParams::from_value(alloc, value)?,
             partial_result_params: PartialResultParams::from_value(alloc, value)?,
-            context: object.optional("context")?,
-        })
+            context: object.optional("context"),
+        };
+        object.end(read)
     }
 
     fn to_value(&self, alloc: Global) -> Result<Value, NoMemory> {
         let mut object = Writer::new(alloc);
-        object.flat(&self.text_document_position)?;
-        object.flat(&self.work_done_progress_params)?;
-        object.flat(&self.partial_result_params)?;
-        object.optional("context", &self.context)?;
-        Ok(object.end())
+        object.flat(&self.text_document_position);
+        object.flat(&self.work_done_progress_params);
+        object.flat(&self.partial_result_params);
+        object.optional("context", &self.context);
+        object.end()
     }
 }
 
@@ -75,18 +76,19 @@ impl Wire for CompletionContext {
     ghost shown = { completion_context_row.shown };
 
     fn from_value(alloc: Global, value: &Value) -> Result<CompletionContext, Misfit> {
-        let object = Reader::new(alloc, value)?;
-        Ok(CompletionContext {
+        let mut object = Reader::new(alloc, value)?;
+        let read = CompletionContext {
             trigger_kind: object.field("triggerKind")?,
-            trigger_character: object.optional("triggerCharacter")?,
-        })
+            trigger_character: object.optional("triggerCharacter"),
+        };
+        object.end(read)
     }
 
     fn to_value(&self, alloc: Global) -> Result<Value, NoMemory> {
         let mut object = Writer::new(alloc);
-        object.field("triggerKind", &self.trigger_kind)?;
-        object.optional("triggerCharacter", &self.trigger_character)?;
-        Ok(object.end())
+        object.field("triggerKind", &self.trigger_kind);
+        object.optional("triggerCharacter", &self.trigger_character);
+        object.end()
     }
 }
 
@@ -179,9 +181,9 @@ impl Wire for CompletionList {
 
     fn to_value(&self, alloc: Global) -> Result<Value, NoMemory> {
         let mut object = Writer::new(alloc);
-        object.field("isIncomplete", &self.is_incomplete)?;
-        object.field("items", &self.items)?;
-        Ok(object.end())
+        object.field("isIncomplete", &self.is_incomplete);
+        object.field("items", &self.items);
+        object.end()
     }
 }
 
@@ -338,50 +340,51 @@ impl Wire for CompletionItem {
     ghost shown = { completion_item_row.shown };
 
     fn from_value(alloc: Global, value: &Value) -> Result<CompletionItem, Misfit> {
-        let object = Reader::new(alloc, value)?;
-        Ok(CompletionItem {
+        let mut object = Reader::new(alloc, value)?;
+        let read = CompletionItem {
             label: object.field("label")?,
-            label_details: object.optional("labelDetails")?,
-            kind: object.optional("kind")?,
-            detail: object.optional("detail")?,
-            documentation: object.optional("documentation")?,
-            deprecated: object.optional("deprecated")?,
-            preselect: object.optional("preselect")?,
-            sort_text: object.optional("sortText")?,
-            filter_text: object.optional("filterText")?,
-            insert_text: object.optional("insertText")?,
-            insert_text_format: object.optional("insertTextFormat")?,
-            insert_text_mode: object.optional("insertTextMode")?,
-            text_edit: object.optional("textEdit")?,
-            additional_text_edits: object.optional("additionalTextEdits")?,
-            command: object.optional("command")?,
-            commit_characters: object.optional("commitCharacters")?,
-            payload: object.optional("data")?,
-            tags: object.optional("tags")?,
-        })
+            label_details: object.optional("labelDetails"),
+            kind: object.optional("kind"),
+            detail: object.optional("detail"),
+            documentation: object.optional("documentation"),
+            deprecated: object.optional("deprecated"),
+            preselect: object.optional("preselect"),
+            sort_text: object.optional("sortText"),
+            filter_text: object.optional("filterText"),
+            insert_text: object.optional("insertText"),
+            insert_text_format: object.optional("insertTextFormat"),
+            insert_text_mode: object.optional("insertTextMode"),
+            text_edit: object.optional("textEdit"),
+            additional_text_edits: object.optional("additionalTextEdits"),
+            command: object.optional("command"),
+            commit_characters: object.optional("commitCharacters"),
+            payload: object.optional("data"),
+            tags: object.optional("tags"),
+        };
+        object.end(read)
     }
 
     fn to_value(&self, alloc: Global) -> Result<Value, NoMemory> {
         let mut object = Writer::new(alloc);
-        object.field("label", &self.label)?;
-        object.optional("labelDetails", &self.label_details)?;
-        object.optional("kind", &self.kind)?;
-        object.optional("detail", &self.detail)?;
-        object.optional("documentation", &self.documentation)?;
-        object.optional("deprecated", &self.deprecated)?;
-        object.optional("preselect", &self.preselect)?;
-        object.optional("sortText", &self.sort_text)?;
-        object.optional("filterText", &self.filter_text)?;
-        object.optional("insertText", &self.insert_text)?;
-        object.optional("insertTextFormat", &self.insert_text_format)?;
-        object.optional("insertTextMode", &self.insert_text_mode)?;
-        object.optional("textEdit", &self.text_edit)?;
-        object.optional("additionalTextEdits", &self.additional_text_edits)?;
-        object.optional("command", &self.command)?;
-        object.optional("commitCharacters", &self.commit_characters)?;
-        object.optional("data", &self.payload)?;
-        object.optional("tags", &self.tags)?;
-        Ok(object.end())
+        object.field("label", &self.label);
+        object.optional("labelDetails", &self.label_details);
+        object.optional("kind", &self.kind);
+        object.optional("detail", &self.detail);
+        object.optional("documentation", &self.documentation);
+        object.optional("deprecated", &self.deprecated);
+        object.optional("preselect", &self.preselect);
+        object.optional("sortText", &self.sort_text);
+        object.optional("filterText", &self.filter_text);
+        object.optional("insertText", &self.insert_text);
+        object.optional("insertTextFormat", &self.insert_text_format);
+        object.optional("insertTextMode", &self.insert_text_mode);
+        object.optional("textEdit", &self.text_edit);
+        object.optional("additionalTextEdits", &self.additional_text_edits);
+        object.optional("command", &self.command);
+        object.optional("commitCharacters", &self.commit_characters);
+        object.optional("data", &self.payload);
+        object.optional("tags", &self.tags);
+        object.end()
     }
 }
 
@@ -402,18 +405,19 @@ impl Wire for CompletionItemLabelDetails {
     ghost shown = { completion_item_label_details_row.shown };
 
     fn from_value(alloc: Global, value: &Value) -> Result<CompletionItemLabelDetails, Misfit> {
-        let object = Reader::new(alloc, value)?;
-        Ok(CompletionItemLabelDetails {
-            detail: object.optional("detail")?,
-            description: object.optional("description")?,
-        })
+        let mut object = Reader::new(alloc, value)?;
+        let read = CompletionItemLabelDetails {
+            detail: object.optional("detail"),
+            description: object.optional("description"),
+        };
+        object.end(read)
     }
 
     fn to_value(&self, alloc: Global) -> Result<Value, NoMemory> {
         let mut object = Writer::new(alloc);
-        object.optional("detail", &self.detail)?;
-        object.optional("description", &self.description)?;
-        Ok(object.end())
+        object.optional("detail", &self.detail);
+        object.optional("description", &self.description);
+        object.end()
     }
 }
 
@@ -512,9 +516,9 @@ impl Wire for InsertReplaceEdit {
 
     fn to_value(&self, alloc: Global) -> Result<Value, NoMemory> {
         let mut object = Writer::new(alloc);
-        object.field("newText", &self.new_text)?;
-        object.field("insert", &self.insert)?;
-        object.field("replace", &self.replace)?;
-        Ok(object.end())
+        object.field("newText", &self.new_text);
+        object.field("insert", &self.insert);
+        object.field("replace", &self.replace);
+        object.end()
     }
 }

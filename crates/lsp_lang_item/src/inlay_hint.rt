@@ -44,10 +44,10 @@ impl Wire for InlayHintParams {
 
     fn to_value(&self, alloc: Global) -> Result<Value, NoMemory> {
         let mut object = Writer::new(alloc);
-        object.flat(&self.work_done_progress_params)?;
-        object.field("textDocument", &self.text_document)?;
-        object.field("range", &self.range)?;
-        Ok(object.end())
+        object.flat(&self.work_done_progress_params);
+        object.field("textDocument", &self.text_document);
+        object.field("range", &self.range);
+        object.end()
     }
 }
 
@@ -85,30 +85,31 @@ impl Wire for InlayHint {
     ghost shown = { inlay_hint_row.shown };
 
     fn from_value(alloc: Global, value: &Value) -> Result<InlayHint, Misfit> {
-        let object = Reader::new(alloc, value)?;
-        Ok(InlayHint {
+        let mut object = Reader::new(alloc, value)?;
+        let read = InlayHint {
             position: object.field("position")?,
             label: object.field("label")?,
-            kind: object.optional("kind")?,
-            text_edits: object.optional("textEdits")?,
-            tooltip: object.optional("tooltip")?,
-            padding_left: object.optional("paddingLeft")?,
-            padding_right: object.optional("paddingRight")?,
-            payload: object.optional("data")?,
-        })
+            kind: object.optional("kind"),
+            text_edits: object.optional("textEdits"),
+            tooltip: object.optional("tooltip"),
+            padding_left: object.optional("paddingLeft"),
+            padding_right: object.optional("paddingRight"),
+            payload: object.optional("data"),
+        };
+        object.end(read)
     }
 
     fn to_value(&self, alloc: Global) -> Result<Value, NoMemory> {
         let mut object = Writer::new(alloc);
-        object.field("position", &self.position)?;
-        object.field("label", &self.label)?;
-        object.optional("kind", &self.kind)?;
-        object.optional("textEdits", &self.text_edits)?;
-        object.optional("tooltip", &self.tooltip)?;
-        object.optional("paddingLeft", &self.padding_left)?;
-        object.optional("paddingRight", &self.padding_right)?;
-        object.optional("data", &self.payload)?;
-        Ok(object.end())
+        object.field("position", &self.position);
+        object.field("label", &self.label);
+        object.optional("kind", &self.kind);
+        object.optional("textEdits", &self.text_edits);
+        object.optional("tooltip", &self.tooltip);
+        object.optional("paddingLeft", &self.padding_left);
+        object.optional("paddingRight", &self.padding_right);
+        object.optional("data", &self.payload);
+        object.end()
     }
 }
 
@@ -243,22 +244,23 @@ impl Wire for InlayHintLabelPart {
     ghost shown = { inlay_hint_label_part_row.shown };
 
     fn from_value(alloc: Global, value: &Value) -> Result<InlayHintLabelPart, Misfit> {
-        let object = Reader::new(alloc, value)?;
-        Ok(InlayHintLabelPart {
+        let mut object = Reader::new(alloc, value)?;
+        let read = InlayHintLabelPart {
             value: object.field("value")?,
-            tooltip: object.optional("tooltip")?,
-            location: object.optional("location")?,
-            command: object.optional("command")?,
-        })
+            tooltip: object.optional("tooltip"),
+            location: object.optional("location"),
+            command: object.optional("command"),
+        };
+        object.end(read)
     }
 
     fn to_value(&self, alloc: Global) -> Result<Value, NoMemory> {
         let mut object = Writer::new(alloc);
-        object.field("value", &self.value)?;
-        object.optional("tooltip", &self.tooltip)?;
-        object.optional("location", &self.location)?;
-        object.optional("command", &self.command)?;
-        Ok(object.end())
+        object.field("value", &self.value);
+        object.optional("tooltip", &self.tooltip);
+        object.optional("location", &self.location);
+        object.optional("command", &self.command);
+        object.end()
     }
 }
 

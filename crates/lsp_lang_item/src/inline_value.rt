@@ -40,11 +40,11 @@ impl Wire for InlineValueParams {
 
     fn to_value(&self, alloc: Global) -> Result<Value, NoMemory> {
         let mut object = Writer::new(alloc);
-        object.flat(&self.work_done_progress_params)?;
-        object.field("textDocument", &self.text_document)?;
-        object.field("range", &self.range)?;
-        object.field("context", &self.context)?;
-        Ok(object.end())
+        object.flat(&self.work_done_progress_params);
+        object.field("textDocument", &self.text_document);
+        object.field("range", &self.range);
+        object.field("context", &self.context);
+        object.end()
     }
 }
 
@@ -75,9 +75,9 @@ impl Wire for InlineValueContext {
 
     fn to_value(&self, alloc: Global) -> Result<Value, NoMemory> {
         let mut object = Writer::new(alloc);
-        object.field("frameId", &self.frame_id)?;
-        object.field("stoppedLocation", &self.stopped_location)?;
-        Ok(object.end())
+        object.field("frameId", &self.frame_id);
+        object.field("stoppedLocation", &self.stopped_location);
+        object.end()
     }
 }
 
@@ -183,9 +183,9 @@ impl Wire for InlineValueText {
 
     fn to_value(&self, alloc: Global) -> Result<Value, NoMemory> {
         let mut object = Writer::new(alloc);
-        object.field("range", &self.range)?;
-        object.field("text", &self.text)?;
-        Ok(object.end())
+        object.field("range", &self.range);
+        object.field("text", &self.text);
+        object.end()
     }
 }
 
@@ -209,20 +209,21 @@ impl Wire for InlineValueVariableLookup {
     ghost shown = { inline_value_variable_lookup_row.shown };
 
     fn from_value(alloc: Global, value: &Value) -> Result<InlineValueVariableLookup, Misfit> {
-        let object = Reader::new(alloc, value)?;
-        Ok(InlineValueVariableLookup {
+        let mut object = Reader::new(alloc, value)?;
+        let read = InlineValueVariableLookup {
             range: object.field("range")?,
-            variable_name: object.optional("variableName")?,
+            variable_name: object.optional("variableName"),
             case_sensitive_lookup: object.field("caseSensitiveLookup")?,
-        })
+        };
+        object.end(read)
     }
 
     fn to_value(&self, alloc: Global) -> Result<Value, NoMemory> {
         let mut object = Writer::new(alloc);
-        object.field("range", &self.range)?;
-        object.optional("variableName", &self.variable_name)?;
-        object.field("caseSensitiveLookup", &self.case_sensitive_lookup)?;
-        Ok(object.end())
+        object.field("range", &self.range);
+        object.optional("variableName", &self.variable_name);
+        object.field("caseSensitiveLookup", &self.case_sensitive_lookup);
+        object.end()
     }
 }
 
@@ -247,17 +248,18 @@ impl Wire for InlineValueEvaluatableExpression {
         alloc: Global,
         value: &Value,
     ) -> Result<InlineValueEvaluatableExpression, Misfit> {
-        let object = Reader::new(alloc, value)?;
-        Ok(InlineValueEvaluatableExpression {
+        let mut object = Reader::new(alloc, value)?;
+        let read = InlineValueEvaluatableExpression {
             range: object.field("range")?,
-            expression: object.optional("expression")?,
-        })
+            expression: object.optional("expression"),
+        };
+        object.end(read)
     }
 
     fn to_value(&self, alloc: Global) -> Result<Value, NoMemory> {
         let mut object = Writer::new(alloc);
-        object.field("range", &self.range)?;
-        object.optional("expression", &self.expression)?;
-        Ok(object.end())
+        object.field("range", &self.range);
+        object.optional("expression", &self.expression);
+        object.end()
     }
 }

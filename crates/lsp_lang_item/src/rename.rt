@@ -36,10 +36,10 @@ impl Wire for RenameParams {
 
     fn to_value(&self, alloc: Global) -> Result<Value, NoMemory> {
         let mut object = Writer::new(alloc);
-        object.flat(&self.text_document_position)?;
-        object.field("newName", &self.new_name)?;
-        object.flat(&self.work_done_progress_params)?;
-        Ok(object.end())
+        object.flat(&self.text_document_position);
+        object.field("newName", &self.new_name);
+        object.flat(&self.work_done_progress_params);
+        object.end()
     }
 }
 
@@ -91,9 +91,9 @@ impl Wire for PrepareRenameResponseRangeWithPlaceholder {
 
     fn to_value(&self, alloc: Global) -> Result<Value, NoMemory> {
         let mut object = Writer::new(alloc);
-        object.field("range", &self.range)?;
-        object.field("placeholder", &self.placeholder)?;
-        Ok(object.end())
+        object.field("range", &self.range);
+        object.field("placeholder", &self.placeholder);
+        object.end()
     }
 }
 
@@ -121,8 +121,8 @@ impl Wire for PrepareRenameResponseDefaultBehavior {
 
     fn to_value(&self, alloc: Global) -> Result<Value, NoMemory> {
         let mut object = Writer::new(alloc);
-        object.field("defaultBehavior", &self.default_behavior)?;
-        Ok(object.end())
+        object.field("defaultBehavior", &self.default_behavior);
+        object.end()
     }
 }
 
@@ -153,14 +153,14 @@ impl Wire for PrepareRenameResponse {
             PrepareRenameResponse::Range(range) => range.to_value(alloc),
             PrepareRenameResponse::RangeWithPlaceholder { range, placeholder } => {
                 let mut object = Writer::new(alloc);
-                object.field("range", range)?;
-                object.field("placeholder", placeholder)?;
-                Ok(object.end())
+                object.field("range", range);
+                object.field("placeholder", placeholder);
+                object.end()
             }
             PrepareRenameResponse::DefaultBehavior { default_behavior } => {
                 let mut object = Writer::new(alloc);
-                object.field("defaultBehavior", default_behavior)?;
-                Ok(object.end())
+                object.field("defaultBehavior", default_behavior);
+                object.end()
             }
         }
     }

@@ -9,7 +9,7 @@ use Rattle.lsp_shape.specs.Plain.{Plain, parts, part, no_parts}
 use Rattle.lsp_shape.specs.Shape.{Shape, required, Fields, fields, field, no_fields, tagged, Variants, no_variants, variant}
 use Rattle.lsp_shape.specs.Read.{read, read_member, read_tagged}
 use Rattle.lsp_shape.specs.Values.{tags}
-use Rattle.lsp_shape.proofs.Parts.{and_part-Some, fields_some, fields_none_at}
+use Rattle.lsp_shape.proofs.Parts.{and_part-Some, none_left, fields_some, fields_none}
 
 -- what was found for the name is that text
 pub text_found : {S : Type 0} (now : S → List ℕ) (name text : List ℕ) (d : Data) (found : Option S) (s : S)
@@ -46,7 +46,7 @@ result_read s d ms p is reads = fields_some (result_alone s) d ms _ is (and_part
 
 pub result_unfit : (s : Shape) (d : Data) (ms : Members) → d ≡ object ms → read_member required (read s) (get_member (codes "result") ms) ≡ None
     → read (fields (result_alone s)) d ≡ None
-result_unfit s d ms is none = fields_none_at 0 (result_alone s) d ms is none
+result_unfit s d ms is none = fields_none (result_alone s) d ms is (none_left _ _ none)
 
 differs : (text name : List ℕ) → text ≢ name → bytes_eq text name ≡ false
 differs text name other = false_from_ne_true (bytes_eq text name) (λ e. other ((bytes_eq-Decides text name).0 e))

@@ -188,9 +188,9 @@ impl Wire for EdgeData {
 
     fn to_value(&self, alloc: Global) -> Result<Value, NoMemory> {
         let mut object = Writer::new(alloc);
-        object.field("inV", &self.in_v)?;
-        object.field("outV", &self.out_v)?;
-        Ok(object.end())
+        object.field("inV", &self.in_v);
+        object.field("outV", &self.out_v);
+        object.end()
     }
 }
 
@@ -219,9 +219,9 @@ impl Wire for EdgeDataMultiIn {
 
     fn to_value(&self, alloc: Global) -> Result<Value, NoMemory> {
         let mut object = Writer::new(alloc);
-        object.field("inVs", &self.in_vs)?;
-        object.field("outV", &self.out_v)?;
-        Ok(object.end())
+        object.field("inVs", &self.in_vs);
+        object.field("outV", &self.out_v);
+        object.end()
     }
 }
 
@@ -245,20 +245,21 @@ impl Wire for Item {
     ghost shown = { item_row.shown };
 
     fn from_value(alloc: Global, value: &Value) -> Result<Item, Misfit> {
-        let object = Reader::new(alloc, value)?;
-        Ok(Item {
+        let mut object = Reader::new(alloc, value)?;
+        let read = Item {
             document: object.field("document")?,
-            property: object.optional("property")?,
+            property: object.optional("property"),
             edge_data: EdgeDataMultiIn::from_value(alloc, value)?,
-        })
+        };
+        object.end(read)
     }
 
     fn to_value(&self, alloc: Global) -> Result<Value, NoMemory> {
         let mut object = Writer::new(alloc);
-        object.field("document", &self.document)?;
-        object.optional("property", &self.property)?;
-        object.flat(&self.edge_data)?;
-        Ok(object.end())
+        object.field("document", &self.document);
+        object.optional("property", &self.property);
+        object.flat(&self.edge_data);
+        object.end()
     }
 }
 

@@ -38,9 +38,9 @@ impl Wire for Entry {
 
     fn to_value(&self, alloc: Global) -> Result<Value, NoMemory> {
         let mut object = Writer::new(alloc);
-        object.field("id", &self.id)?;
-        object.flat(&self.payload)?;
-        Ok(object.end())
+        object.field("id", &self.id);
+        object.flat(&self.payload);
+        object.end()
     }
 }
 

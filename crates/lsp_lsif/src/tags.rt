@@ -79,24 +79,25 @@ impl Wire for DefinitionTag {
     ghost shown = { definition_tag_row.shown };
 
     fn from_value(alloc: Global, value: &Value) -> Result<DefinitionTag, Misfit> {
-        let object = Reader::new(alloc, value)?;
-        Ok(DefinitionTag {
+        let mut object = Reader::new(alloc, value)?;
+        let read = DefinitionTag {
             text: object.field("text")?,
             kind: object.field("kind")?,
-            deprecated: object.truth_or_false("deprecated")?,
+            deprecated: object.truth_or_false("deprecated"),
             full_range: object.field("fullRange")?,
-            detail: object.optional("detail")?,
-        })
+            detail: object.optional("detail"),
+        };
+        object.end(read)
     }
 
     fn to_value(&self, alloc: Global) -> Result<Value, NoMemory> {
         let mut object = Writer::new(alloc);
-        object.field("text", &self.text)?;
-        object.field("kind", &self.kind)?;
-        object.unless_false("deprecated", self.deprecated)?;
-        object.field("fullRange", &self.full_range)?;
-        object.optional("detail", &self.detail)?;
-        Ok(object.end())
+        object.field("text", &self.text);
+        object.field("kind", &self.kind);
+        object.unless_false("deprecated", self.deprecated);
+        object.field("fullRange", &self.full_range);
+        object.optional("detail", &self.detail);
+        object.end()
     }
 }
 
@@ -123,24 +124,25 @@ impl Wire for DeclarationTag {
     ghost shown = { declaration_tag_row.shown };
 
     fn from_value(alloc: Global, value: &Value) -> Result<DeclarationTag, Misfit> {
-        let object = Reader::new(alloc, value)?;
-        Ok(DeclarationTag {
+        let mut object = Reader::new(alloc, value)?;
+        let read = DeclarationTag {
             text: object.field("text")?,
             kind: object.field("kind")?,
-            deprecated: object.truth_or_false("deprecated")?,
+            deprecated: object.truth_or_false("deprecated"),
             full_range: object.field("fullRange")?,
-            detail: object.optional("detail")?,
-        })
+            detail: object.optional("detail"),
+        };
+        object.end(read)
     }
 
     fn to_value(&self, alloc: Global) -> Result<Value, NoMemory> {
         let mut object = Writer::new(alloc);
-        object.field("text", &self.text)?;
-        object.field("kind", &self.kind)?;
-        object.field("deprecated", &self.deprecated)?;
-        object.field("fullRange", &self.full_range)?;
-        object.optional("detail", &self.detail)?;
-        Ok(object.end())
+        object.field("text", &self.text);
+        object.field("kind", &self.kind);
+        object.field("deprecated", &self.deprecated);
+        object.field("fullRange", &self.full_range);
+        object.optional("detail", &self.detail);
+        object.end()
     }
 }
 
@@ -166,8 +168,8 @@ impl Wire for ReferenceTag {
 
     fn to_value(&self, alloc: Global) -> Result<Value, NoMemory> {
         let mut object = Writer::new(alloc);
-        object.field("text", &self.text)?;
-        Ok(object.end())
+        object.field("text", &self.text);
+        object.end()
     }
 }
 
@@ -193,7 +195,7 @@ impl Wire for UnknownTag {
 
     fn to_value(&self, alloc: Global) -> Result<Value, NoMemory> {
         let mut object = Writer::new(alloc);
-        object.field("text", &self.text)?;
-        Ok(object.end())
+        object.field("text", &self.text);
+        object.end()
     }
 }

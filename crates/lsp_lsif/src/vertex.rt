@@ -93,11 +93,12 @@ impl Wire for Vertex {
             Some("project") => Ok(Vertex::Project(Project::from_value(alloc, value)?)),
             Some("document") => Ok(Vertex::Document(Document::from_value(alloc, value)?)),
             Some("range") => {
-                let object = Reader::new(alloc, value)?;
-                Ok(Vertex::Range {
+                let mut object = Reader::new(alloc, value)?;
+                let read = Vertex::Range {
                     range: Range::from_value(alloc, value)?,
-                    tag: object.optional("tag")?,
-                })
+                    tag: object.optional("tag"),
+                };
+                object.end(read)
             }
             Some("resultSet") => Ok(Vertex::ResultSet(ResultSet::from_value(alloc, value)?)),
             Some("moniker") => Ok(Vertex::Moniker(Moniker::from_value(alloc, value)?)),
@@ -152,10 +153,10 @@ impl Wire for Vertex {
             Vertex::Document(document) => put_tag(alloc, "label", "document", document),
             Vertex::Range { range, tag } => {
                 let mut object = Writer::new(alloc);
-                object.flat(range)?;
-                object.optional("tag", tag)?;
-                object.tag("label", "range")?;
-                Ok(object.end())
+                object.flat(range);
+                object.optional("tag", tag);
+                object.tag("label", "range");
+                object.end()
             }
             Vertex::ResultSet(set) => put_tag(alloc, "label", "resultSet", set),
             Vertex::Moniker(moniker) => put_tag(alloc, "label", "moniker", moniker),
@@ -168,58 +169,58 @@ impl Wire for Vertex {
             Vertex::Event(event) => put_tag(alloc, "label", "$event", event),
             Vertex::DefinitionResult => {
                 let mut object = Writer::new(alloc);
-                object.tag("label", "definitionResult")?;
-                Ok(object.end())
+                object.tag("label", "definitionResult");
+                object.end()
             }
             Vertex::DeclarationResult => {
                 let mut object = Writer::new(alloc);
-                object.tag("label", "declarationResult")?;
-                Ok(object.end())
+                object.tag("label", "declarationResult");
+                object.end()
             }
             Vertex::TypeDefinitionResult => {
                 let mut object = Writer::new(alloc);
-                object.tag("label", "typeDefinitionResult")?;
-                Ok(object.end())
+                object.tag("label", "typeDefinitionResult");
+                object.end()
             }
             Vertex::ReferenceResult => {
                 let mut object = Writer::new(alloc);
-                object.tag("label", "referenceResult")?;
-                Ok(object.end())
+                object.tag("label", "referenceResult");
+                object.end()
             }
             Vertex::ImplementationResult => {
                 let mut object = Writer::new(alloc);
-                object.tag("label", "implementationResult")?;
-                Ok(object.end())
+                object.tag("label", "implementationResult");
+                object.end()
             }
             Vertex::FoldingRangeResult { result } => {
                 let mut object = Writer::new(alloc);
-                object.field("result", result)?;
-                object.tag("label", "foldingRangeResult")?;
-                Ok(object.end())
+                object.field("result", result);
+                object.tag("label", "foldingRangeResult");
+                object.end()
             }
             Vertex::HoverResult { result } => {
                 let mut object = Writer::new(alloc);
-                object.field("result", result)?;
-                object.tag("label", "hoverResult")?;
-                Ok(object.end())
+                object.field("result", result);
+                object.tag("label", "hoverResult");
+                object.end()
             }
             Vertex::DocumentSymbolResult { result } => {
                 let mut object = Writer::new(alloc);
-                object.field("result", result)?;
-                object.tag("label", "documentSymbolResult")?;
-                Ok(object.end())
+                object.field("result", result);
+                object.tag("label", "documentSymbolResult");
+                object.end()
             }
             Vertex::DocumentLinkResult { result } => {
                 let mut object = Writer::new(alloc);
-                object.field("result", result)?;
-                object.tag("label", "documentLinkResult")?;
-                Ok(object.end())
+                object.field("result", result);
+                object.tag("label", "documentLinkResult");
+                object.end()
             }
             Vertex::DiagnosticResult { result } => {
                 let mut object = Writer::new(alloc);
-                object.field("result", result)?;
-                object.tag("label", "diagnosticResult")?;
-                Ok(object.end())
+                object.field("result", result);
+                object.tag("label", "diagnosticResult");
+                object.end()
             }
         }
     }
@@ -246,22 +247,23 @@ impl Wire for MetaData {
     ghost shown = { meta_data_row.shown };
 
     fn from_value(alloc: Global, value: &Value) -> Result<MetaData, Misfit> {
-        let object = Reader::new(alloc, value)?;
-        Ok(MetaData {
+        let mut object = Reader::new(alloc, value)?;
+        let read = MetaData {
             version: object.field("version")?,
             project_root: object.field("projectRoot")?,
             position_encoding: object.field("positionEncoding")?,
-            tool_info: object.optional("toolInfo")?,
-        })
+            tool_info: object.optional("toolInfo"),
+        };
+        object.end(read)
     }
 
     fn to_value(&self, alloc: Global) -> Result<Value, NoMemory> {
         let mut object = Writer::new(alloc);
-        object.field("version", &self.version)?;
-        object.field("projectRoot", &self.project_root)?;
-        object.field("positionEncoding", &self.position_encoding)?;
-        object.optional("toolInfo", &self.tool_info)?;
-        Ok(object.end())
+        object.field("version", &self.version);
+        object.field("projectRoot", &self.project_root);
+        object.field("positionEncoding", &self.position_encoding);
+        object.optional("toolInfo", &self.tool_info);
+        object.end()
     }
 }
 
@@ -312,20 +314,21 @@ impl Wire for ToolInfo {
     ghost shown = { tool_info_row.shown };
 
     fn from_value(alloc: Global, value: &Value) -> Result<ToolInfo, Misfit> {
-        let object = Reader::new(alloc, value)?;
-        Ok(ToolInfo {
+        let mut object = Reader::new(alloc, value)?;
+        let read = ToolInfo {
             name: object.field("name")?,
-            args: object.list_or_empty("args")?,
-            version: object.optional("version")?,
-        })
+            args: object.list_or_empty("args"),
+            version: object.optional("version"),
+        };
+        object.end(read)
     }
 
     fn to_value(&self, alloc: Global) -> Result<Value, NoMemory> {
         let mut object = Writer::new(alloc);
-        object.field("name", &self.name)?;
-        object.unless_empty("args", &self.args)?;
-        object.optional("version", &self.version)?;
-        Ok(object.end())
+        object.field("name", &self.name);
+        object.unless_empty("args", &self.args);
+        object.optional("version", &self.version);
+        object.end()
     }
 }
 
@@ -348,20 +351,21 @@ impl Wire for Project {
     ghost shown = { project_row.shown };
 
     fn from_value(alloc: Global, value: &Value) -> Result<Project, Misfit> {
-        let object = Reader::new(alloc, value)?;
-        Ok(Project {
-            resource: object.optional("resource")?,
-            content: object.optional("content")?,
+        let mut object = Reader::new(alloc, value)?;
+        let read = Project {
+            resource: object.optional("resource"),
+            content: object.optional("content"),
             kind: object.field("kind")?,
-        })
+        };
+        object.end(read)
     }
 
     fn to_value(&self, alloc: Global) -> Result<Value, NoMemory> {
         let mut object = Writer::new(alloc);
-        object.optional("resource", &self.resource)?;
-        object.optional("content", &self.content)?;
-        object.field("kind", &self.kind)?;
-        Ok(object.end())
+        object.optional("resource", &self.resource);
+        object.optional("content", &self.content);
+        object.field("kind", &self.kind);
+        object.end()
     }
 }
 
@@ -383,20 +387,21 @@ impl Wire for Repository {
     ghost shown = { repository_row.shown };
 
     fn from_value(alloc: Global, value: &Value) -> Result<Repository, Misfit> {
-        let object = Reader::new(alloc, value)?;
-        Ok(Repository {
+        let mut object = Reader::new(alloc, value)?;
+        let read = Repository {
             typ: object.field("type")?,
             url: object.field("url")?,
-            commit_id: object.optional("commitId")?,
-        })
+            commit_id: object.optional("commitId"),
+        };
+        object.end(read)
     }
 
     fn to_value(&self, alloc: Global) -> Result<Value, NoMemory> {
         let mut object = Writer::new(alloc);
-        object.field("type", &self.typ)?;
-        object.field("url", &self.url)?;
-        object.optional("commitId", &self.commit_id)?;
-        Ok(object.end())
+        object.field("type", &self.typ);
+        object.field("url", &self.url);
+        object.optional("commitId", &self.commit_id);
+        object.end()
     }
 }
 
@@ -426,9 +431,9 @@ impl Wire for Document {
 
     fn to_value(&self, alloc: Global) -> Result<Value, NoMemory> {
         let mut object = Writer::new(alloc);
-        object.field("uri", &self.uri)?;
-        object.field("languageId", &self.language_id)?;
-        Ok(object.end())
+        object.field("uri", &self.uri);
+        object.field("languageId", &self.language_id);
+        object.end()
     }
 }
 
@@ -447,16 +452,17 @@ impl Wire for ResultSet {
     ghost shown = { result_set_row.shown };
 
     fn from_value(alloc: Global, value: &Value) -> Result<ResultSet, Misfit> {
-        let object = Reader::new(alloc, value)?;
-        Ok(ResultSet {
-            key: object.optional("key")?,
-        })
+        let mut object = Reader::new(alloc, value)?;
+        let read = ResultSet {
+            key: object.optional("key"),
+        };
+        object.end(read)
     }
 
     fn to_value(&self, alloc: Global) -> Result<Value, NoMemory> {
         let mut object = Writer::new(alloc);
-        object.optional("key", &self.key)?;
-        Ok(object.end())
+        object.optional("key", &self.key);
+        object.end()
     }
 }
 
@@ -485,26 +491,27 @@ impl Wire for PackageInformation {
     ghost shown = { package_information_row.shown };
 
     fn from_value(alloc: Global, value: &Value) -> Result<PackageInformation, Misfit> {
-        let object = Reader::new(alloc, value)?;
-        Ok(PackageInformation {
+        let mut object = Reader::new(alloc, value)?;
+        let read = PackageInformation {
             name: object.field("name")?,
             manager: object.field("manager")?,
-            uri: object.optional("uri")?,
-            content: object.optional("content")?,
-            repository: object.optional("repository")?,
-            version: object.optional("version")?,
-        })
+            uri: object.optional("uri"),
+            content: object.optional("content"),
+            repository: object.optional("repository"),
+            version: object.optional("version"),
+        };
+        object.end(read)
     }
 
     fn to_value(&self, alloc: Global) -> Result<Value, NoMemory> {
         let mut object = Writer::new(alloc);
-        object.field("name", &self.name)?;
-        object.field("manager", &self.manager)?;
-        object.optional("uri", &self.uri)?;
-        object.optional("content", &self.content)?;
-        object.optional("repository", &self.repository)?;
-        object.optional("version", &self.version)?;
-        Ok(object.end())
+        object.field("name", &self.name);
+        object.field("manager", &self.manager);
+        object.optional("uri", &self.uri);
+        object.optional("content", &self.content);
+        object.optional("repository", &self.repository);
+        object.optional("version", &self.version);
+        object.end()
     }
 }
 
@@ -537,10 +544,10 @@ impl Wire for Event {
 
     fn to_value(&self, alloc: Global) -> Result<Value, NoMemory> {
         let mut object = Writer::new(alloc);
-        object.field("kind", &self.kind)?;
-        object.field("scope", &self.scope)?;
-        object.field("data", &self.payload)?;
-        Ok(object.end())
+        object.field("kind", &self.kind);
+        object.field("scope", &self.scope);
+        object.field("data", &self.payload);
+        object.end()
     }
 }
 

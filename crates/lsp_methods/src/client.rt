@@ -38,26 +38,27 @@ impl Wire for ClientCapabilities {
     ghost shown = { client_capabilities_row.shown };
 
     fn from_value(alloc: Global, value: &Value) -> Result<ClientCapabilities, Misfit> {
-        let object = Reader::new(alloc, value)?;
-        Ok(ClientCapabilities {
-            workspace: object.optional("workspace")?,
-            text_document: object.optional("textDocument")?,
-            notebook_document: object.optional("notebookDocument")?,
-            window: object.optional("window")?,
-            general: object.optional("general")?,
-            experimental: object.optional("experimental")?,
-        })
+        let mut object = Reader::new(alloc, value)?;
+        let read = ClientCapabilities {
+            workspace: object.optional("workspace"),
+            text_document: object.optional("textDocument"),
+            notebook_document: object.optional("notebookDocument"),
+            window: object.optional("window"),
+            general: object.optional("general"),
+            experimental: object.optional("experimental"),
+        };
+        object.end(read)
     }
 
     fn to_value(&self, alloc: Global) -> Result<Value, NoMemory> {
         let mut object = Writer::new(alloc);
-        object.optional("workspace", &self.workspace)?;
-        object.optional("textDocument", &self.text_document)?;
-        object.optional("notebookDocument", &self.notebook_document)?;
-        object.optional("window", &self.window)?;
-        object.optional("general", &self.general)?;
-        object.optional("experimental", &self.experimental)?;
-        Ok(object.end())
+        object.optional("workspace", &self.workspace);
+        object.optional("textDocument", &self.text_document);
+        object.optional("notebookDocument", &self.notebook_document);
+        object.optional("window", &self.window);
+        object.optional("general", &self.general);
+        object.optional("experimental", &self.experimental);
+        object.end()
     }
 }
 
@@ -100,33 +101,34 @@ impl Wire for InitializeParams {
     ghost shown = { initialize_params_row.shown };
 
     fn from_value(alloc: Global, value: &Value) -> Result<InitializeParams, Misfit> {
-        let object = Reader::new(alloc, value)?;
-        Ok(InitializeParams {
-            process_id: object.optional("processId")?,
-            root_path: object.optional("rootPath")?,
-            root_uri: object.optional("rootUri")?,
-            initialization_options: object.optional("initializationOptions")?,
+        let mut object = Reader::new(alloc, value)?;
+        let read = InitializeParams {
+            process_id: object.optional("processId"),
+            root_path: object.optional("rootPath"),
+            root_uri: object.optional("rootUri"),
+            initialization_options: object.optional("initializationOptions"),
             capabilities: object.field("capabilities")?,
-            trace: object.optional("trace")?,
-            workspace_folders: object.optional("workspaceFolders")?,
-            client_info: object.optional("clientInfo")?,
-            locale: object.optional("locale")?,
+            trace: object.optional("trace"),
+            workspace_folders: object.optional("workspaceFolders"),
+            client_info: object.optional("clientInfo"),
+            locale: object.optional("locale"),
             work_done_progress_params: WorkDoneProgressParams::from_value(alloc, value)?,
-        })
+        };
+        object.end(read)
     }
 
     fn to_value(&self, alloc: Global) -> Result<Value, NoMemory> {
         let mut object = Writer::new(alloc);
-        object.nullable("processId", &self.process_id)?;
-        object.optional("rootPath", &self.root_path)?;
-        object.nullable("rootUri", &self.root_uri)?;
-        object.optional("initializationOptions", &self.initialization_options)?;
-        object.field("capabilities", &self.capabilities)?;
-        object.optional("trace", &self.trace)?;
-        object.optional("workspaceFolders", &self.workspace_folders)?;
-        object.optional("clientInfo", &self.client_info)?;
-        object.optional("locale", &self.locale)?;
-        object.flat(&self.work_done_progress_params)?;
-        Ok(object.end())
+        object.nullable("processId", &self.process_id);
+        object.optional("rootPath", &self.root_path);
+        object.nullable("rootUri", &self.root_uri);
+        object.optional("initializationOptions", &self.initialization_options);
+        object.field("capabilities", &self.capabilities);
+        object.optional("trace", &self.trace);
+        object.optional("workspaceFolders", &self.workspace_folders);
+        object.optional("clientInfo", &self.client_info);
+        object.optional("locale", &self.locale);
+        object.flat(&self.work_done_progress_params);
+        object.end()
     }
 }

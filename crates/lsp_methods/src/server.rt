@@ -116,99 +116,100 @@ impl Wire for ServerCapabilities {
     ghost shown = { server_capabilities_row.shown };
 
     fn from_value(alloc: Global, value: &Value) -> Result<ServerCapabilities, Misfit> {
-        let object = Reader::new(alloc, value)?;
-        Ok(ServerCapabilities {
-            position_encoding: object.optional("positionEncoding")?,
-            text_document_sync: object.optional("textDocumentSync")?,
-            notebook_document_sync: object.optional("notebookDocumentSync")?,
-            selection_range_provider: object.optional("selectionRangeProvider")?,
-            hover_provider: object.optional("hoverProvider")?,
-            completion_provider: object.optional("completionProvider")?,
-            signature_help_provider: object.optional("signatureHelpProvider")?,
-            definition_provider: object.optional("definitionProvider")?,
-            type_definition_provider: object.optional("typeDefinitionProvider")?,
-            implementation_provider: object.optional("implementationProvider")?,
-            references_provider: object.optional("referencesProvider")?,
-            document_highlight_provider: object.optional("documentHighlightProvider")?,
-            document_symbol_provider: object.optional("documentSymbolProvider")?,
-            workspace_symbol_provider: object.optional("workspaceSymbolProvider")?,
-            code_action_provider: object.optional("codeActionProvider")?,
-            code_lens_provider: object.optional("codeLensProvider")?,
-            document_formatting_provider: object.optional("documentFormattingProvider")?,
-            document_range_formatting_provider: object.optional("documentRangeFormattingProvider")?,
+        let mut object = Reader::new(alloc, value)?;
+        let read = ServerCapabilities {
+            position_encoding: object.optional("positionEncoding"),
+            text_document_sync: object.optional("textDocumentSync"),
+            notebook_document_sync: object.optional("notebookDocumentSync"),
+            selection_range_provider: object.optional("selectionRangeProvider"),
+            hover_provider: object.optional("hoverProvider"),
+            completion_provider: object.optional("completionProvider"),
+            signature_help_provider: object.optional("signatureHelpProvider"),
+            definition_provider: object.optional("definitionProvider"),
+            type_definition_provider: object.optional("typeDefinitionProvider"),
+            implementation_provider: object.optional("implementationProvider"),
+            references_provider: object.optional("referencesProvider"),
+            document_highlight_provider: object.optional("documentHighlightProvider"),
+            document_symbol_provider: object.optional("documentSymbolProvider"),
+            workspace_symbol_provider: object.optional("workspaceSymbolProvider"),
+            code_action_provider: object.optional("codeActionProvider"),
+            code_lens_provider: object.optional("codeLensProvider"),
+            document_formatting_provider: object.optional("documentFormattingProvider"),
+            document_range_formatting_provider: object.optional("documentRangeFormattingProvider"),
             document_on_type_formatting_provider: object.optional(
                 "documentOnTypeFormattingProvider",
-            )?,
-            rename_provider: object.optional("renameProvider")?,
-            document_link_provider: object.optional("documentLinkProvider")?,
-            color_provider: object.optional("colorProvider")?,
-            folding_range_provider: object.optional("foldingRangeProvider")?,
-            declaration_provider: object.optional("declarationProvider")?,
-            execute_command_provider: object.optional("executeCommandProvider")?,
-            workspace: object.optional("workspace")?,
-            call_hierarchy_provider: object.optional("callHierarchyProvider")?,
-            semantic_tokens_provider: object.optional("semanticTokensProvider")?,
-            moniker_provider: object.optional("monikerProvider")?,
-            linked_editing_range_provider: object.optional("linkedEditingRangeProvider")?,
-            inline_value_provider: object.optional("inlineValueProvider")?,
-            inlay_hint_provider: object.optional("inlayHintProvider")?,
-            diagnostic_provider: object.optional("diagnosticProvider")?,
-            experimental: object.optional("experimental")?,
-        })
+            ),
+            rename_provider: object.optional("renameProvider"),
+            document_link_provider: object.optional("documentLinkProvider"),
+            color_provider: object.optional("colorProvider"),
+            folding_range_provider: object.optional("foldingRangeProvider"),
+            declaration_provider: object.optional("declarationProvider"),
+            execute_command_provider: object.optional("executeCommandProvider"),
+            workspace: object.optional("workspace"),
+            call_hierarchy_provider: object.optional("callHierarchyProvider"),
+            semantic_tokens_provider: object.optional("semanticTokensProvider"),
+            moniker_provider: object.optional("monikerProvider"),
+            linked_editing_range_provider: object.optional("linkedEditingRangeProvider"),
+            inline_value_provider: object.optional("inlineValueProvider"),
+            inlay_hint_provider: object.optional("inlayHintProvider"),
+            diagnostic_provider: object.optional("diagnosticProvider"),
+            experimental: object.optional("experimental"),
+        };
+        object.end(read)
     }
 
     fn to_value(&self, alloc: Global) -> Result<Value, NoMemory> {
         let mut object = Writer::new(alloc);
-        object.optional("positionEncoding", &self.position_encoding)?;
-        object.optional("textDocumentSync", &self.text_document_sync)?;
-        object.optional("notebookDocumentSync", &self.notebook_document_sync)?;
-        object.optional("selectionRangeProvider", &self.selection_range_provider)?;
-        object.optional("hoverProvider", &self.hover_provider)?;
-        object.optional("completionProvider", &self.completion_provider)?;
-        object.optional("signatureHelpProvider", &self.signature_help_provider)?;
-        object.optional("definitionProvider", &self.definition_provider)?;
-        object.optional("typeDefinitionProvider", &self.type_definition_provider)?;
-        object.optional("implementationProvider", &self.implementation_provider)?;
-        object.optional("referencesProvider", &self.references_provider)?;
+        object.optional("positionEncoding", &self.position_encoding);
+        object.optional("textDocumentSync", &self.text_document_sync);
+        object.optional("notebookDocumentSync", &self.notebook_document_sync);
+        object.optional("selectionRangeProvider", &self.selection_range_provider);
+        object.optional("hoverProvider", &self.hover_provider);
+        object.optional("completionProvider", &self.completion_provider);
+        object.optional("signatureHelpProvider", &self.signature_help_provider);
+        object.optional("definitionProvider", &self.definition_provider);
+        object.optional("typeDefinitionProvider", &self.type_definition_provider);
+        object.optional("implementationProvider", &self.implementation_provider);
+        object.optional("referencesProvider", &self.references_provider);
         object.optional(
             "documentHighlightProvider",
             &self.document_highlight_provider,
-        )?;
-        object.optional("documentSymbolProvider", &self.document_symbol_provider)?;
-        object.optional("workspaceSymbolProvider", &self.workspace_symbol_provider)?;
-        object.optional("codeActionProvider", &self.code_action_provider)?;
-        object.optional("codeLensProvider", &self.code_lens_provider)?;
+        );
+        object.optional("documentSymbolProvider", &self.document_symbol_provider);
+        object.optional("workspaceSymbolProvider", &self.workspace_symbol_provider);
+        object.optional("codeActionProvider", &self.code_action_provider);
+        object.optional("codeLensProvider", &self.code_lens_provider);
         object.optional(
             "documentFormattingProvider",
             &self.document_formatting_provider,
-        )?;
+        );
         object.optional(
             "documentRangeFormattingProvider",
             &self.document_range_formatting_provider,
-        )?;
+        );
         object.optional(
             "documentOnTypeFormattingProvider",
             &self.document_on_type_formatting_provider,
-        )?;
-        object.optional("renameProvider", &self.rename_provider)?;
-        object.optional("documentLinkProvider", &self.document_link_provider)?;
-        object.optional("colorProvider", &self.color_provider)?;
-        object.optional("foldingRangeProvider", &self.folding_range_provider)?;
-        object.optional("declarationProvider", &self.declaration_provider)?;
-        object.optional("executeCommandProvider", &self.execute_command_provider)?;
-        object.optional("workspace", &self.workspace)?;
-        object.optional("callHierarchyProvider", &self.call_hierarchy_provider)?;
-        object.optional("semanticTokensProvider", &self.semantic_tokens_provider)?;
-        object.optional("monikerProvider", &self.moniker_provider)?;
+        );
+        object.optional("renameProvider", &self.rename_provider);
+        object.optional("documentLinkProvider", &self.document_link_provider);
+        object.optional("colorProvider", &self.color_provider);
+        object.optional("foldingRangeProvider", &self.folding_range_provider);
+        object.optional("declarationProvider", &self.declaration_provider);
+        object.optional("executeCommandProvider", &self.execute_command_provider);
+        object.optional("workspace", &self.workspace);
+        object.optional("callHierarchyProvider", &self.call_hierarchy_provider);
+        object.optional("semanticTokensProvider", &self.semantic_tokens_provider);
+        object.optional("monikerProvider", &self.moniker_provider);
         object.optional(
             "linkedEditingRangeProvider",
             &self.linked_editing_range_provider,
-        )?;
-        object.optional("inlineValueProvider", &self.inline_value_provider)?;
-        object.optional("inlayHintProvider", &self.inlay_hint_provider)?;
-        object.optional("diagnosticProvider", &self.diagnostic_provider)?;
-        object.optional("experimental", &self.experimental)?;
-        Ok(object.end())
+        );
+        object.optional("inlineValueProvider", &self.inline_value_provider);
+        object.optional("inlayHintProvider", &self.inlay_hint_provider);
+        object.optional("diagnosticProvider", &self.diagnostic_provider);
+        object.optional("experimental", &self.experimental);
+        object.end()
     }
 }
 
@@ -228,17 +229,18 @@ impl Wire for InitializeResult {
     ghost shown = { initialize_result_row.shown };
 
     fn from_value(alloc: Global, value: &Value) -> Result<InitializeResult, Misfit> {
-        let object = Reader::new(alloc, value)?;
-        Ok(InitializeResult {
+        let mut object = Reader::new(alloc, value)?;
+        let read = InitializeResult {
             capabilities: object.field("capabilities")?,
-            server_info: object.optional("serverInfo")?,
-        })
+            server_info: object.optional("serverInfo"),
+        };
+        object.end(read)
     }
 
     fn to_value(&self, alloc: Global) -> Result<Value, NoMemory> {
         let mut object = Writer::new(alloc);
-        object.field("capabilities", &self.capabilities)?;
-        object.optional("serverInfo", &self.server_info)?;
-        Ok(object.end())
+        object.field("capabilities", &self.capabilities);
+        object.optional("serverInfo", &self.server_info);
+        object.end()
     }
 }

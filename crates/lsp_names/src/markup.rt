@@ -64,9 +64,9 @@ impl Wire for MarkupContent {
 
     fn to_value(&self, alloc: Global) -> Result<Value, NoMemory> {
         let mut object = Writer::new(alloc);
-        object.field("kind", &self.kind)?;
-        object.field("value", &self.value)?;
-        Ok(object.end())
+        object.field("kind", &self.kind);
+        object.field("value", &self.value);
+        object.end()
     }
 }
 
@@ -95,9 +95,9 @@ impl Wire for LanguageString {
 
     fn to_value(&self, alloc: Global) -> Result<Value, NoMemory> {
         let mut object = Writer::new(alloc);
-        object.field("language", &self.language)?;
-        object.field("value", &self.value)?;
-        Ok(object.end())
+        object.field("language", &self.language);
+        object.field("value", &self.value);
+        object.end()
     }
 }
 

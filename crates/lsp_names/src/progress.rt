@@ -21,15 +21,16 @@ impl Wire for WorkDoneProgressOptions {
     ghost shown = { work_done_progress_options_row.shown };
 
     fn from_value(alloc: Global, value: &Value) -> Result<WorkDoneProgressOptions, Misfit> {
-        let object = Reader::new(alloc, value)?;
-        Ok(WorkDoneProgressOptions {
-            work_done_progress: object.optional("workDoneProgress")?,
-        })
+        let mut object = Reader::new(alloc, value)?;
+        let read = WorkDoneProgressOptions {
+            work_done_progress: object.optional("workDoneProgress"),
+        };
+        object.end(read)
     }
 
     fn to_value(&self, alloc: Global) -> Result<Value, NoMemory> {
         let mut object = Writer::new(alloc);
-        object.optional("workDoneProgress", &self.work_done_progress)?;
-        Ok(object.end())
+        object.optional("workDoneProgress", &self.work_done_progress);
+        object.end()
     }
 }

@@ -457,16 +457,17 @@ impl Wire for SemanticTokensFullOptionsDelta {
     ghost shown = { semantic_tokens_full_options_delta_row.shown };
 
     fn from_value(alloc: Global, value: &Value) -> Result<SemanticTokensFullOptionsDelta, Misfit> {
-        let object = Reader::new(alloc, value)?;
-        Ok(SemanticTokensFullOptionsDelta {
-            delta: object.optional("delta")?,
-        })
+        let mut object = Reader::new(alloc, value)?;
+        let read = SemanticTokensFullOptionsDelta {
+            delta: object.optional("delta"),
+        };
+        object.end(read)
     }
 
     fn to_value(&self, alloc: Global) -> Result<Value, NoMemory> {
         let mut object = Writer::new(alloc);
-        object.optional("delta", &self.delta)?;
-        Ok(object.end())
+        object.optional("delta", &self.delta);
+        object.end()
     }
 }
 
@@ -489,8 +490,8 @@ impl Wire for SemanticTokensFullOptions {
             SemanticTokensFullOptions::Bool(whole) => whole.to_value(alloc),
             SemanticTokensFullOptions::Delta { delta } => {
                 let mut object = Writer::new(alloc);
-                object.optional("delta", delta)?;
-                Ok(object.end())
+                object.optional("delta", delta);
+                object.end()
             }
         }
     }

@@ -92,7 +92,7 @@ impl Wire for ColorProviderOptions {
 
     fn to_value(&self, alloc: Global) -> Result<Value, NoMemory> {
         let object = Writer::new(alloc);
-        Ok(object.end())
+        object.end()
     }
 }
 
@@ -118,18 +118,19 @@ impl Wire for StaticTextDocumentColorProviderOptions {
         alloc: Global,
         value: &Value,
     ) -> Result<StaticTextDocumentColorProviderOptions, Misfit> {
-        let object = Reader::new(alloc, value)?;
-        Ok(StaticTextDocumentColorProviderOptions {
-            document_selector: object.optional("documentSelector")?,
-            id: object.optional("id")?,
-        })
+        let mut object = Reader::new(alloc, value)?;
+        let read = StaticTextDocumentColorProviderOptions {
+            document_selector: object.optional("documentSelector"),
+            id: object.optional("id"),
+        };
+        object.end(read)
     }
 
     fn to_value(&self, alloc: Global) -> Result<Value, NoMemory> {
         let mut object = Writer::new(alloc);
-        object.nullable("documentSelector", &self.document_selector)?;
-        object.optional("id", &self.id)?;
-        Ok(object.end())
+        object.nullable("documentSelector", &self.document_selector);
+        object.optional("id", &self.id);
+        object.end()
     }
 }
 
@@ -217,6 +218,6 @@ impl Wire for FoldingProviderOptions {
 
     fn to_value(&self, alloc: Global) -> Result<Value, NoMemory> {
         let object = Writer::new(alloc);
-        Ok(object.end())
+        object.end()
     }
 }

@@ -64,22 +64,23 @@ impl Wire for DiagnosticOptions {
     ghost shown = { diagnostic_options_row.shown };
 
     fn from_value(alloc: Global, value: &Value) -> Result<DiagnosticOptions, Misfit> {
-        let object = Reader::new(alloc, value)?;
-        Ok(DiagnosticOptions {
-            identifier: object.optional("identifier")?,
+        let mut object = Reader::new(alloc, value)?;
+        let read = DiagnosticOptions {
+            identifier: object.optional("identifier"),
             inter_file_dependencies: object.field("interFileDependencies")?,
             workspace_diagnostics: object.field("workspaceDiagnostics")?,
             work_done_progress_options: WorkDoneProgressOptions::from_value(alloc, value)?,
-        })
+        };
+        object.end(read)
     }
 
     fn to_value(&self, alloc: Global) -> Result<Value, NoMemory> {
         let mut object = Writer::new(alloc);
-        object.optional("identifier", &self.identifier)?;
-        object.field("interFileDependencies", &self.inter_file_dependencies)?;
-        object.field("workspaceDiagnostics", &self.workspace_diagnostics)?;
-        object.flat(&self.work_done_progress_options)?;
-        Ok(object.end())
+        object.optional("identifier", &self.identifier);
+        object.field("interFileDependencies", &self.inter_file_dependencies);
+        object.field("workspaceDiagnostics", &self.workspace_diagnostics);
+        object.flat(&self.work_done_progress_options);
+        object.end()
     }
 }
 
@@ -114,9 +115,9 @@ impl Wire for DiagnosticRegistrationOptions {
 
     fn to_value(&self, alloc: Global) -> Result<Value, NoMemory> {
         let mut object = Writer::new(alloc);
-        object.flat(&self.text_document_registration_options)?;
-        object.flat(&self.diagnostic_options)?;
-        object.flat(&self.static_registration_options)?;
-        Ok(object.end())
+        object.flat(&self.text_document_registration_options);
+        object.flat(&self.diagnostic_options);
+        object.flat(&self.static_registration_options);
+        object.end()
     }
 }

@@ -79,8 +79,8 @@ impl Wire for CallHierarchyOptions {
 
     fn to_value(&self, alloc: Global) -> Result<Value, NoMemory> {
         let mut object = Writer::new(alloc);
-        object.flat(&self.work_done_progress_options)?;
-        Ok(object.end())
+        object.flat(&self.work_done_progress_options);
+        object.end()
     }
 }
 
@@ -106,8 +106,8 @@ impl Wire for TypeHierarchyOptions {
 
     fn to_value(&self, alloc: Global) -> Result<Value, NoMemory> {
         let mut object = Writer::new(alloc);
-        object.flat(&self.work_done_progress_options)?;
-        Ok(object.end())
+        object.flat(&self.work_done_progress_options);
+        object.end()
     }
 }
 
@@ -146,9 +146,9 @@ impl Wire for TypeHierarchyRegistrationOptions {
 
     fn to_value(&self, alloc: Global) -> Result<Value, NoMemory> {
         let mut object = Writer::new(alloc);
-        object.flat(&self.text_document_registration_options)?;
-        object.flat(&self.type_hierarchy_options)?;
-        object.flat(&self.static_registration_options)?;
-        Ok(object.end())
+        object.flat(&self.text_document_registration_options);
+        object.flat(&self.type_hierarchy_options);
+        object.flat(&self.static_registration_options);
+        object.end()
     }
 }

@@ -58,18 +58,19 @@ impl Wire for InlayHintOptions {
     ghost shown = { inlay_hint_options_row.shown };
 
     fn from_value(alloc: Global, value: &Value) -> Result<InlayHintOptions, Misfit> {
-        let object = Reader::new(alloc, value)?;
-        Ok(InlayHintOptions {
+        let mut object = Reader::new(alloc, value)?;
+        let read = InlayHintOptions {
             work_done_progress_options: WorkDoneProgressOptions::from_value(alloc, value)?,
-            resolve_provider: object.optional("resolveProvider")?,
-        })
+            resolve_provider: object.optional("resolveProvider"),
+        };
+        object.end(read)
     }
 
     fn to_value(&self, alloc: Global) -> Result<Value, NoMemory> {
         let mut object = Writer::new(alloc);
-        object.flat(&self.work_done_progress_options)?;
-        object.optional("resolveProvider", &self.resolve_provider)?;
-        Ok(object.end())
+        object.flat(&self.work_done_progress_options);
+        object.optional("resolveProvider", &self.resolve_provider);
+        object.end()
     }
 }
 
@@ -104,10 +105,10 @@ impl Wire for InlayHintRegistrationOptions {
 
     fn to_value(&self, alloc: Global) -> Result<Value, NoMemory> {
         let mut object = Writer::new(alloc);
-        object.flat(&self.inlay_hint_options)?;
-        object.flat(&self.text_document_registration_options)?;
-        object.flat(&self.static_registration_options)?;
-        Ok(object.end())
+        object.flat(&self.inlay_hint_options);
+        object.flat(&self.text_document_registration_options);
+        object.flat(&self.static_registration_options);
+        object.end()
     }
 }
 
@@ -166,8 +167,8 @@ impl Wire for InlineValueOptions {
 
     fn to_value(&self, alloc: Global) -> Result<Value, NoMemory> {
         let mut object = Writer::new(alloc);
-        object.flat(&self.work_done_progress_options)?;
-        Ok(object.end())
+        object.flat(&self.work_done_progress_options);
+        object.end()
     }
 }
 
@@ -202,9 +203,9 @@ impl Wire for InlineValueRegistrationOptions {
 
     fn to_value(&self, alloc: Global) -> Result<Value, NoMemory> {
         let mut object = Writer::new(alloc);
-        object.flat(&self.inline_value_options)?;
-        object.flat(&self.text_document_registration_options)?;
-        object.flat(&self.static_registration_options)?;
-        Ok(object.end())
+        object.flat(&self.inline_value_options);
+        object.flat(&self.text_document_registration_options);
+        object.flat(&self.static_registration_options);
+        object.end()
     }
 }

@@ -111,22 +111,23 @@ impl Wire for SemanticTokensOptions {
     ghost shown = { semantic_tokens_options_row.shown };
 
     fn from_value(alloc: Global, value: &Value) -> Result<SemanticTokensOptions, Misfit> {
-        let object = Reader::new(alloc, value)?;
-        Ok(SemanticTokensOptions {
+        let mut object = Reader::new(alloc, value)?;
+        let read = SemanticTokensOptions {
             work_done_progress_options: WorkDoneProgressOptions::from_value(alloc, value)?,
             legend: object.field("legend")?,
-            range: object.optional("range")?,
-            full: object.optional("full")?,
-        })
+            range: object.optional("range"),
+            full: object.optional("full"),
+        };
+        object.end(read)
     }
 
     fn to_value(&self, alloc: Global) -> Result<Value, NoMemory> {
         let mut object = Writer::new(alloc);
-        object.flat(&self.work_done_progress_options)?;
-        object.field("legend", &self.legend)?;
-        object.optional("range", &self.range)?;
-        object.optional("full", &self.full)?;
-        Ok(object.end())
+        object.flat(&self.work_done_progress_options);
+        object.field("legend", &self.legend);
+        object.optional("range", &self.range);
+        object.optional("full", &self.full);
+        object.end()
     }
 }
 
@@ -164,10 +165,10 @@ impl Wire for SemanticTokensRegistrationOptions {
 
     fn to_value(&self, alloc: Global) -> Result<Value, NoMemory> {
         let mut object = Writer::new(alloc);
-        object.flat(&self.text_document_registration_options)?;
-        object.flat(&self.semantic_tokens_options)?;
-        object.flat(&self.static_registration_options)?;
-        Ok(object.end())
+        object.flat(&self.text_document_registration_options);
+        object.flat(&self.semantic_tokens_options);
+        object.flat(&self.static_registration_options);
+        object.end()
     }
 }
 
@@ -211,8 +212,8 @@ impl Wire for SemanticTokensLegend {
 
     fn to_value(&self, alloc: Global) -> Result<Value, NoMemory> {
         let mut object = Writer::new(alloc);
-        object.field("tokenTypes", &self.token_types)?;
-        object.field("tokenModifiers", &self.token_modifiers)?;
-        Ok(object.end())
+        object.field("tokenTypes", &self.token_types);
+        object.field("tokenModifiers", &self.token_modifiers);
+        object.end()
     }
 }

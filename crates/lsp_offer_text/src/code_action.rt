@@ -78,20 +78,21 @@ impl Wire for CodeActionOptions {
     ghost shown = { code_action_options_row.shown };
 
     fn from_value(alloc: Global, value: &Value) -> Result<CodeActionOptions, Misfit> {
-        let object = Reader::new(alloc, value)?;
-        Ok(CodeActionOptions {
-            code_action_kinds: object.optional("codeActionKinds")?,
+        let mut object = Reader::new(alloc, value)?;
+        let read = CodeActionOptions {
+            code_action_kinds: object.optional("codeActionKinds"),
             work_done_progress_options: WorkDoneProgressOptions::from_value(alloc, value)?,
-            resolve_provider: object.optional("resolveProvider")?,
-        })
+            resolve_provider: object.optional("resolveProvider"),
+        };
+        object.end(read)
     }
 
     fn to_value(&self, alloc: Global) -> Result<Value, NoMemory> {
         let mut object = Writer::new(alloc);
-        object.optional("codeActionKinds", &self.code_action_kinds)?;
-        object.flat(&self.work_done_progress_options)?;
-        object.optional("resolveProvider", &self.resolve_provider)?;
-        Ok(object.end())
+        object.optional("codeActionKinds", &self.code_action_kinds);
+        object.flat(&self.work_done_progress_options);
+        object.optional("resolveProvider", &self.resolve_provider);
+        object.end()
     }
 }
 
@@ -111,16 +112,17 @@ impl Wire for CodeLensOptions {
     ghost shown = { code_lens_options_row.shown };
 
     fn from_value(alloc: Global, value: &Value) -> Result<CodeLensOptions, Misfit> {
-        let object = Reader::new(alloc, value)?;
-        Ok(CodeLensOptions {
-            resolve_provider: object.optional("resolveProvider")?,
-        })
+        let mut object = Reader::new(alloc, value)?;
+        let read = CodeLensOptions {
+            resolve_provider: object.optional("resolveProvider"),
+        };
+        object.end(read)
     }
 
     fn to_value(&self, alloc: Global) -> Result<Value, NoMemory> {
         let mut object = Writer::new(alloc);
-        object.optional("resolveProvider", &self.resolve_provider)?;
-        Ok(object.end())
+        object.optional("resolveProvider", &self.resolve_provider);
+        object.end()
     }
 }
 
@@ -143,17 +145,18 @@ impl Wire for DocumentLinkOptions {
     ghost shown = { document_link_options_row.shown };
 
     fn from_value(alloc: Global, value: &Value) -> Result<DocumentLinkOptions, Misfit> {
-        let object = Reader::new(alloc, value)?;
-        Ok(DocumentLinkOptions {
-            resolve_provider: object.optional("resolveProvider")?,
+        let mut object = Reader::new(alloc, value)?;
+        let read = DocumentLinkOptions {
+            resolve_provider: object.optional("resolveProvider"),
             work_done_progress_options: WorkDoneProgressOptions::from_value(alloc, value)?,
-        })
+        };
+        object.end(read)
     }
 
     fn to_value(&self, alloc: Global) -> Result<Value, NoMemory> {
         let mut object = Writer::new(alloc);
-        object.optional("resolveProvider", &self.resolve_provider)?;
-        object.flat(&self.work_done_progress_options)?;
-        Ok(object.end())
+        object.optional("resolveProvider", &self.resolve_provider);
+        object.flat(&self.work_done_progress_options);
+        object.end()
     }
 }

@@ -33,24 +33,25 @@ impl Wire for CompletionOptions {
     ghost shown = { completion_options_row.shown };
 
     fn from_value(alloc: Global, value: &Value) -> Result<CompletionOptions, Misfit> {
-        let object = Reader::new(alloc, value)?;
-        Ok(CompletionOptions {
-            resolve_provider: object.optional("resolveProvider")?,
-            trigger_characters: object.optional("triggerCharacters")?,
-            all_commit_characters: object.optional("allCommitCharacters")?,
+        let mut object = Reader::new(alloc, value)?;
+        let read = CompletionOptions {
+            resolve_provider: object.optional("resolveProvider"),
+            trigger_characters: object.optional("triggerCharacters"),
+            all_commit_characters: object.optional("allCommitCharacters"),
             work_done_progress_options: WorkDoneProgressOptions::from_value(alloc, value)?,
-            completion_item: object.optional("completionItem")?,
-        })
+            completion_item: object.optional("completionItem"),
+        };
+        object.end(read)
     }
 
     fn to_value(&self, alloc: Global) -> Result<Value, NoMemory> {
         let mut object = Writer::new(alloc);
-        object.optional("resolveProvider", &self.resolve_provider)?;
-        object.optional("triggerCharacters", &self.trigger_characters)?;
-        object.optional("allCommitCharacters", &self.all_commit_characters)?;
-        object.flat(&self.work_done_progress_options)?;
-        object.optional("completionItem", &self.completion_item)?;
-        Ok(object.end())
+        object.optional("resolveProvider", &self.resolve_provider);
+        object.optional("triggerCharacters", &self.trigger_characters);
+        object.optional("allCommitCharacters", &self.all_commit_characters);
+        object.flat(&self.work_done_progress_options);
+        object.optional("completionItem", &self.completion_item);
+        object.end()
     }
 }
 
@@ -70,16 +71,17 @@ impl Wire for CompletionOptionsCompletionItem {
     ghost shown = { completion_options_completion_item_row.shown };
 
     fn from_value(alloc: Global, value: &Value) -> Result<CompletionOptionsCompletionItem, Misfit> {
-        let object = Reader::new(alloc, value)?;
-        Ok(CompletionOptionsCompletionItem {
-            label_details_support: object.optional("labelDetailsSupport")?,
-        })
+        let mut object = Reader::new(alloc, value)?;
+        let read = CompletionOptionsCompletionItem {
+            label_details_support: object.optional("labelDetailsSupport"),
+        };
+        object.end(read)
     }
 
     fn to_value(&self, alloc: Global) -> Result<Value, NoMemory> {
         let mut object = Writer::new(alloc);
-        object.optional("labelDetailsSupport", &self.label_details_support)?;
-        Ok(object.end())
+        object.optional("labelDetailsSupport", &self.label_details_support);
+        object.end()
     }
 }
 
@@ -110,8 +112,8 @@ impl Wire for CompletionRegistrationOptions {
 
     fn to_value(&self, alloc: Global) -> Result<Value, NoMemory> {
         let mut object = Writer::new(alloc);
-        object.flat(&self.text_document_registration_options)?;
-        object.flat(&self.completion_options)?;
-        Ok(object.end())
+        object.flat(&self.text_document_registration_options);
+        object.flat(&self.completion_options);
+        object.end()
     }
 }

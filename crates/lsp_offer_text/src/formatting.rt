@@ -31,8 +31,8 @@ impl Wire for DocumentFormattingOptions {
 
     fn to_value(&self, alloc: Global) -> Result<Value, NoMemory> {
         let mut object = Writer::new(alloc);
-        object.flat(&self.work_done_progress_options)?;
-        Ok(object.end())
+        object.flat(&self.work_done_progress_options);
+        object.end()
     }
 }
 
@@ -59,8 +59,8 @@ impl Wire for DocumentRangeFormattingOptions {
 
     fn to_value(&self, alloc: Global) -> Result<Value, NoMemory> {
         let mut object = Writer::new(alloc);
-        object.flat(&self.work_done_progress_options)?;
-        Ok(object.end())
+        object.flat(&self.work_done_progress_options);
+        object.end()
     }
 }
 
@@ -94,18 +94,19 @@ impl Wire for DocumentOnTypeFormattingOptions {
     ghost shown = { document_on_type_formatting_options_row.shown };
 
     fn from_value(alloc: Global, value: &Value) -> Result<DocumentOnTypeFormattingOptions, Misfit> {
-        let object = Reader::new(alloc, value)?;
-        Ok(DocumentOnTypeFormattingOptions {
+        let mut object = Reader::new(alloc, value)?;
+        let read = DocumentOnTypeFormattingOptions {
             first_trigger_character: object.field("firstTriggerCharacter")?,
-            more_trigger_character: object.optional("moreTriggerCharacter")?,
-        })
+            more_trigger_character: object.optional("moreTriggerCharacter"),
+        };
+        object.end(read)
     }
 
     fn to_value(&self, alloc: Global) -> Result<Value, NoMemory> {
         let mut object = Writer::new(alloc);
-        object.field("firstTriggerCharacter", &self.first_trigger_character)?;
-        object.optional("moreTriggerCharacter", &self.more_trigger_character)?;
-        Ok(object.end())
+        object.field("firstTriggerCharacter", &self.first_trigger_character);
+        object.optional("moreTriggerCharacter", &self.more_trigger_character);
+        object.end()
     }
 }
 
@@ -148,20 +149,21 @@ impl Wire for DocumentOnTypeFormattingRegistrationOptions {
         alloc: Global,
         value: &Value,
     ) -> Result<DocumentOnTypeFormattingRegistrationOptions, Misfit> {
-        let object = Reader::new(alloc, value)?;
-        Ok(DocumentOnTypeFormattingRegistrationOptions {
-            document_selector: object.optional("documentSelector")?,
+        let mut object = Reader::new(alloc, value)?;
+        let read = DocumentOnTypeFormattingRegistrationOptions {
+            document_selector: object.optional("documentSelector"),
             first_trigger_character: object.field("firstTriggerCharacter")?,
-            more_trigger_character: object.optional("moreTriggerCharacter")?,
-        })
+            more_trigger_character: object.optional("moreTriggerCharacter"),
+        };
+        object.end(read)
     }
 
     fn to_value(&self, alloc: Global) -> Result<Value, NoMemory> {
         let mut object = Writer::new(alloc);
-        object.nullable("documentSelector", &self.document_selector)?;
-        object.field("firstTriggerCharacter", &self.first_trigger_character)?;
-        object.optional("moreTriggerCharacter", &self.more_trigger_character)?;
-        Ok(object.end())
+        object.nullable("documentSelector", &self.document_selector);
+        object.field("firstTriggerCharacter", &self.first_trigger_character);
+        object.optional("moreTriggerCharacter", &self.more_trigger_character);
+        object.end()
     }
 }
 
@@ -184,17 +186,18 @@ impl Wire for RenameOptions {
     ghost shown = { rename_options_row.shown };
 
     fn from_value(alloc: Global, value: &Value) -> Result<RenameOptions, Misfit> {
-        let object = Reader::new(alloc, value)?;
-        Ok(RenameOptions {
-            prepare_provider: object.optional("prepareProvider")?,
+        let mut object = Reader::new(alloc, value)?;
+        let read = RenameOptions {
+            prepare_provider: object.optional("prepareProvider"),
             work_done_progress_options: WorkDoneProgressOptions::from_value(alloc, value)?,
-        })
+        };
+        object.end(read)
     }
 
     fn to_value(&self, alloc: Global) -> Result<Value, NoMemory> {
         let mut object = Writer::new(alloc);
-        object.optional("prepareProvider", &self.prepare_provider)?;
-        object.flat(&self.work_done_progress_options)?;
-        Ok(object.end())
+        object.optional("prepareProvider", &self.prepare_provider);
+        object.flat(&self.work_done_progress_options);
+        object.end()
     }
 }

@@ -32,18 +32,19 @@ impl Wire for StaticTextDocumentRegistrationOptions {
         alloc: Global,
         value: &Value,
     ) -> Result<StaticTextDocumentRegistrationOptions, Misfit> {
-        let object = Reader::new(alloc, value)?;
-        Ok(StaticTextDocumentRegistrationOptions {
-            document_selector: object.optional("documentSelector")?,
-            id: object.optional("id")?,
-        })
+        let mut object = Reader::new(alloc, value)?;
+        let read = StaticTextDocumentRegistrationOptions {
+            document_selector: object.optional("documentSelector"),
+            id: object.optional("id"),
+        };
+        object.end(read)
     }
 
     fn to_value(&self, alloc: Global) -> Result<Value, NoMemory> {
         let mut object = Writer::new(alloc);
-        object.nullable("documentSelector", &self.document_selector)?;
-        object.optional("id", &self.id)?;
-        Ok(object.end())
+        object.nullable("documentSelector", &self.document_selector);
+        object.optional("id", &self.id);
+        object.end()
     }
 }
 
@@ -220,10 +221,10 @@ impl Wire for DeclarationRegistrationOptions {
 
     fn to_value(&self, alloc: Global) -> Result<Value, NoMemory> {
         let mut object = Writer::new(alloc);
-        object.flat(&self.declaration_options)?;
-        object.flat(&self.text_document_registration_options)?;
-        object.flat(&self.static_registration_options)?;
-        Ok(object.end())
+        object.flat(&self.declaration_options);
+        object.flat(&self.text_document_registration_options);
+        object.flat(&self.static_registration_options);
+        object.end()
     }
 }
 
@@ -250,8 +251,8 @@ impl Wire for DeclarationOptions {
 
     fn to_value(&self, alloc: Global) -> Result<Value, NoMemory> {
         let mut object = Writer::new(alloc);
-        object.flat(&self.work_done_progress_options)?;
-        Ok(object.end())
+        object.flat(&self.work_done_progress_options);
+        object.end()
     }
 }
 
@@ -278,8 +279,8 @@ impl Wire for DefinitionOptions {
 
     fn to_value(&self, alloc: Global) -> Result<Value, NoMemory> {
         let mut object = Writer::new(alloc);
-        object.flat(&self.work_done_progress_options)?;
-        Ok(object.end())
+        object.flat(&self.work_done_progress_options);
+        object.end()
     }
 }
 
@@ -306,8 +307,8 @@ impl Wire for ReferencesOptions {
 
     fn to_value(&self, alloc: Global) -> Result<Value, NoMemory> {
         let mut object = Writer::new(alloc);
-        object.flat(&self.work_done_progress_options)?;
-        Ok(object.end())
+        object.flat(&self.work_done_progress_options);
+        object.end()
     }
 }
 
@@ -334,8 +335,8 @@ impl Wire for DocumentHighlightOptions {
 
     fn to_value(&self, alloc: Global) -> Result<Value, NoMemory> {
         let mut object = Writer::new(alloc);
-        object.flat(&self.work_done_progress_options)?;
-        Ok(object.end())
+        object.flat(&self.work_done_progress_options);
+        object.end()
     }
 }
 
@@ -370,10 +371,10 @@ impl Wire for GenericRegistrationOptions {
 
     fn to_value(&self, alloc: Global) -> Result<Value, NoMemory> {
         let mut object = Writer::new(alloc);
-        object.flat(&self.text_document_registration_options)?;
-        object.flat(&self.options)?;
-        object.flat(&self.static_registration_options)?;
-        Ok(object.end())
+        object.flat(&self.text_document_registration_options);
+        object.flat(&self.options);
+        object.flat(&self.static_registration_options);
+        object.end()
     }
 }
 
@@ -400,7 +401,7 @@ impl Wire for GenericOptions {
 
     fn to_value(&self, alloc: Global) -> Result<Value, NoMemory> {
         let mut object = Writer::new(alloc);
-        object.flat(&self.work_done_progress_options)?;
-        Ok(object.end())
+        object.flat(&self.work_done_progress_options);
+        object.end()
     }
 }

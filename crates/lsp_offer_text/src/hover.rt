@@ -78,8 +78,8 @@ impl Wire for HoverOptions {
 
     fn to_value(&self, alloc: Global) -> Result<Value, NoMemory> {
         let mut object = Writer::new(alloc);
-        object.flat(&self.work_done_progress_options)?;
-        Ok(object.end())
+        object.flat(&self.work_done_progress_options);
+        object.end()
     }
 }
 
@@ -109,8 +109,8 @@ impl Wire for HoverRegistrationOptions {
 
     fn to_value(&self, alloc: Global) -> Result<Value, NoMemory> {
         let mut object = Writer::new(alloc);
-        object.flat(&self.text_document_registration_options)?;
-        object.flat(&self.hover_options)?;
-        Ok(object.end())
+        object.flat(&self.text_document_registration_options);
+        object.flat(&self.hover_options);
+        object.end()
     }
 }

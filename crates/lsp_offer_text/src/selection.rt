@@ -102,8 +102,8 @@ impl Wire for SelectionRangeOptions {
 
     fn to_value(&self, alloc: Global) -> Result<Value, NoMemory> {
         let mut object = Writer::new(alloc);
-        object.flat(&self.work_done_progress_options)?;
-        Ok(object.end())
+        object.flat(&self.work_done_progress_options);
+        object.end()
     }
 }
 
@@ -135,8 +135,8 @@ impl Wire for SelectionRangeRegistrationOptions {
 
     fn to_value(&self, alloc: Global) -> Result<Value, NoMemory> {
         let mut object = Writer::new(alloc);
-        object.flat(&self.selection_range_options)?;
-        object.flat(&self.registration_options)?;
-        Ok(object.end())
+        object.flat(&self.selection_range_options);
+        object.flat(&self.registration_options);
+        object.end()
     }
 }

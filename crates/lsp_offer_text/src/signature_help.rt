@@ -28,20 +28,21 @@ impl Wire for SignatureHelpOptions {
     ghost shown = { signature_help_options_row.shown };
 
     fn from_value(alloc: Global, value: &Value) -> Result<SignatureHelpOptions, Misfit> {
-        let object = Reader::new(alloc, value)?;
-        Ok(SignatureHelpOptions {
-            trigger_characters: object.optional("triggerCharacters")?,
-            retrigger_characters: object.optional("retriggerCharacters")?,
+        let mut object = Reader::new(alloc, value)?;
+        let read = SignatureHelpOptions {
+            trigger_characters: object.optional("triggerCharacters"),
+            retrigger_characters: object.optional("retriggerCharacters"),
             work_done_progress_options: WorkDoneProgressOptions::from_value(alloc, value)?,
-        })
+        };
+        object.end(read)
     }
 
     fn to_value(&self, alloc: Global) -> Result<Value, NoMemory> {
         let mut object = Writer::new(alloc);
-        object.optional("triggerCharacters", &self.trigger_characters)?;
-        object.optional("retriggerCharacters", &self.retrigger_characters)?;
-        object.flat(&self.work_done_progress_options)?;
-        Ok(object.end())
+        object.optional("triggerCharacters", &self.trigger_characters);
+        object.optional("retriggerCharacters", &self.retrigger_characters);
+        object.flat(&self.work_done_progress_options);
+        object.end()
     }
 }
 
@@ -73,7 +74,7 @@ impl Wire for SignatureHelpRegistrationOptions {
 
     fn to_value(&self, alloc: Global) -> Result<Value, NoMemory> {
         let mut object = Writer::new(alloc);
-        object.flat(&self.text_document_registration_options)?;
-        Ok(object.end())
+        object.flat(&self.text_document_registration_options);
+        object.end()
     }
 }

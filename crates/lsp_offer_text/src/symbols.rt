@@ -25,18 +25,19 @@ impl Wire for DocumentSymbolOptions {
     ghost shown = { document_symbol_options_row.shown };
 
     fn from_value(alloc: Global, value: &Value) -> Result<DocumentSymbolOptions, Misfit> {
-        let object = Reader::new(alloc, value)?;
-        Ok(DocumentSymbolOptions {
-            label: object.optional("label")?,
+        let mut object = Reader::new(alloc, value)?;
+        let read = DocumentSymbolOptions {
+            label: object.optional("label"),
             work_done_progress_options: WorkDoneProgressOptions::from_value(alloc, value)?,
-        })
+        };
+        object.end(read)
     }
 
     fn to_value(&self, alloc: Global) -> Result<Value, NoMemory> {
         let mut object = Writer::new(alloc);
-        object.optional("label", &self.label)?;
-        object.flat(&self.work_done_progress_options)?;
-        Ok(object.end())
+        object.optional("label", &self.label);
+        object.flat(&self.work_done_progress_options);
+        object.end()
     }
 }
 
@@ -59,17 +60,18 @@ impl Wire for WorkspaceSymbolOptions {
     ghost shown = { workspace_symbol_options_row.shown };
 
     fn from_value(alloc: Global, value: &Value) -> Result<WorkspaceSymbolOptions, Misfit> {
-        let object = Reader::new(alloc, value)?;
-        Ok(WorkspaceSymbolOptions {
+        let mut object = Reader::new(alloc, value)?;
+        let read = WorkspaceSymbolOptions {
             work_done_progress_options: WorkDoneProgressOptions::from_value(alloc, value)?,
-            resolve_provider: object.optional("resolveProvider")?,
-        })
+            resolve_provider: object.optional("resolveProvider"),
+        };
+        object.end(read)
     }
 
     fn to_value(&self, alloc: Global) -> Result<Value, NoMemory> {
         let mut object = Writer::new(alloc);
-        object.flat(&self.work_done_progress_options)?;
-        object.optional("resolveProvider", &self.resolve_provider)?;
-        Ok(object.end())
+        object.flat(&self.work_done_progress_options);
+        object.optional("resolveProvider", &self.resolve_provider);
+        object.end()
     }
 }

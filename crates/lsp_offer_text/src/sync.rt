@@ -81,24 +81,25 @@ impl Wire for TextDocumentSyncOptions {
     ghost shown = { text_document_sync_options_row.shown };
 
     fn from_value(alloc: Global, value: &Value) -> Result<TextDocumentSyncOptions, Misfit> {
-        let object = Reader::new(alloc, value)?;
-        Ok(TextDocumentSyncOptions {
-            open_close: object.optional("openClose")?,
-            change: object.optional("change")?,
-            will_save: object.optional("willSave")?,
-            will_save_wait_until: object.optional("willSaveWaitUntil")?,
-            save: object.optional("save")?,
-        })
+        let mut object = Reader::new(alloc, value)?;
+        let read = TextDocumentSyncOptions {
+            open_close: object.optional("openClose"),
+            change: object.optional("change"),
+            will_save: object.optional("willSave"),
+            will_save_wait_until: object.optional("willSaveWaitUntil"),
+            save: object.optional("save"),
+        };
+        object.end(read)
     }
 
     fn to_value(&self, alloc: Global) -> Result<Value, NoMemory> {
         let mut object = Writer::new(alloc);
-        object.optional("openClose", &self.open_close)?;
-        object.optional("change", &self.change)?;
-        object.optional("willSave", &self.will_save)?;
-        object.optional("willSaveWaitUntil", &self.will_save_wait_until)?;
-        object.optional("save", &self.save)?;
-        Ok(object.end())
+        object.optional("openClose", &self.open_close);
+        object.optional("change", &self.change);
+        object.optional("willSave", &self.will_save);
+        object.optional("willSaveWaitUntil", &self.will_save_wait_until);
+        object.optional("save", &self.save);
+        object.end()
     }
 }
 
@@ -163,16 +164,17 @@ impl Wire for SaveOptions {
     ghost shown = { save_options_row.shown };
 
     fn from_value(alloc: Global, value: &Value) -> Result<SaveOptions, Misfit> {
-        let object = Reader::new(alloc, value)?;
-        Ok(SaveOptions {
-            include_text: object.optional("includeText")?,
-        })
+        let mut object = Reader::new(alloc, value)?;
+        let read = SaveOptions {
+            include_text: object.optional("includeText"),
+        };
+        object.end(read)
     }
 
     fn to_value(&self, alloc: Global) -> Result<Value, NoMemory> {
         let mut object = Writer::new(alloc);
-        object.optional("includeText", &self.include_text)?;
-        Ok(object.end())
+        object.optional("includeText", &self.include_text);
+        object.end()
     }
 }
 
@@ -198,18 +200,19 @@ impl Wire for TextDocumentChangeRegistrationOptions {
         alloc: Global,
         value: &Value,
     ) -> Result<TextDocumentChangeRegistrationOptions, Misfit> {
-        let object = Reader::new(alloc, value)?;
-        Ok(TextDocumentChangeRegistrationOptions {
-            document_selector: object.optional("documentSelector")?,
+        let mut object = Reader::new(alloc, value)?;
+        let read = TextDocumentChangeRegistrationOptions {
+            document_selector: object.optional("documentSelector"),
             sync_kind: object.field("syncKind")?,
-        })
+        };
+        object.end(read)
     }
 
     fn to_value(&self, alloc: Global) -> Result<Value, NoMemory> {
         let mut object = Writer::new(alloc);
-        object.nullable("documentSelector", &self.document_selector)?;
-        object.field("syncKind", &self.sync_kind)?;
-        Ok(object.end())
+        object.nullable("documentSelector", &self.document_selector);
+        object.field("syncKind", &self.sync_kind);
+        object.end()
     }
 }
 
@@ -233,19 +236,20 @@ impl Wire for TextDocumentSaveRegistrationOptions {
         alloc: Global,
         value: &Value,
     ) -> Result<TextDocumentSaveRegistrationOptions, Misfit> {
-        let object = Reader::new(alloc, value)?;
-        Ok(TextDocumentSaveRegistrationOptions {
-            include_text: object.optional("includeText")?,
+        let mut object = Reader::new(alloc, value)?;
+        let read = TextDocumentSaveRegistrationOptions {
+            include_text: object.optional("includeText"),
             text_document_registration_options: TextDocumentRegistrationOptions::from_value(
                 alloc, value,
             )?,
-        })
+        };
+        object.end(read)
     }
 
     fn to_value(&self, alloc: Global) -> Result<Value, NoMemory> {
         let mut object = Writer::new(alloc);
-        object.optional("includeText", &self.include_text)?;
-        object.flat(&self.text_document_registration_options)?;
-        Ok(object.end())
+        object.optional("includeText", &self.include_text);
+        object.flat(&self.text_document_registration_options);
+        object.end()
     }
 }

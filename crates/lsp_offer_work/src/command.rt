@@ -46,9 +46,9 @@ impl Wire for ExecuteCommandOptions {
 
     fn to_value(&self, alloc: Global) -> Result<Value, NoMemory> {
         let mut object = Writer::new(alloc);
-        object.field("commands", &self.commands)?;
-        object.flat(&self.work_done_progress_options)?;
-        Ok(object.end())
+        object.field("commands", &self.commands);
+        object.flat(&self.work_done_progress_options);
+        object.end()
     }
 }
 
@@ -81,8 +81,8 @@ impl Wire for ExecuteCommandRegistrationOptions {
 
     fn to_value(&self, alloc: Global) -> Result<Value, NoMemory> {
         let mut object = Writer::new(alloc);
-        object.field("commands", &self.commands)?;
-        object.flat(&self.work_done_progress_options)?;
-        Ok(object.end())
+        object.field("commands", &self.commands);
+        object.flat(&self.work_done_progress_options);
+        object.end()
     }
 }

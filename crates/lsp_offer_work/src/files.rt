@@ -41,26 +41,27 @@ impl Wire for WorkspaceFileOperationsServerCapabilities {
         alloc: Global,
         value: &Value,
     ) -> Result<WorkspaceFileOperationsServerCapabilities, Misfit> {
-        let object = Reader::new(alloc, value)?;
-        Ok(WorkspaceFileOperationsServerCapabilities {
-            did_create: object.optional("didCreate")?,
-            will_create: object.optional("willCreate")?,
-            did_rename: object.optional("didRename")?,
-            will_rename: object.optional("willRename")?,
-            did_delete: object.optional("didDelete")?,
-            will_delete: object.optional("willDelete")?,
-        })
+        let mut object = Reader::new(alloc, value)?;
+        let read = WorkspaceFileOperationsServerCapabilities {
+            did_create: object.optional("didCreate"),
+            will_create: object.optional("willCreate"),
+            did_rename: object.optional("didRename"),
+            will_rename: object.optional("willRename"),
+            did_delete: object.optional("didDelete"),
+            will_delete: object.optional("willDelete"),
+        };
+        object.end(read)
     }
 
     fn to_value(&self, alloc: Global) -> Result<Value, NoMemory> {
         let mut object = Writer::new(alloc);
-        object.optional("didCreate", &self.did_create)?;
-        object.optional("willCreate", &self.will_create)?;
-        object.optional("didRename", &self.did_rename)?;
-        object.optional("willRename", &self.will_rename)?;
-        object.optional("didDelete", &self.did_delete)?;
-        object.optional("willDelete", &self.will_delete)?;
-        Ok(object.end())
+        object.optional("didCreate", &self.did_create);
+        object.optional("willCreate", &self.will_create);
+        object.optional("didRename", &self.did_rename);
+        object.optional("willRename", &self.will_rename);
+        object.optional("didDelete", &self.did_delete);
+        object.optional("willDelete", &self.will_delete);
+        object.end()
     }
 }
 
@@ -101,8 +102,8 @@ impl Wire for FileOperationRegistrationOptions {
 
     fn to_value(&self, alloc: Global) -> Result<Value, NoMemory> {
         let mut object = Writer::new(alloc);
-        object.field("filters", &self.filters)?;
-        Ok(object.end())
+        object.field("filters", &self.filters);
+        object.end()
     }
 }
 
@@ -139,18 +140,19 @@ impl Wire for FileOperationFilter {
     ghost shown = { file_operation_filter_row.shown };
 
     fn from_value(alloc: Global, value: &Value) -> Result<FileOperationFilter, Misfit> {
-        let object = Reader::new(alloc, value)?;
-        Ok(FileOperationFilter {
-            scheme: object.optional("scheme")?,
+        let mut object = Reader::new(alloc, value)?;
+        let read = FileOperationFilter {
+            scheme: object.optional("scheme"),
             pattern: object.field("pattern")?,
-        })
+        };
+        object.end(read)
     }
 
     fn to_value(&self, alloc: Global) -> Result<Value, NoMemory> {
         let mut object = Writer::new(alloc);
-        object.nullable("scheme", &self.scheme)?;
-        object.field("pattern", &self.pattern)?;
-        Ok(object.end())
+        object.nullable("scheme", &self.scheme);
+        object.field("pattern", &self.pattern);
+        object.end()
     }
 }
 
@@ -202,16 +204,17 @@ impl Wire for FileOperationPatternOptions {
     ghost shown = { file_operation_pattern_options_row.shown };
 
     fn from_value(alloc: Global, value: &Value) -> Result<FileOperationPatternOptions, Misfit> {
-        let object = Reader::new(alloc, value)?;
-        Ok(FileOperationPatternOptions {
-            ignore_case: object.optional("ignoreCase")?,
-        })
+        let mut object = Reader::new(alloc, value)?;
+        let read = FileOperationPatternOptions {
+            ignore_case: object.optional("ignoreCase"),
+        };
+        object.end(read)
     }
 
     fn to_value(&self, alloc: Global) -> Result<Value, NoMemory> {
         let mut object = Writer::new(alloc);
-        object.optional("ignoreCase", &self.ignore_case)?;
-        Ok(object.end())
+        object.optional("ignoreCase", &self.ignore_case);
+        object.end()
     }
 }
 
@@ -249,19 +252,20 @@ impl Wire for FileOperationPattern {
     ghost shown = { file_operation_pattern_row.shown };
 
     fn from_value(alloc: Global, value: &Value) -> Result<FileOperationPattern, Misfit> {
-        let object = Reader::new(alloc, value)?;
-        Ok(FileOperationPattern {
+        let mut object = Reader::new(alloc, value)?;
+        let read = FileOperationPattern {
             glob: object.field("glob")?,
-            matches: object.optional("matches")?,
-            options: object.optional("options")?,
-        })
+            matches: object.optional("matches"),
+            options: object.optional("options"),
+        };
+        object.end(read)
     }
 
     fn to_value(&self, alloc: Global) -> Result<Value, NoMemory> {
         let mut object = Writer::new(alloc);
-        object.field("glob", &self.glob)?;
-        object.optional("matches", &self.matches)?;
-        object.optional("options", &self.options)?;
-        Ok(object.end())
+        object.field("glob", &self.glob);
+        object.optional("matches", &self.matches);
+        object.optional("options", &self.options);
+        object.end()
     }
 }

@@ -22,18 +22,19 @@ impl Wire for NotebookDocumentSyncOptions {
     ghost shown = { notebook_document_sync_options_row.shown };
 
     fn from_value(alloc: Global, value: &Value) -> Result<NotebookDocumentSyncOptions, Misfit> {
-        let object = Reader::new(alloc, value)?;
-        Ok(NotebookDocumentSyncOptions {
+        let mut object = Reader::new(alloc, value)?;
+        let read = NotebookDocumentSyncOptions {
             notebook_selector: object.field("notebookSelector")?,
-            save: object.optional("save")?,
-        })
+            save: object.optional("save"),
+        };
+        object.end(read)
     }
 
     fn to_value(&self, alloc: Global) -> Result<Value, NoMemory> {
         let mut object = Writer::new(alloc);
-        object.field("notebookSelector", &self.notebook_selector)?;
-        object.optional("save", &self.save)?;
-        Ok(object.end())
+        object.field("notebookSelector", &self.notebook_selector);
+        object.optional("save", &self.save);
+        object.end()
     }
 }
 
@@ -61,20 +62,21 @@ impl Wire for NotebookDocumentSyncRegistrationOptions {
         alloc: Global,
         value: &Value,
     ) -> Result<NotebookDocumentSyncRegistrationOptions, Misfit> {
-        let object = Reader::new(alloc, value)?;
-        Ok(NotebookDocumentSyncRegistrationOptions {
+        let mut object = Reader::new(alloc, value)?;
+        let read = NotebookDocumentSyncRegistrationOptions {
             notebook_selector: object.field("notebookSelector")?,
-            save: object.optional("save")?,
-            id: object.optional("id")?,
-        })
+            save: object.optional("save"),
+            id: object.optional("id"),
+        };
+        object.end(read)
     }
 
     fn to_value(&self, alloc: Global) -> Result<Value, NoMemory> {
         let mut object = Writer::new(alloc);
-        object.field("notebookSelector", &self.notebook_selector)?;
-        object.optional("save", &self.save)?;
-        object.optional("id", &self.id)?;
-        Ok(object.end())
+        object.field("notebookSelector", &self.notebook_selector);
+        object.optional("save", &self.save);
+        object.optional("id", &self.id);
+        object.end()
     }
 }
 
@@ -97,18 +99,19 @@ impl Wire for NotebookCellTextDocumentFilter {
     ghost shown = { notebook_cell_text_document_filter_row.shown };
 
     fn from_value(alloc: Global, value: &Value) -> Result<NotebookCellTextDocumentFilter, Misfit> {
-        let object = Reader::new(alloc, value)?;
-        Ok(NotebookCellTextDocumentFilter {
+        let mut object = Reader::new(alloc, value)?;
+        let read = NotebookCellTextDocumentFilter {
             notebook: object.field("notebook")?,
-            language: object.optional("language")?,
-        })
+            language: object.optional("language"),
+        };
+        object.end(read)
     }
 
     fn to_value(&self, alloc: Global) -> Result<Value, NoMemory> {
         let mut object = Writer::new(alloc);
-        object.field("notebook", &self.notebook)?;
-        object.optional("language", &self.language)?;
-        Ok(object.end())
+        object.field("notebook", &self.notebook);
+        object.optional("language", &self.language);
+        object.end()
     }
 }
 
@@ -148,18 +151,19 @@ impl Wire for NotebookSelectorByNotebook {
     ghost shown = { notebook_selector_by_notebook_row.shown };
 
     fn from_value(alloc: Global, value: &Value) -> Result<NotebookSelectorByNotebook, Misfit> {
-        let object = Reader::new(alloc, value)?;
-        Ok(NotebookSelectorByNotebook {
+        let mut object = Reader::new(alloc, value)?;
+        let read = NotebookSelectorByNotebook {
             notebook: object.field("notebook")?,
-            cells: object.optional("cells")?,
-        })
+            cells: object.optional("cells"),
+        };
+        object.end(read)
     }
 
     fn to_value(&self, alloc: Global) -> Result<Value, NoMemory> {
         let mut object = Writer::new(alloc);
-        object.field("notebook", &self.notebook)?;
-        object.optional("cells", &self.cells)?;
-        Ok(object.end())
+        object.field("notebook", &self.notebook);
+        object.optional("cells", &self.cells);
+        object.end()
     }
 }
 
@@ -177,18 +181,19 @@ impl Wire for NotebookSelectorByCells {
     ghost shown = { notebook_selector_by_cells_row.shown };
 
     fn from_value(alloc: Global, value: &Value) -> Result<NotebookSelectorByCells, Misfit> {
-        let object = Reader::new(alloc, value)?;
-        Ok(NotebookSelectorByCells {
-            notebook: object.optional("notebook")?,
+        let mut object = Reader::new(alloc, value)?;
+        let read = NotebookSelectorByCells {
+            notebook: object.optional("notebook"),
             cells: object.field("cells")?,
-        })
+        };
+        object.end(read)
     }
 
     fn to_value(&self, alloc: Global) -> Result<Value, NoMemory> {
         let mut object = Writer::new(alloc);
-        object.optional("notebook", &self.notebook)?;
-        object.field("cells", &self.cells)?;
-        Ok(object.end())
+        object.optional("notebook", &self.notebook);
+        object.field("cells", &self.cells);
+        object.end()
     }
 }
 
@@ -216,15 +221,15 @@ impl Wire for NotebookSelector {
         match self {
             NotebookSelector::ByNotebook { notebook, cells } => {
                 let mut object = Writer::new(alloc);
-                object.field("notebook", notebook)?;
-                object.optional("cells", cells)?;
-                Ok(object.end())
+                object.field("notebook", notebook);
+                object.optional("cells", cells);
+                object.end()
             }
             NotebookSelector::ByCells { notebook, cells } => {
                 let mut object = Writer::new(alloc);
-                object.optional("notebook", notebook)?;
-                object.field("cells", cells)?;
-                Ok(object.end())
+                object.optional("notebook", notebook);
+                object.field("cells", cells);
+                object.end()
             }
         }
     }
@@ -253,8 +258,8 @@ impl Wire for NotebookCellSelector {
 
     fn to_value(&self, alloc: Global) -> Result<Value, NoMemory> {
         let mut object = Writer::new(alloc);
-        object.field("language", &self.language)?;
-        Ok(object.end())
+        object.field("language", &self.language);
+        object.end()
     }
 }
 
@@ -338,20 +343,21 @@ impl Wire for NotebookDocumentFilterByType {
     ghost shown = { notebook_document_filter_by_type_row.shown };
 
     fn from_value(alloc: Global, value: &Value) -> Result<NotebookDocumentFilterByType, Misfit> {
-        let object = Reader::new(alloc, value)?;
-        Ok(NotebookDocumentFilterByType {
+        let mut object = Reader::new(alloc, value)?;
+        let read = NotebookDocumentFilterByType {
             notebook_type: object.field("notebookType")?,
-            scheme: object.optional("scheme")?,
-            pattern: object.optional("pattern")?,
-        })
+            scheme: object.optional("scheme"),
+            pattern: object.optional("pattern"),
+        };
+        object.end(read)
     }
 
     fn to_value(&self, alloc: Global) -> Result<Value, NoMemory> {
         let mut object = Writer::new(alloc);
-        object.field("notebookType", &self.notebook_type)?;
-        object.optional("scheme", &self.scheme)?;
-        object.optional("pattern", &self.pattern)?;
-        Ok(object.end())
+        object.field("notebookType", &self.notebook_type);
+        object.optional("scheme", &self.scheme);
+        object.optional("pattern", &self.pattern);
+        object.end()
     }
 }
 
@@ -370,20 +376,21 @@ impl Wire for NotebookDocumentFilterByScheme {
     ghost shown = { notebook_document_filter_by_scheme_row.shown };
 
     fn from_value(alloc: Global, value: &Value) -> Result<NotebookDocumentFilterByScheme, Misfit> {
-        let object = Reader::new(alloc, value)?;
-        Ok(NotebookDocumentFilterByScheme {
-            notebook_type: object.optional("notebookType")?,
+        let mut object = Reader::new(alloc, value)?;
+        let read = NotebookDocumentFilterByScheme {
+            notebook_type: object.optional("notebookType"),
             scheme: object.field("scheme")?,
-            pattern: object.optional("pattern")?,
-        })
+            pattern: object.optional("pattern"),
+        };
+        object.end(read)
     }
 
     fn to_value(&self, alloc: Global) -> Result<Value, NoMemory> {
         let mut object = Writer::new(alloc);
-        object.optional("notebookType", &self.notebook_type)?;
-        object.field("scheme", &self.scheme)?;
-        object.optional("pattern", &self.pattern)?;
-        Ok(object.end())
+        object.optional("notebookType", &self.notebook_type);
+        object.field("scheme", &self.scheme);
+        object.optional("pattern", &self.pattern);
+        object.end()
     }
 }
 
@@ -402,20 +409,21 @@ impl Wire for NotebookDocumentFilterByPattern {
     ghost shown = { notebook_document_filter_by_pattern_row.shown };
 
     fn from_value(alloc: Global, value: &Value) -> Result<NotebookDocumentFilterByPattern, Misfit> {
-        let object = Reader::new(alloc, value)?;
-        Ok(NotebookDocumentFilterByPattern {
-            notebook_type: object.optional("notebookType")?,
-            scheme: object.optional("scheme")?,
+        let mut object = Reader::new(alloc, value)?;
+        let read = NotebookDocumentFilterByPattern {
+            notebook_type: object.optional("notebookType"),
+            scheme: object.optional("scheme"),
             pattern: object.field("pattern")?,
-        })
+        };
+        object.end(read)
     }
 
     fn to_value(&self, alloc: Global) -> Result<Value, NoMemory> {
         let mut object = Writer::new(alloc);
-        object.optional("notebookType", &self.notebook_type)?;
-        object.optional("scheme", &self.scheme)?;
-        object.field("pattern", &self.pattern)?;
-        Ok(object.end())
+        object.optional("notebookType", &self.notebook_type);
+        object.optional("scheme", &self.scheme);
+        object.field("pattern", &self.pattern);
+        object.end()
     }
 }
 
@@ -456,10 +464,10 @@ impl Wire for NotebookDocumentFilter {
                 pattern,
             } => {
                 let mut object = Writer::new(alloc);
-                object.field("notebookType", notebook_type)?;
-                object.optional("scheme", scheme)?;
-                object.optional("pattern", pattern)?;
-                Ok(object.end())
+                object.field("notebookType", notebook_type);
+                object.optional("scheme", scheme);
+                object.optional("pattern", pattern);
+                object.end()
             }
             NotebookDocumentFilter::ByScheme {
                 notebook_type,
@@ -467,10 +475,10 @@ impl Wire for NotebookDocumentFilter {
                 pattern,
             } => {
                 let mut object = Writer::new(alloc);
-                object.optional("notebookType", notebook_type)?;
-                object.field("scheme", scheme)?;
-                object.optional("pattern", pattern)?;
-                Ok(object.end())
+                object.optional("notebookType", notebook_type);
+                object.field("scheme", scheme);
+                object.optional("pattern", pattern);
+                object.end()
             }
             NotebookDocumentFilter::ByPattern {
                 notebook_type,
@@ -478,10 +486,10 @@ impl Wire for NotebookDocumentFilter {
                 pattern,
             } => {
                 let mut object = Writer::new(alloc);
-                object.optional("notebookType", notebook_type)?;
-                object.optional("scheme", scheme)?;
-                object.field("pattern", pattern)?;
-                Ok(object.end())
+                object.optional("notebookType", notebook_type);
+                object.optional("scheme", scheme);
+                object.field("pattern", pattern);
+                object.end()
             }
         }
     }

@@ -25,20 +25,21 @@ impl Wire for Registration {
     ghost shown = { registration_row.shown };
 
     fn from_value(alloc: Global, value: &Value) -> Result<Registration, Misfit> {
-        let object = Reader::new(alloc, value)?;
-        Ok(Registration {
+        let mut object = Reader::new(alloc, value)?;
+        let read = Registration {
             id: object.field("id")?,
             method: object.field("method")?,
-            register_options: object.optional("registerOptions")?,
-        })
+            register_options: object.optional("registerOptions"),
+        };
+        object.end(read)
     }
 
     fn to_value(&self, alloc: Global) -> Result<Value, NoMemory> {
         let mut object = Writer::new(alloc);
-        object.field("id", &self.id)?;
-        object.field("method", &self.method)?;
-        object.optional("registerOptions", &self.register_options)?;
-        Ok(object.end())
+        object.field("id", &self.id);
+        object.field("method", &self.method);
+        object.optional("registerOptions", &self.register_options);
+        object.end()
     }
 }
 
@@ -65,8 +66,8 @@ impl Wire for RegistrationParams {
 
     fn to_value(&self, alloc: Global) -> Result<Value, NoMemory> {
         let mut object = Writer::new(alloc);
-        object.field("registrations", &self.registrations)?;
-        Ok(object.end())
+        object.field("registrations", &self.registrations);
+        object.end()
     }
 }
 
@@ -96,9 +97,9 @@ impl Wire for Unregistration {
 
     fn to_value(&self, alloc: Global) -> Result<Value, NoMemory> {
         let mut object = Writer::new(alloc);
-        object.field("id", &self.id)?;
-        object.field("method", &self.method)?;
-        Ok(object.end())
+        object.field("id", &self.id);
+        object.field("method", &self.method);
+        object.end()
     }
 }
 
@@ -125,7 +126,7 @@ impl Wire for UnregistrationParams {
 
     fn to_value(&self, alloc: Global) -> Result<Value, NoMemory> {
         let mut object = Writer::new(alloc);
-        object.field("unregisterations", &self.unregisterations)?;
-        Ok(object.end())
+        object.field("unregisterations", &self.unregisterations);
+        object.end()
     }
 }

@@ -36,18 +36,19 @@ impl Wire for ServerInfo {
     ghost shown = { server_info_row.shown };
 
     fn from_value(alloc: Global, value: &Value) -> Result<ServerInfo, Misfit> {
-        let object = Reader::new(alloc, value)?;
-        Ok(ServerInfo {
+        let mut object = Reader::new(alloc, value)?;
+        let read = ServerInfo {
             name: object.field("name")?,
-            version: object.optional("version")?,
-        })
+            version: object.optional("version"),
+        };
+        object.end(read)
     }
 
     fn to_value(&self, alloc: Global) -> Result<Value, NoMemory> {
         let mut object = Writer::new(alloc);
-        object.field("name", &self.name)?;
-        object.optional("version", &self.version)?;
-        Ok(object.end())
+        object.field("name", &self.name);
+        object.optional("version", &self.version);
+        object.end()
     }
 }
 
@@ -74,7 +75,7 @@ impl Wire for InitializeError {
 
     fn to_value(&self, alloc: Global) -> Result<Value, NoMemory> {
         let mut object = Writer::new(alloc);
-        object.field("retry", &self.retry)?;
-        Ok(object.end())
+        object.field("retry", &self.retry);
+        object.end()
     }
 }

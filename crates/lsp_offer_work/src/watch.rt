@@ -37,8 +37,8 @@ impl Wire for DidChangeWatchedFilesRegistrationOptions {
 
     fn to_value(&self, alloc: Global) -> Result<Value, NoMemory> {
         let mut object = Writer::new(alloc);
-        object.field("watchers", &self.watchers)?;
-        Ok(object.end())
+        object.field("watchers", &self.watchers);
+        object.end()
     }
 }
 
@@ -59,18 +59,19 @@ impl Wire for FileSystemWatcher {
     ghost shown = { file_system_watcher_row.shown };
 
     fn from_value(alloc: Global, value: &Value) -> Result<FileSystemWatcher, Misfit> {
-        let object = Reader::new(alloc, value)?;
-        Ok(FileSystemWatcher {
+        let mut object = Reader::new(alloc, value)?;
+        let read = FileSystemWatcher {
             glob_pattern: object.field("globPattern")?,
-            kind: object.optional("kind")?,
-        })
+            kind: object.optional("kind"),
+        };
+        object.end(read)
     }
 
     fn to_value(&self, alloc: Global) -> Result<Value, NoMemory> {
         let mut object = Writer::new(alloc);
-        object.field("globPattern", &self.glob_pattern)?;
-        object.optional("kind", &self.kind)?;
-        Ok(object.end())
+        object.field("globPattern", &self.glob_pattern);
+        object.optional("kind", &self.kind);
+        object.end()
     }
 }
 
@@ -148,9 +149,9 @@ impl Wire for RelativePattern {
 
     fn to_value(&self, alloc: Global) -> Result<Value, NoMemory> {
         let mut object = Writer::new(alloc);
-        object.field("baseUri", &self.base_uri)?;
-        object.field("pattern", &self.pattern)?;
-        Ok(object.end())
+        object.field("baseUri", &self.base_uri);
+        object.field("pattern", &self.pattern);
+        object.end()
     }
 }
 

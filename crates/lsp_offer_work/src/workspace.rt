@@ -24,18 +24,19 @@ impl Wire for WorkspaceServerCapabilities {
     ghost shown = { workspace_server_capabilities_row.shown };
 
     fn from_value(alloc: Global, value: &Value) -> Result<WorkspaceServerCapabilities, Misfit> {
-        let object = Reader::new(alloc, value)?;
-        Ok(WorkspaceServerCapabilities {
-            workspace_folders: object.optional("workspaceFolders")?,
-            file_operations: object.optional("fileOperations")?,
-        })
+        let mut object = Reader::new(alloc, value)?;
+        let read = WorkspaceServerCapabilities {
+            workspace_folders: object.optional("workspaceFolders"),
+            file_operations: object.optional("fileOperations"),
+        };
+        object.end(read)
     }
 
     fn to_value(&self, alloc: Global) -> Result<Value, NoMemory> {
         let mut object = Writer::new(alloc);
-        object.optional("workspaceFolders", &self.workspace_folders)?;
-        object.optional("fileOperations", &self.file_operations)?;
-        Ok(object.end())
+        object.optional("workspaceFolders", &self.workspace_folders);
+        object.optional("fileOperations", &self.file_operations);
+        object.end()
     }
 }
 
@@ -60,17 +61,18 @@ impl Wire for WorkspaceFoldersServerCapabilities {
         alloc: Global,
         value: &Value,
     ) -> Result<WorkspaceFoldersServerCapabilities, Misfit> {
-        let object = Reader::new(alloc, value)?;
-        Ok(WorkspaceFoldersServerCapabilities {
-            supported: object.optional("supported")?,
-            change_notifications: object.optional("changeNotifications")?,
-        })
+        let mut object = Reader::new(alloc, value)?;
+        let read = WorkspaceFoldersServerCapabilities {
+            supported: object.optional("supported"),
+            change_notifications: object.optional("changeNotifications"),
+        };
+        object.end(read)
     }
 
     fn to_value(&self, alloc: Global) -> Result<Value, NoMemory> {
         let mut object = Writer::new(alloc);
-        object.optional("supported", &self.supported)?;
-        object.optional("changeNotifications", &self.change_notifications)?;
-        Ok(object.end())
+        object.optional("supported", &self.supported);
+        object.optional("changeNotifications", &self.change_notifications);
+        object.end()
     }
 }

@@ -43,7 +43,7 @@ impl Wire for DiagnosticServerCancellationData {
 
     fn to_value(&self, alloc: Global) -> Result<Value, NoMemory> {
         let mut object = Writer::new(alloc);
-        object.field("retriggerRequest", &self.retrigger_request)?;
-        Ok(object.end())
+        object.field("retriggerRequest", &self.retrigger_request);
+        object.end()
     }
 }

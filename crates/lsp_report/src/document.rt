@@ -39,24 +39,25 @@ impl Wire for DocumentDiagnosticParams {
     ghost shown = { document_diagnostic_params_row.shown };
 
     fn from_value(alloc: Global, value: &Value) -> Result<DocumentDiagnosticParams, Misfit> {
-        let object = Reader::new(alloc, value)?;
-        Ok(DocumentDiagnosticParams {
+        let mut object = Reader::new(alloc, value)?;
+        let read = DocumentDiagnosticParams {
             text_document: object.field("textDocument")?,
-            identifier: object.optional("identifier")?,
-            previous_result_id: object.optional("previousResultId")?,
+            identifier: object.optional("identifier"),
+            previous_result_id: object.optional("previousResultId"),
             work_done_progress_params: WorkDoneProgressParams::from_value(alloc, value)?,
             partial_result_params: PartialResultParams::from_value(alloc, value)?,
-        })
+        };
+        object.end(read)
     }
 
     fn to_value(&self, alloc: Global) -> Result<Value, NoMemory> {
         let mut object = Writer::new(alloc);
-        object.field("textDocument", &self.text_document)?;
-        object.nullable("identifier", &self.identifier)?;
-        object.nullable("previousResultId", &self.previous_result_id)?;
-        object.flat(&self.work_done_progress_params)?;
-        object.flat(&self.partial_result_params)?;
-        Ok(object.end())
+        object.field("textDocument", &self.text_document);
+        object.nullable("identifier", &self.identifier);
+        object.nullable("previousResultId", &self.previous_result_id);
+        object.flat(&self.work_done_progress_params);
+        object.flat(&self.partial_result_params);
+        object.end()
     }
 }
 
@@ -258,20 +259,21 @@ impl Wire for RelatedFullDocumentDiagnosticReport {
         alloc: Global,
         value: &Value,
     ) -> Result<RelatedFullDocumentDiagnosticReport, Misfit> {
-        let object = Reader::new(alloc, value)?;
-        Ok(RelatedFullDocumentDiagnosticReport {
-            related_documents: object.optional("relatedDocuments")?,
+        let mut object = Reader::new(alloc, value)?;
+        let read = RelatedFullDocumentDiagnosticReport {
+            related_documents: object.optional("relatedDocuments"),
             full_document_diagnostic_report: FullDocumentDiagnosticReport::from_value(
                 alloc, value,
             )?,
-        })
+        };
+        object.end(read)
     }
 
     fn to_value(&self, alloc: Global) -> Result<Value, NoMemory> {
         let mut object = Writer::new(alloc);
-        object.optional("relatedDocuments", &self.related_documents)?;
-        object.flat(&self.full_document_diagnostic_report)?;
-        Ok(object.end())
+        object.optional("relatedDocuments", &self.related_documents);
+        object.flat(&self.full_document_diagnostic_report);
+        object.end()
     }
 }
 
@@ -296,20 +298,21 @@ impl Wire for RelatedUnchangedDocumentDiagnosticReport {
         alloc: Global,
         value: &Value,
     ) -> Result<RelatedUnchangedDocumentDiagnosticReport, Misfit> {
-        let object = Reader::new(alloc, value)?;
-        Ok(RelatedUnchangedDocumentDiagnosticReport {
-            related_documents: object.optional("relatedDocuments")?,
+        let mut object = Reader::new(alloc, value)?;
+        let read = RelatedUnchangedDocumentDiagnosticReport {
+            related_documents: object.optional("relatedDocuments"),
             unchanged_document_diagnostic_report: UnchangedDocumentDiagnosticReport::from_value(
                 alloc, value,
             )?,
-        })
+        };
+        object.end(read)
     }
 
     fn to_value(&self, alloc: Global) -> Result<Value, NoMemory> {
         let mut object = Writer::new(alloc);
-        object.optional("relatedDocuments", &self.related_documents)?;
-        object.flat(&self.unchanged_document_diagnostic_report)?;
-        Ok(object.end())
+        object.optional("relatedDocuments", &self.related_documents);
+        object.flat(&self.unchanged_document_diagnostic_report);
+        object.end()
     }
 }
 
@@ -343,18 +346,19 @@ impl Wire for FullDocumentDiagnosticReport {
     ghost shown = { full_document_diagnostic_report_row.shown };
 
     fn from_value(alloc: Global, value: &Value) -> Result<FullDocumentDiagnosticReport, Misfit> {
-        let object = Reader::new(alloc, value)?;
-        Ok(FullDocumentDiagnosticReport {
-            result_id: object.optional("resultId")?,
+        let mut object = Reader::new(alloc, value)?;
+        let read = FullDocumentDiagnosticReport {
+            result_id: object.optional("resultId"),
             items: object.field("items")?,
-        })
+        };
+        object.end(read)
     }
 
     fn to_value(&self, alloc: Global) -> Result<Value, NoMemory> {
         let mut object = Writer::new(alloc);
-        object.optional("resultId", &self.result_id)?;
-        object.field("items", &self.items)?;
-        Ok(object.end())
+        object.optional("resultId", &self.result_id);
+        object.field("items", &self.items);
+        object.end()
     }
 }
 
@@ -386,8 +390,8 @@ impl Wire for UnchangedDocumentDiagnosticReport {
 
     fn to_value(&self, alloc: Global) -> Result<Value, NoMemory> {
         let mut object = Writer::new(alloc);
-        object.field("resultId", &self.result_id)?;
-        Ok(object.end())
+        object.field("resultId", &self.result_id);
+        object.end()
     }
 }
 
@@ -409,15 +413,16 @@ impl Wire for DocumentDiagnosticReportPartialResult {
         alloc: Global,
         value: &Value,
     ) -> Result<DocumentDiagnosticReportPartialResult, Misfit> {
-        let object = Reader::new(alloc, value)?;
-        Ok(DocumentDiagnosticReportPartialResult {
-            related_documents: object.optional("relatedDocuments")?,
-        })
+        let mut object = Reader::new(alloc, value)?;
+        let read = DocumentDiagnosticReportPartialResult {
+            related_documents: object.optional("relatedDocuments"),
+        };
+        object.end(read)
     }
 
     fn to_value(&self, alloc: Global) -> Result<Value, NoMemory> {
         let mut object = Writer::new(alloc);
-        object.optional("relatedDocuments", &self.related_documents)?;
-        Ok(object.end())
+        object.optional("relatedDocuments", &self.related_documents);
+        object.end()
     }
 }

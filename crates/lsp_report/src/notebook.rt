@@ -34,24 +34,25 @@ impl Wire for NotebookDocument {
     ghost shown = { notebook_document_row.shown };
 
     fn from_value(alloc: Global, value: &Value) -> Result<NotebookDocument, Misfit> {
-        let object = Reader::new(alloc, value)?;
-        Ok(NotebookDocument {
+        let mut object = Reader::new(alloc, value)?;
+        let read = NotebookDocument {
             uri: object.field("uri")?,
             notebook_type: object.field("notebookType")?,
             version: object.field("version")?,
-            metadata: object.optional("metadata")?,
+            metadata: object.optional("metadata"),
             cells: object.field("cells")?,
-        })
+        };
+        object.end(read)
     }
 
     fn to_value(&self, alloc: Global) -> Result<Value, NoMemory> {
         let mut object = Writer::new(alloc);
-        object.field("uri", &self.uri)?;
-        object.field("notebookType", &self.notebook_type)?;
-        object.field("version", &self.version)?;
-        object.optional("metadata", &self.metadata)?;
-        object.field("cells", &self.cells)?;
-        Ok(object.end())
+        object.field("uri", &self.uri);
+        object.field("notebookType", &self.notebook_type);
+        object.field("version", &self.version);
+        object.optional("metadata", &self.metadata);
+        object.field("cells", &self.cells);
+        object.end()
     }
 }
 
@@ -77,22 +78,23 @@ impl Wire for NotebookCell {
     ghost shown = { notebook_cell_row.shown };
 
     fn from_value(alloc: Global, value: &Value) -> Result<NotebookCell, Misfit> {
-        let object = Reader::new(alloc, value)?;
-        Ok(NotebookCell {
+        let mut object = Reader::new(alloc, value)?;
+        let read = NotebookCell {
             kind: object.field("kind")?,
             document: object.field("document")?,
-            metadata: object.optional("metadata")?,
-            execution_summary: object.optional("executionSummary")?,
-        })
+            metadata: object.optional("metadata"),
+            execution_summary: object.optional("executionSummary"),
+        };
+        object.end(read)
     }
 
     fn to_value(&self, alloc: Global) -> Result<Value, NoMemory> {
         let mut object = Writer::new(alloc);
-        object.field("kind", &self.kind)?;
-        object.field("document", &self.document)?;
-        object.optional("metadata", &self.metadata)?;
-        object.optional("executionSummary", &self.execution_summary)?;
-        Ok(object.end())
+        object.field("kind", &self.kind);
+        object.field("document", &self.document);
+        object.optional("metadata", &self.metadata);
+        object.optional("executionSummary", &self.execution_summary);
+        object.end()
     }
 }
 
@@ -114,18 +116,19 @@ impl Wire for ExecutionSummary {
     ghost shown = { execution_summary_row.shown };
 
     fn from_value(alloc: Global, value: &Value) -> Result<ExecutionSummary, Misfit> {
-        let object = Reader::new(alloc, value)?;
-        Ok(ExecutionSummary {
+        let mut object = Reader::new(alloc, value)?;
+        let read = ExecutionSummary {
             execution_order: object.field("executionOrder")?,
-            success: object.optional("success")?,
-        })
+            success: object.optional("success"),
+        };
+        object.end(read)
     }
 
     fn to_value(&self, alloc: Global) -> Result<Value, NoMemory> {
         let mut object = Writer::new(alloc);
-        object.field("executionOrder", &self.execution_order)?;
-        object.optional("success", &self.success)?;
-        Ok(object.end())
+        object.field("executionOrder", &self.execution_order);
+        object.optional("success", &self.success);
+        object.end()
     }
 }
 
@@ -155,9 +158,9 @@ impl Wire for DidOpenNotebookDocumentParams {
 
     fn to_value(&self, alloc: Global) -> Result<Value, NoMemory> {
         let mut object = Writer::new(alloc);
-        object.field("notebookDocument", &self.notebook_document)?;
-        object.field("cellTextDocuments", &self.cell_text_documents)?;
-        Ok(object.end())
+        object.field("notebookDocument", &self.notebook_document);
+        object.field("cellTextDocuments", &self.cell_text_documents);
+        object.end()
     }
 }
 
@@ -187,9 +190,9 @@ impl Wire for DidChangeNotebookDocumentParams {
 
     fn to_value(&self, alloc: Global) -> Result<Value, NoMemory> {
         let mut object = Writer::new(alloc);
-        object.field("notebookDocument", &self.notebook_document)?;
-        object.field("change", &self.change)?;
-        Ok(object.end())
+        object.field("notebookDocument", &self.notebook_document);
+        object.field("change", &self.change);
+        object.end()
     }
 }
 
@@ -222,9 +225,9 @@ impl Wire for VersionedNotebookDocumentIdentifier {
 
     fn to_value(&self, alloc: Global) -> Result<Value, NoMemory> {
         let mut object = Writer::new(alloc);
-        object.field("version", &self.version)?;
-        object.field("uri", &self.uri)?;
-        Ok(object.end())
+        object.field("version", &self.version);
+        object.field("uri", &self.uri);
+        object.end()
     }
 }
 
@@ -244,18 +247,19 @@ impl Wire for NotebookDocumentChangeEvent {
     ghost shown = { notebook_document_change_event_row.shown };
 
     fn from_value(alloc: Global, value: &Value) -> Result<NotebookDocumentChangeEvent, Misfit> {
-        let object = Reader::new(alloc, value)?;
-        Ok(NotebookDocumentChangeEvent {
-            metadata: object.optional("metadata")?,
-            cells: object.optional("cells")?,
-        })
+        let mut object = Reader::new(alloc, value)?;
+        let read = NotebookDocumentChangeEvent {
+            metadata: object.optional("metadata"),
+            cells: object.optional("cells"),
+        };
+        object.end(read)
     }
 
     fn to_value(&self, alloc: Global) -> Result<Value, NoMemory> {
         let mut object = Writer::new(alloc);
-        object.optional("metadata", &self.metadata)?;
-        object.optional("cells", &self.cells)?;
-        Ok(object.end())
+        object.optional("metadata", &self.metadata);
+        object.optional("cells", &self.cells);
+        object.end()
     }
 }
 
@@ -279,20 +283,21 @@ impl Wire for NotebookDocumentCellChange {
     ghost shown = { notebook_document_cell_change_row.shown };
 
     fn from_value(alloc: Global, value: &Value) -> Result<NotebookDocumentCellChange, Misfit> {
-        let object = Reader::new(alloc, value)?;
-        Ok(NotebookDocumentCellChange {
-            structure: object.optional("structure")?,
-            payload: object.optional("data")?,
-            text_content: object.optional("textContent")?,
-        })
+        let mut object = Reader::new(alloc, value)?;
+        let read = NotebookDocumentCellChange {
+            structure: object.optional("structure"),
+            payload: object.optional("data"),
+            text_content: object.optional("textContent"),
+        };
+        object.end(read)
     }
 
     fn to_value(&self, alloc: Global) -> Result<Value, NoMemory> {
         let mut object = Writer::new(alloc);
-        object.optional("structure", &self.structure)?;
-        object.optional("data", &self.payload)?;
-        object.optional("textContent", &self.text_content)?;
-        Ok(object.end())
+        object.optional("structure", &self.structure);
+        object.optional("data", &self.payload);
+        object.optional("textContent", &self.text_content);
+        object.end()
     }
 }
 
@@ -325,9 +330,9 @@ impl Wire for NotebookDocumentChangeTextContent {
 
     fn to_value(&self, alloc: Global) -> Result<Value, NoMemory> {
         let mut object = Writer::new(alloc);
-        object.field("document", &self.document)?;
-        object.field("changes", &self.changes)?;
-        Ok(object.end())
+        object.field("document", &self.document);
+        object.field("changes", &self.changes);
+        object.end()
     }
 }
 
@@ -353,20 +358,21 @@ impl Wire for NotebookDocumentCellChangeStructure {
         alloc: Global,
         value: &Value,
     ) -> Result<NotebookDocumentCellChangeStructure, Misfit> {
-        let object = Reader::new(alloc, value)?;
-        Ok(NotebookDocumentCellChangeStructure {
+        let mut object = Reader::new(alloc, value)?;
+        let read = NotebookDocumentCellChangeStructure {
             array: object.field("array")?,
-            did_open: object.optional("didOpen")?,
-            did_close: object.optional("didClose")?,
-        })
+            did_open: object.optional("didOpen"),
+            did_close: object.optional("didClose"),
+        };
+        object.end(read)
     }
 
     fn to_value(&self, alloc: Global) -> Result<Value, NoMemory> {
         let mut object = Writer::new(alloc);
-        object.field("array", &self.array)?;
-        object.optional("didOpen", &self.did_open)?;
-        object.optional("didClose", &self.did_close)?;
-        Ok(object.end())
+        object.field("array", &self.array);
+        object.optional("didOpen", &self.did_open);
+        object.optional("didClose", &self.did_close);
+        object.end()
     }
 }
 
@@ -389,20 +395,21 @@ impl Wire for NotebookCellArrayChange {
     ghost shown = { notebook_cell_array_change_row.shown };
 
     fn from_value(alloc: Global, value: &Value) -> Result<NotebookCellArrayChange, Misfit> {
-        let object = Reader::new(alloc, value)?;
-        Ok(NotebookCellArrayChange {
+        let mut object = Reader::new(alloc, value)?;
+        let read = NotebookCellArrayChange {
             start: object.field("start")?,
             delete_count: object.field("deleteCount")?,
-            cells: object.optional("cells")?,
-        })
+            cells: object.optional("cells"),
+        };
+        object.end(read)
     }
 
     fn to_value(&self, alloc: Global) -> Result<Value, NoMemory> {
         let mut object = Writer::new(alloc);
-        object.field("start", &self.start)?;
-        object.field("deleteCount", &self.delete_count)?;
-        object.optional("cells", &self.cells)?;
-        Ok(object.end())
+        object.field("start", &self.start);
+        object.field("deleteCount", &self.delete_count);
+        object.optional("cells", &self.cells);
+        object.end()
     }
 }
 
@@ -429,8 +436,8 @@ impl Wire for DidSaveNotebookDocumentParams {
 
     fn to_value(&self, alloc: Global) -> Result<Value, NoMemory> {
         let mut object = Writer::new(alloc);
-        object.field("notebookDocument", &self.notebook_document)?;
-        Ok(object.end())
+        object.field("notebookDocument", &self.notebook_document);
+        object.end()
     }
 }
 
@@ -456,8 +463,8 @@ impl Wire for NotebookDocumentIdentifier {
 
     fn to_value(&self, alloc: Global) -> Result<Value, NoMemory> {
         let mut object = Writer::new(alloc);
-        object.field("uri", &self.uri)?;
-        Ok(object.end())
+        object.field("uri", &self.uri);
+        object.end()
     }
 }
 
@@ -487,8 +494,8 @@ impl Wire for DidCloseNotebookDocumentParams {
 
     fn to_value(&self, alloc: Global) -> Result<Value, NoMemory> {
         let mut object = Writer::new(alloc);
-        object.field("notebookDocument", &self.notebook_document)?;
-        object.field("cellTextDocuments", &self.cell_text_documents)?;
-        Ok(object.end())
+        object.field("notebookDocument", &self.notebook_document);
+        object.field("cellTextDocuments", &self.cell_text_documents);
+        object.end()
     }
 }

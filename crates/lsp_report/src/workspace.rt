@@ -36,22 +36,23 @@ impl Wire for WorkspaceDiagnosticParams {
     ghost shown = { workspace_diagnostic_params_row.shown };
 
     fn from_value(alloc: Global, value: &Value) -> Result<WorkspaceDiagnosticParams, Misfit> {
-        let object = Reader::new(alloc, value)?;
-        Ok(WorkspaceDiagnosticParams {
-            identifier: object.optional("identifier")?,
+        let mut object = Reader::new(alloc, value)?;
+        let read = WorkspaceDiagnosticParams {
+            identifier: object.optional("identifier"),
             previous_result_ids: object.field("previousResultIds")?,
             work_done_progress_params: WorkDoneProgressParams::from_value(alloc, value)?,
             partial_result_params: PartialResultParams::from_value(alloc, value)?,
-        })
+        };
+        object.end(read)
     }
 
     fn to_value(&self, alloc: Global) -> Result<Value, NoMemory> {
         let mut object = Writer::new(alloc);
-        object.nullable("identifier", &self.identifier)?;
-        object.field("previousResultIds", &self.previous_result_ids)?;
-        object.flat(&self.work_done_progress_params)?;
-        object.flat(&self.partial_result_params)?;
-        Ok(object.end())
+        object.nullable("identifier", &self.identifier);
+        object.field("previousResultIds", &self.previous_result_ids);
+        object.flat(&self.work_done_progress_params);
+        object.flat(&self.partial_result_params);
+        object.end()
     }
 }
 
@@ -81,9 +82,9 @@ impl Wire for PreviousResultId {
 
     fn to_value(&self, alloc: Global) -> Result<Value, NoMemory> {
         let mut object = Writer::new(alloc);
-        object.field("uri", &self.uri)?;
-        object.field("value", &self.value)?;
-        Ok(object.end())
+        object.field("uri", &self.uri);
+        object.field("value", &self.value);
+        object.end()
     }
 }
 
@@ -170,8 +171,8 @@ impl Wire for WorkspaceDiagnosticReport {
 
     fn to_value(&self, alloc: Global) -> Result<Value, NoMemory> {
         let mut object = Writer::new(alloc);
-        object.field("items", &self.items)?;
-        Ok(object.end())
+        object.field("items", &self.items);
+        object.end()
     }
 }
 
@@ -261,22 +262,23 @@ impl Wire for WorkspaceFullDocumentDiagnosticReport {
         alloc: Global,
         value: &Value,
     ) -> Result<WorkspaceFullDocumentDiagnosticReport, Misfit> {
-        let object = Reader::new(alloc, value)?;
-        Ok(WorkspaceFullDocumentDiagnosticReport {
+        let mut object = Reader::new(alloc, value)?;
+        let read = WorkspaceFullDocumentDiagnosticReport {
             uri: object.field("uri")?,
-            version: object.optional("version")?,
+            version: object.optional("version"),
             full_document_diagnostic_report: FullDocumentDiagnosticReport::from_value(
                 alloc, value,
             )?,
-        })
+        };
+        object.end(read)
     }
 
     fn to_value(&self, alloc: Global) -> Result<Value, NoMemory> {
         let mut object = Writer::new(alloc);
-        object.field("uri", &self.uri)?;
-        object.nullable("version", &self.version)?;
-        object.flat(&self.full_document_diagnostic_report)?;
-        Ok(object.end())
+        object.field("uri", &self.uri);
+        object.nullable("version", &self.version);
+        object.flat(&self.full_document_diagnostic_report);
+        object.end()
     }
 }
 
@@ -303,22 +305,23 @@ impl Wire for WorkspaceUnchangedDocumentDiagnosticReport {
         alloc: Global,
         value: &Value,
     ) -> Result<WorkspaceUnchangedDocumentDiagnosticReport, Misfit> {
-        let object = Reader::new(alloc, value)?;
-        Ok(WorkspaceUnchangedDocumentDiagnosticReport {
+        let mut object = Reader::new(alloc, value)?;
+        let read = WorkspaceUnchangedDocumentDiagnosticReport {
             uri: object.field("uri")?,
-            version: object.optional("version")?,
+            version: object.optional("version"),
             unchanged_document_diagnostic_report: UnchangedDocumentDiagnosticReport::from_value(
                 alloc, value,
             )?,
-        })
+        };
+        object.end(read)
     }
 
     fn to_value(&self, alloc: Global) -> Result<Value, NoMemory> {
         let mut object = Writer::new(alloc);
-        object.field("uri", &self.uri)?;
-        object.nullable("version", &self.version)?;
-        object.flat(&self.unchanged_document_diagnostic_report)?;
-        Ok(object.end())
+        object.field("uri", &self.uri);
+        object.nullable("version", &self.version);
+        object.flat(&self.unchanged_document_diagnostic_report);
+        object.end()
     }
 }
 
@@ -359,7 +362,7 @@ impl Wire for WorkspaceDiagnosticReportPartialResult {
 
     fn to_value(&self, alloc: Global) -> Result<Value, NoMemory> {
         let mut object = Writer::new(alloc);
-        object.field("items", &self.items)?;
-        Ok(object.end())
+        object.field("items", &self.items);
+        object.end()
     }
 }

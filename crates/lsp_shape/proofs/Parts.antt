@@ -1,142 +1,150 @@
 -- A record, field by field.
-use Rattle.std.proofs.Common.{◌≡◌, ℕ, zero, suc, Option, Some, None, option_map, refl, ap, sym, ◌∙◌, String, BTreeMap, Global}
-use Rattle.serde_json.specs.View.{view, members_view}
-use Rattle.serde_json.specs.declared.value.Value.{Value, Object}
-use Rattle.serde_json.proofs.Views.{view-Object}
-use Rattle.serde_json.specs.Data.{Data, object, Members}
-use Rattle.lsp_shape.specs.Plain.{Plain, Parts, part, parts, absent, no_parts}
-use Rattle.lsp_shape.specs.Shape.{omitted, Fields, no_fields, field, flat, supported, again, fields}
-use Rattle.lsp_shape.specs.Read.{and_part, read, read_fields, read_member, read_supported, read_count, reads_none}
-use Rattle.lsp_shape.specs.Write.{write, write_fields, write_member, write_count, writes_null, put_all, members_in}
-use Rattle.serde_json.specs.Find.{get}
+use Rattle.std.proofs.Common.{◌≡◌, ◌⊎◌, inl, inr, ℕ, List, Bool, true, ◌&&◌, Option, Some, None, refl, ap, sym, subst, ◌∙◌}
+use Rattle.std.specs.Prelude.{Result, Ok, Err, IfOk, OnOk}
+use Rattle.serde_json.specs.Data.{Data, object, Members, no_members}
+use Rattle.serde_json.specs.Find.{get_member}
+use Rattle.lsp_shape.specs.Plain.{Plain, Parts, part, parts, no_parts}
+use Rattle.lsp_shape.specs.Shape.{Rule, required, Shape, Fields, no_fields, field, supported, fields, are_distinct}
+use Rattle.lsp_shape.specs.Read.{and_part, read, read_fields, read_member, read_supported, reads_none}
+use Rattle.lsp_shape.specs.Write.{write, write_fields, write_member, writes_null}
+use Rattle.lsp_shape.specs.Values.{is_of, are_fields, by_rule, is_none}
+use Rattle.lsp_shape.specs.Object.{read_from, misfit_of, Takes, written_to, is_whole, Puts}
+use Rattle.lsp_shape.specs.declared.object.Reader.{Reader}
+use Rattle.lsp_shape.specs.declared.object.Writer.{Writer}
+use Rattle.lsp_shape.specs.declared.wire.Misfit.{Misfit}
+use Rattle.lsp_shape.specs.declared.wire.Misfit.TheVariants.{Unfit}
 
 pub and_part-Some : {o : Option Plain} {r : Option Parts} {p : Plain} {ps : Parts} → o ≡ Some p → r ≡ Some ps → and_part o r ≡ Some (part p ps)
 and_part-Some {o} {r} {p} {ps} a b = rw (a, b) refl
 
-pub and_part-None : (o : Option Plain) → and_part o None ≡ None
-and_part-None None = refl
-and_part-None (Some p) = refl
+none_right : (o : Option Plain) (r : Option Parts) → r ≡ None → and_part o r ≡ None
+none_right None r a = refl
+none_right (Some p) r a = rw a refl
 
 pub none_left : (o : Option Plain) (r : Option Parts) → o ≡ None → and_part o r ≡ None
 none_left o r a = rw a refl
 
-pub none_right : (o : Option Plain) (r : Option Parts) → r ≡ None → and_part o r ≡ None
-none_right o r a = rw a (and_part-None o)
-
-pub parts_none : (r : Option Parts) → r ≡ None → option_map parts r ≡ None
-parts_none r a = rw a refl
-
-pub parts_some : (r : Option Parts) (ps : Parts) → r ≡ Some ps → option_map parts r ≡ Some (parts ps)
-parts_some r ps a = rw a refl
-
-pub ruleset part_lemmas = (and_part-None)
-
-pub ruleset part_steps = (and_part-Some, none_left, none_right, parts_none, parts_some)
-
--- the value is that object
-pub record_some : (fs : Fields) (v : Value) (m : BTreeMap (String Global) Value) (ps : Parts) → v ≡ Object m → read_fields fs reads_none (object (members_view m.entries)) ≡ Some ps → read (fields fs) (view v) ≡ Some (parts ps)
-record_some fs v m ps e a = rw (e, view-Object m, a) refl
-
-pub record_none : (fs : Fields) (v : Value) (m : BTreeMap (String Global) Value) → v ≡ Object m → read_fields fs reads_none (object (members_view m.entries)) ≡ None → read (fields fs) (view v) ≡ None
-record_none fs v m e a = rw (e, view-Object m, a) refl
-
--- what the field of that number, from 0, reads
-abbrev pub field_read : ℕ → Fields → Data → Option Plain
-field_read k no_fields d = Some absent
-field_read zero (field name r s fs) d = read_member r (read s) (get name d)
-field_read (suc k) (field name r s fs) d = field_read k fs d
-field_read zero (flat s fs) d = read s d
-field_read (suc k) (flat s fs) d = field_read k fs d
-field_read zero (supported name s fs) d = read_supported (read s) (get name d)
-field_read (suc k) (supported name s fs) d = field_read k fs d
-field_read zero (again name r c fs) d = read_member r (read_count c reads_none) (get name d)
-field_read (suc k) (again name r c fs) d = field_read k fs d
-
-pub none_at : (k : ℕ) (fs : Fields) (d : Data) → field_read k fs d ≡ None → read_fields fs reads_none d ≡ None
-none_at k no_fields d a = cc
-none_at zero (field name r s fs) d a = none_left _ _ a
-none_at (suc k) (field name r s fs) d a = none_right _ _ (none_at k fs d a)
-none_at zero (flat s fs) d a = none_left _ _ a
-none_at (suc k) (flat s fs) d a = none_right _ _ (none_at k fs d a)
-none_at zero (supported name s fs) d a = none_left _ _ a
-none_at (suc k) (supported name s fs) d a = none_right _ _ (none_at k fs d a)
-none_at zero (again name r c fs) d a = none_left _ _ a
-none_at (suc k) (again name r c fs) d a = none_right _ _ (none_at k fs d a)
-
--- a value whose field of that number does not fit
-pub record_none_at : (k : ℕ) (fs : Fields) (v : Value) (m : BTreeMap (String Global) Value) → v ≡ Object m → field_read k fs (object (members_view m.entries)) ≡ None → read (fields fs) (view v) ≡ None
-record_none_at k fs v m e a = record_none fs v m e (none_at k fs (object (members_view m.entries)) a)
-
--- ---- the same, of the data alone
-
+-- the value is an object with these members, whose fields are read as these parts
 pub fields_some : (fs : Fields) (d : Data) (ms : Members) (ps : Parts) → d ≡ object ms → read_fields fs reads_none (object ms) ≡ Some ps → read (fields fs) d ≡ Some (parts ps)
 fields_some fs d ms ps e a = rw (e, a) refl
 
-pub fields_none_at : (k : ℕ) (fs : Fields) (d : Data) (ms : Members) → d ≡ object ms → field_read k fs (object ms) ≡ None → read (fields fs) d ≡ None
-fields_none_at k fs d ms e a = rw (e, none_at k fs (object ms) a) refl
+-- the value is an object whose fields are not read
+pub fields_none : (fs : Fields) (d : Data) (ms : Members) → d ≡ object ms → read_fields fs reads_none (object ms) ≡ None → read (fields fs) d ≡ None
+fields_none fs d ms e a = rw (e, a) refl
 
--- ---- writing
+-- ---- a record that is read, line by line: by the last line, and then by each line before it
 
-abbrev pub drop_fields : ℕ → Fields → Fields
-drop_fields zero fs = fs
-drop_fields (suc k) no_fields = no_fields
-drop_fields (suc k) (field name r s fs) = drop_fields k fs
-drop_fields (suc k) (flat s fs) = drop_fields k fs
-drop_fields (suc k) (supported name s fs) = drop_fields k fs
-drop_fields (suc k) (again name r c fs) = drop_fields k fs
+-- from here on the fields are read as these parts, and no misfit is to be told
+pub record Reads (now : Reader) (fs : Fields) (ps : Parts) : Type 0 where
+  fits : misfit_of now ≡ None
+  read : read_fields fs reads_none (object (read_from now)) ≡ Some ps
 
-abbrev pub drop_parts : ℕ → Parts → Parts
-drop_parts zero ps = ps
-drop_parts (suc k) no_parts = no_parts
-drop_parts (suc k) (part p ps) = drop_parts k ps
+pub reads_end : (now : Reader) → misfit_of now ≡ None → Reads now no_fields no_parts
+reads_end now a = record { fits = a; read = refl }
 
--- what the field of that number, from 0, writes
-abbrev pub field_write : ℕ → Fields → Parts → Members → Members
-field_write k no_fields ps ms = ms
-field_write k (field name r s fs) no_parts ms = ms
-field_write zero (field name r s fs) (part p ps) ms = write_member name r (write s) p ms
-field_write (suc k) (field name r s fs) (part p ps) ms = field_write k fs ps ms
-field_write k (flat s fs) no_parts ms = ms
-field_write zero (flat s fs) (part p ps) ms = put_all (members_in (write s p)) ms
-field_write (suc k) (flat s fs) (part p ps) ms = field_write k fs ps ms
-field_write k (supported name s fs) no_parts ms = ms
-field_write zero (supported name s fs) (part p ps) ms = write_member name omitted (write s) p ms
-field_write (suc k) (supported name s fs) (part p ps) ms = field_write k fs ps ms
-field_write k (again name r c fs) no_parts ms = ms
-field_write zero (again name r c fs) (part p ps) ms = write_member name r (write_count c writes_null) p ms
-field_write (suc k) (again name r c fs) (part p ps) ms = field_write k fs ps ms
+later : (old new : Reader) (fs : Fields) → read_from new ≡ read_from old → read_fields fs reads_none (object (read_from old)) ≡ read_fields fs reads_none (object (read_from new))
+later old new fs e = ap (λ (ms : Members). read_fields fs reads_none (object ms)) (sym e)
 
-no_more : (fs : Fields) (ms : Members) → write_fields fs writes_null no_parts ms ≡ ms
-no_more no_fields ms = refl
-no_more (field name r s fs) ms = refl
-no_more (flat s fs) ms = refl
-no_more (supported name s fs) ms = refl
-no_more (again name r c fs) ms = refl
+-- a member whose misfit is told at the end
+pub reads_member : {old : Reader} {name : List ℕ} {r : Rule} {s : Shape} {p : Plain} {fs : Fields} {ps : Parts} (new : Reader) → Takes old new (read_member r (read s) (get_member name (read_from old))) p → Reads new fs ps → Reads old (field name r s fs) (part p ps)
+reads_member {old} {name} {r} {s} {p} {fs} {ps} new t a = record {
+  fits = t.1 a.fits;
+  read = and_part-Some {o = read_member r (read s) (get_member name (read_from old))} (t.2 a.fits) (later old new fs t.0 ∙ a.read);
+}
 
-none_dropped : (k : ℕ) → drop_parts k no_parts ≡ no_parts
-none_dropped zero = refl
-none_dropped (suc k) = refl
+pub reads_supported : {old : Reader} {name : List ℕ} {s : Shape} {p : Plain} {fs : Fields} {ps : Parts} (new : Reader) → Takes old new (read_supported (read s) (get_member name (read_from old))) p → Reads new fs ps → Reads old (supported name s fs) (part p ps)
+reads_supported {old} {name} {s} {p} {fs} {ps} new t a = record {
+  fits = t.1 a.fits;
+  read = and_part-Some {o = read_supported (read s) (get_member name (read_from old))} (t.2 a.fits) (later old new fs t.0 ∙ a.read);
+}
 
-at_end : (k : ℕ) (gs hs : Fields) (final new old : Members) → new ≡ old → final ≡ write_fields gs writes_null no_parts new → final ≡ write_fields hs writes_null (drop_parts k no_parts) old
-at_end k gs hs final new old a b = rw none_dropped (b ∙ no_more gs new ∙ a ∙ sym (no_more hs old))
+-- a member that was read at once
+pub reads_required : {now : Reader} {name : List ℕ} {s : Shape} {p : Plain} {fs : Fields} {ps : Parts} → read_member required (read s) (get_member name (read_from now)) ≡ Some p → Reads now fs ps → Reads now (field name required s fs) (part p ps)
+reads_required {now} {name} {s} {p} {fs} {ps} e a = record {
+  fits = a.fits;
+  read = and_part-Some {o = read_member required (read s) (get_member name (read_from now))} e a.read;
+}
 
-fields_end : (k : ℕ) → drop_fields k no_fields ≡ no_fields
-fields_end zero = refl
-fields_end (suc k) = refl
+pub record_read : (fs : Fields) (ps : Parts) (now : Reader) (d : Data) → d ≡ object (read_from now) → Reads now fs ps → read (fields fs) d ≡ Some (parts ps)
+record_read fs ps now d e a = fields_some fs d (read_from now) ps e a.read
 
--- one more field was written
-pub put_step : (k : ℕ) (fs : Fields) (ps : Parts) (final new old : Members) → new ≡ field_write k fs ps old
-    → final ≡ write_fields (drop_fields (suc k) fs) writes_null (drop_parts (suc k) ps) new → final ≡ write_fields (drop_fields k fs) writes_null (drop_parts k ps) old
-put_step k no_fields ps final new old a b = rw fields_end (b ∙ a)
-put_step k (field name r s fs) no_parts final new old a b = at_end k _ (drop_fields k (field name r s fs)) final new old a b
-put_step zero (field name r s fs) (part p ps) final new old a b = b ∙ ap (write_fields fs writes_null ps) a
-put_step (suc k) (field name r s fs) (part p ps) final new old a b = put_step k fs ps final new old a b
-put_step k (flat s fs) no_parts final new old a b = at_end k _ (drop_fields k (flat s fs)) final new old a b
-put_step zero (flat s fs) (part p ps) final new old a b = b ∙ ap (write_fields fs writes_null ps) a
-put_step (suc k) (flat s fs) (part p ps) final new old a b = put_step k fs ps final new old a b
-put_step k (supported name s fs) no_parts final new old a b = at_end k _ (drop_fields k (supported name s fs)) final new old a b
-put_step zero (supported name s fs) (part p ps) final new old a b = b ∙ ap (write_fields fs writes_null ps) a
-put_step (suc k) (supported name s fs) (part p ps) final new old a b = put_step k fs ps final new old a b
-put_step k (again name r c fs) no_parts final new old a b = at_end k _ (drop_fields k (again name r c fs)) final new old a b
-put_step zero (again name r c fs) (part p ps) final new old a b = b ∙ ap (write_fields fs writes_null ps) a
-put_step (suc k) (again name r c fs) (part p ps) final new old a b = put_step k fs ps final new old a b
+-- from here on the fields are not read, or `Unfit` is to be told
+pub record Unread (now : Reader) (fs : Fields) : Type 0 where
+  why : (misfit_of now ≡ Some Unfit) ⊎ (read_fields fs reads_none (object (read_from now)) ≡ None)
+
+pub unread_end : (now : Reader) → misfit_of now ≡ Some Unfit → Unread now no_fields
+unread_end now a = record { why = inl a }
+
+one_of_them : {A B : Type 0} (o : Option Plain) (r : Option Parts) → (A → (o ≡ None) ⊎ B) → A ⊎ (r ≡ None) → B ⊎ (and_part o r ≡ None)
+one_of_them {A} {B} o r f (inl a) = case (f a)
+  where
+    case : (o ≡ None) ⊎ B → B ⊎ (and_part o r ≡ None)
+    case (inl e) = inr (none_left o r e)
+    case (inr b) = inl b
+one_of_them o r f (inr e) = inr (none_right o r e)
+
+earlier : {A : Type 0} (old new : Reader) (fs : Fields) → read_from new ≡ read_from old → A ⊎ (read_fields fs reads_none (object (read_from new)) ≡ None) → A ⊎ (read_fields fs reads_none (object (read_from old)) ≡ None)
+earlier old new fs e (inl a) = inl a
+earlier old new fs e (inr a) = inr (later old new fs e ∙ a)
+
+pub unread_member : {old : Reader} {name : List ℕ} {r : Rule} {s : Shape} {p : Plain} {fs : Fields} (new : Reader) → Takes old new (read_member r (read s) (get_member name (read_from old))) p → Unread new fs → Unread old (field name r s fs)
+unread_member {old} {name} {r} {s} {p} {fs} new t a = record { why = one_of_them (read_member r (read s) (get_member name (read_from old))) _ t.3 (earlier old new fs t.0 a.why) }
+
+pub unread_supported : {old : Reader} {name : List ℕ} {s : Shape} {p : Plain} {fs : Fields} (new : Reader) → Takes old new (read_supported (read s) (get_member name (read_from old))) p → Unread new fs → Unread old (supported name s fs)
+unread_supported {old} {name} {s} {p} {fs} new t a = record { why = one_of_them (read_supported (read s) (get_member name (read_from old))) _ t.3 (earlier old new fs t.0 a.why) }
+
+behind : {A : Type 0} (o : Option Plain) (r : Option Parts) → A ⊎ (r ≡ None) → A ⊎ (and_part o r ≡ None)
+behind o r (inl a) = inl a
+behind o r (inr e) = inr (none_right o r e)
+
+-- a member that was read at once
+pub unread_required : {now : Reader} {name : List ℕ} {s : Shape} {fs : Fields} → Unread now fs → Unread now (field name required s fs)
+unread_required {now} {name} {s} {fs} a = record { why = behind (read_member required (read s) (get_member name (read_from now))) _ a.why }
+
+never : {A : Type 0} (m : Option Misfit) → m ≡ None → m ≡ Some Unfit → A
+never m a b = absurd (cc)
+
+pub record_unread : (fs : Fields) (now : Reader) (d : Data) → d ≡ object (read_from now) → misfit_of now ≡ None → Unread now fs → read (fields fs) d ≡ None
+record_unread fs now d e a u = fields_none fs d (read_from now) e (none u.why)
+  where
+    none : (misfit_of now ≡ Some Unfit) ⊎ (read_fields fs reads_none (object (read_from now)) ≡ None) → read_fields fs reads_none (object (read_from now)) ≡ None
+    none (inl b) = never (misfit_of now) a b
+    none (inr b) = b
+
+-- ---- a record that is written, in the same way
+
+-- from here on the fields are written of these parts, which are of their shape, and make these members
+pub record Writes (final : Members) (now : Writer) (fs : Fields) (ps : Parts) : Type 0 where
+  whole : is_whole now ≡ true
+  put : final ≡ write_fields fs writes_null ps (written_to now)
+  of_shape : are_fields fs is_none ps ≡ true
+
+pub writes_end : (now : Writer) → is_whole now ≡ true → Writes (written_to now) now no_fields no_parts
+writes_end now a = record { whole = a; put = refl; of_shape = refl }
+
+both : {a b : Bool} → a ≡ true → b ≡ true → a && b ≡ true
+both {a} {b} e f = rw (e, f) refl
+
+pub writes_member : {final : Members} {old : Writer} {name : List ℕ} {r : Rule} {s : Shape} {p : Plain} {fs : Fields} {ps : Parts} (new : Writer) → Puts old new (write_member name r (write s) p (written_to old)) (by_rule r (is_of s) p) → Writes final new fs ps → Writes final old (field name r s fs) (part p ps)
+writes_member {final} {old} {name} {r} {s} {p} {fs} {ps} new t a = record {
+  whole = t.0 a.whole;
+  put = a.put ∙ ap (write_fields fs writes_null ps) (t.1 a.whole);
+  of_shape = both {a = by_rule r (is_of s) p} (t.2 a.whole) a.of_shape;
+}
+
+pub record_written : {fs : Fields} {ps : Parts} (final : Members) (now : Writer) (d : Data) → d ≡ object final → written_to now ≡ no_members → Writes final now fs ps → d ≡ write (fields fs) (parts ps)
+record_written {fs} {ps} final now d e f a = e ∙ ap object (a.put ∙ ap (write_fields fs writes_null ps) f)
+
+pub record_of_shape : {final : Members} {now : Writer} {fs : Fields} {ps : Parts} → are_distinct fs ≡ true → Writes final now fs ps → is_of (fields fs) (parts ps) ≡ true
+record_of_shape e a = both e a.of_shape
+
+-- ---- what the end gives
+
+-- what holds of the value that was read, where nothing failed
+pub when_ok : {T E Q : Type 0} {v : T} (P : T → Type 0) (r : Result T E) → IfOk r (λ x. x ≡ v) → OnOk r Q → (Q → P v) → IfOk r P
+when_ok P (Ok x) e q f = subst P (sym e) (f q)
+when_ok P (Err e) a q f = a
+
+pub both_ok : {T E Q : Type 0} (P R : T → Type 0) (r : Result T E) → IfOk r P → OnOk r Q → ((v : T) → P v → Q → R v) → IfOk r R
+both_ok P R (Ok x) a q f = f x a q
+both_ok P R (Err e) a q f = a

@@ -5,7 +5,7 @@ use Rattle.std.specs.Option.{option_and_then}
 use Rattle.serde_json.specs.Data.{Data, unsigned, null, boolean, number, string, array, object, Items, no_items, item, Members, no_members, member}
 use Rattle.serde_json.specs.Find.{get, as_str, as_integer}
 use Rattle.lsp_shape.specs.Plain.{Plain, leaf, absent, present, parts, entry, choice, Parts, no_parts, part, plain_depth, parts_depth}
-use Rattle.lsp_shape.specs.Shape.{Rule, required, omitted, nullable, or_empty, or_false, unless_empty, unless_false, Count, one, many, Shape, nil, truth, integer, bits, text, any, list_of, maybe, map_of, fields, fields_and, recursive, union, tagged, Fields, no_fields, field, flat, supported, again, Shapes, no_shapes, or_shape, Variants, no_variants, variant, has_name, field_names}
+use Rattle.lsp_shape.specs.Shape.{Rule, required, omitted, nullable, or_empty, or_false, unless_empty, unless_false, Count, one, many, Shape, bits, list_of, maybe, map_of, fields, fields_and, recursive, union, tagged, Fields, no_fields, field, flat, supported, again, Shapes, no_shapes, or_shape, Variants, no_variants, variant, has_name, field_names}
 use Rattle.lsp_shape.specs.Read.{read, read_fields, read_first, read_tagged, read_integer, integer_within, read_list, read_items, item_count, read_maybe, read_member, read_record, and_part, first_of_two, text_is, read_entries, read_entry, and_rest, read_supported, or_absent, empty_set, read_count, reads_none}
 use Rattle.lsp_shape.specs.Write.{write, write_list, write_count, writes_null}
 use Rattle.lsp_shape.specs.Values.{is_null, clear, clear_fields, clear_nth, clear_nth_variant, clear_member, clear_maybe, clear_present, clear_entry, clear_parts, clear_first, clear_count, clear_choice, clear_leaf, clear_bits, every, is_any, settled_member, is_settled, are_settled, is_settled_nth, is_settled_variant}

@@ -2,9 +2,9 @@
 use Rattle.std.proofs.Common.{◌≡◌, ℕ, zero, suc, ◌<◌, ◌≤◌, List, ◌∷◌, ◌++◌, Bool, true, false, not, ◌&&◌, Option, Some, None, option_map, Ordering, Less, Equal, Greater, nat_cmp, refl, sym, ap, ◌∙◌, arith, max}
 use Rattle.std.specs.Cmp.Lexicographic.{slice_cmp}
 use Rattle.std.specs.Ordering.{match_ordering}
-use Rattle.serde_json.specs.Data.{Data, null, boolean, number, string, array, object, Items, no_items, item, Members, no_members, member, depth, items_depth, members_depth, put}
+use Rattle.serde_json.specs.Data.{Data, null, array, object, Items, no_items, item, Members, no_members, member, depth, items_depth, members_depth, put}
 use Rattle.serde_json.specs.Find.{get, get_member}
-use Rattle.lsp_shape.specs.Plain.{Plain, leaf, absent, present, parts, entry, choice, Parts, no_parts, part, plain_depth, parts_depth}
+use Rattle.lsp_shape.specs.Plain.{Plain, present, parts, Parts, no_parts, part, plain_depth, parts_depth}
 use Rattle.lsp_shape.specs.Shape.{Rule, required, omitted, nullable, or_empty, or_false, unless_empty, unless_false, Count, one, many, Shape, fields, recursive, Fields, no_fields, field, flat, supported, again, unrolled, names, field_names, are_distinct}
 use Rattle.lsp_shape.specs.Read.{read, read_fields, read_record, read_member, read_count, read_maybe, read_items, read_list, and_part, reads_none, iterate, read_supported}
 use Rattle.lsp_shape.specs.Write.{write, write_fields, write_record, write_member, write_count, write_items, write_maybe, put_present, put_unless, is_empty, is_false, writes_null}

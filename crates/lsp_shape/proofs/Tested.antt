@@ -1,7 +1,7 @@
 -- A list whose length is tested reads as a list of any length, where the length passes.
 use Rattle.std.proofs.Common.{◌≡◌, ℕ, ◌+◌, List, [], ◌∷◌, length, map, Bool, true, false, cond, Option, Some, None, option_map, refl, ap, ◌∙◌, arith}
 use Rattle.serde_json.specs.Data.{Data, null, boolean, number, string, array, object, Items, no_items, item}
-use Rattle.lsp_shape.specs.Plain.{Plain, parts, parts_of, Parts, no_parts, part}
+use Rattle.lsp_shape.specs.Plain.{Plain, parts, parts_of, Parts, no_parts}
 use Rattle.lsp_shape.specs.Read.{read_items, read_list, item_count}
 use Rattle.lsp_shape.specs.Values.{part_count, counted, every}
 use Rattle.lsp_shape.specs.FloatsRead.{mapped, split}

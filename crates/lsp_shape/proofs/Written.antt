@@ -5,7 +5,7 @@ use Rattle.serde_json.specs.Data.{Data, string, object, Members, no_members, put
 use Rattle.serde_json.specs.Find.{get_member}
 use Rattle.serde_json.proofs.Views.{get_member-put_other}
 use Rattle.lsp_shape.specs.Plain.{Plain, leaf, absent, present, parts, entry, choice, Parts, no_parts, part}
-use Rattle.lsp_shape.specs.Shape.{Rule, required, omitted, nullable, or_empty, or_false, unless_empty, unless_false, Shape, nil, truth, integer, bits, text, any, list_of, maybe, map_of, fields, fields_and, recursive, union, tagged, Fields, no_fields, field, flat, supported, again, Variants, no_variants, variant, has_name, names, field_names, variant_names, is_open, are_distinct, are_apart}
+use Rattle.lsp_shape.specs.Shape.{Rule, omitted, nullable, unless_empty, unless_false, Shape, nil, truth, any, fields, tagged, Fields, no_fields, field, flat, supported, again, Variants, no_variants, variant, has_name, names, field_names, variant_names, is_open, are_distinct, are_apart}
 use Rattle.lsp_shape.specs.Write.{write, write_fields, write_tagged, write_member, write_part, write_count, put_unless, put_all, members_in, is_empty, is_false, writes_null}
 use Rattle.lsp_shape.specs.Values.{is_of, are_fields, by_rule, is_count, first_and, is_maybe, is_nth_variant, is_none, leaves_room, are_told_apart, tags}
 use Rattle.lsp_shape.specs.FloatsRead.{or_false_left, or_false_right, neither}

@@ -2,10 +2,10 @@
 use Rattle.std.proofs.Common.{◌≡◌, ℕ, zero, suc, List, Ordering, Less, Equal, Greater, nat_cmp, Bool, true, false, refl}
 use Rattle.std.specs.Cmp.Lexicographic.{slice_cmp}
 use Rattle.std.specs.Ordering.{match_ordering}
-use Rattle.serde_json.specs.Data.{Data, null, boolean, number, string, array, object, Members, no_members, member, put}
+use Rattle.serde_json.specs.Data.{Data, string, object, Members, no_members, member, put}
 use Rattle.serde_json.specs.Written.{has_float, items_have_float, members_have_float}
 use Rattle.lsp_shape.specs.Plain.{Plain, leaf, absent, present, parts, entry, choice, Parts, no_parts, part, plain_depth, plain_has_float, parts_have_float}
-use Rattle.lsp_shape.specs.Shape.{Rule, required, omitted, nullable, or_empty, or_false, unless_empty, unless_false, Count, one, many, Shape, nil, truth, integer, bits, text, any, list_of, maybe, map_of, fields, fields_and, recursive, union, tagged, Fields, no_fields, field, flat, supported, again, Shapes, no_shapes, or_shape, Variants, no_variants, variant}
+use Rattle.lsp_shape.specs.Shape.{Rule, omitted, nullable, unless_empty, unless_false, Count, one, many, Shape, list_of, maybe, map_of, fields, fields_and, recursive, union, tagged, Fields, no_fields, field, flat, supported, again, Shapes, no_shapes, or_shape, Variants, no_variants, variant}
 use Rattle.lsp_shape.specs.Read.{iterate}
 use Rattle.lsp_shape.specs.Write.{write, write_leaf, write_items, write_list, write_maybe, write_entries, members_of_map, write_map, put_present, put_unless, is_empty, is_false, write_member, put_all, members_in, write_part, write_record, write_after_map, write_with_rest, write_choice, write_count, writes_null, write_fields, write_nth, write_tagged}
 use Rattle.lsp_shape.specs.FloatsRead.{or_false_left, or_false_right, neither}

@@ -1,11 +1,41 @@
--- The members of an object that is read, and of one that is written.
+-- An object that is read, and one that is written.
+use Rattle.std.specs.Prelude.{◌≡◌, ◌⊎◌, Bool, true, Option, Some, None}
 use Rattle.serde_json.specs.Data.{Members}
 use Rattle.serde_json.specs.View.{members_view}
+use Rattle.lsp_shape.specs.Plain.{Plain}
 use Rattle.lsp_shape.specs.declared.object.Reader.{Reader}
 use Rattle.lsp_shape.specs.declared.object.Writer.{Writer}
+use Rattle.lsp_shape.specs.declared.wire.Misfit.{Misfit}
+use Rattle.lsp_shape.specs.declared.wire.Misfit.TheVariants.{Unfit}
 
+-- the members of an object that is read
 abbrev pub read_from : Reader → Members
 read_from reader = members_view reader.object.now.entries
 
+-- what its end will tell
+abbrev pub misfit_of : Reader → Option Misfit
+misfit_of reader = reader.misfit
+
+-- A call took p for a member that is read as r. The first misfit is kept, and it is `Unfit` only where r is None.
+abbrev pub Takes : Reader → Reader → Option Plain → Plain → Type 0
+Takes old new r p =
+    (read_from new ≡ read_from old)
+    × (misfit_of new ≡ None → misfit_of old ≡ None)
+    × (misfit_of new ≡ None → r ≡ Some p)
+    × (misfit_of new ≡ Some Unfit → (r ≡ None) ⊎ (misfit_of old ≡ Some Unfit))
+    × ((m : Misfit) → misfit_of old ≡ Some m → misfit_of new ≡ Some m)
+
+-- the members of an object that is written
 abbrev pub written_to : Writer → Members
 written_to writer = members_view writer.object.entries
+
+-- nothing of it is left out for want of memory
+abbrev pub is_whole : Writer → Bool
+is_whole writer = writer.is_whole
+
+-- A call made the members ms, by plain data that is of its shape, unless memory ran out then or before.
+abbrev pub Puts : Writer → Writer → Members → Bool → Type 0
+Puts old new ms is_of_shape =
+    (is_whole new ≡ true → is_whole old ≡ true)
+    × (is_whole new ≡ true → written_to new ≡ ms)
+    × (is_whole new ≡ true → is_of_shape ≡ true)

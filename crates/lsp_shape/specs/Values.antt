@@ -1,8 +1,8 @@
 -- The plain data of a shape, and that which reads back from what is written for it.
 use Rattle.std.specs.Prelude.{ℕ, suc, ◌+◌, ℤ, pos, int_le, List, [], ◌∷◌, Bool, true, false, ◌&&◌, not, is_some}
-use Rattle.serde_json.specs.Data.{Data, Num, unsigned, negative, float, null, boolean, number, string, array, object}
+use Rattle.serde_json.specs.Data.{Data, Num, unsigned, negative, float, number}
 use Rattle.lsp_shape.specs.Plain.{Plain, leaf, absent, present, parts, entry, choice, Parts, no_parts, part, plain_depth}
-use Rattle.lsp_shape.specs.Shape.{Rule, required, omitted, nullable, or_empty, or_false, unless_empty, unless_false, Count, one, many, Shape, nil, truth, integer, bits, text, any, list_of, maybe, map_of, fields, fields_and, recursive, union, tagged, Fields, no_fields, field, flat, supported, again, Shapes, no_shapes, or_shape, Variants, no_variants, variant, names, field_names, has_name, is_open, are_distinct}
+use Rattle.lsp_shape.specs.Shape.{Rule, omitted, nullable, Count, one, many, Shape, nil, truth, integer, bits, text, any, list_of, maybe, map_of, fields, fields_and, recursive, union, tagged, Fields, no_fields, field, flat, supported, again, Shapes, no_shapes, or_shape, Variants, no_variants, variant, names, field_names, has_name, is_open, are_distinct}
 use Rattle.lsp_shape.specs.Read.{read_nil, read_truth, read_text, fits, iterate}
 use Rattle.lsp_shape.specs.Write.{write, write_nth, write_count, writes_null, pick}
 

@@ -1,6 +1,6 @@
 // Members of an object, read and written.
 ghost use Rattle.std.specs.Prelude.{◌≡◌, IfOk, OnOk, OnErr, true, IsErrOf, Some, None, option_map};
-ghost use Rattle.serde_json.specs.Data.{put as with_member};
+ghost use Rattle.serde_json.specs.Data.{put as with_member, string};
 ghost use Rattle.serde_json.specs.Find.{get_member};
 ghost use Rattle.serde_json.specs.View.{view, members_view};
 ghost use Rattle.lsp_shape.specs.Plain.{maybe_of};
@@ -146,6 +146,22 @@ pub fn put_value(
     ensures err { OnErr result (object.new.entries ≡ object.old.entries) }
 {
     Ok(serde_json::put(object, alloc, name, value)?)
+}
+
+/// Makes the member of that name the text.
+pub fn put_text(
+    alloc: Global,
+    object: &mut Map<String, Value>,
+    name: &str,
+    text: &str,
+) -> Result<(), NoMemory>
+    ensures ok { OnOk result
+        (members_view object.new.entries
+        ≡ with_member name.now (string text.now) (members_view object.old.entries)) }
+    ensures err { OnErr result (object.new.entries ≡ object.old.entries) }
+{
+    let text = Value::try_from_str(alloc, text)?;
+    put_value(alloc, object, name, text)
 }
 
 /// Makes the member of that name what is written for the value.

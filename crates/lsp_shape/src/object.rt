@@ -1,9 +1,10 @@
-// An object that is read, and one that is written.
-ghost use Rattle.std.specs.Prelude.{◌≡◌, IfOk, OnOk, OnErr, true, IsErrOf, Some, None, option_map, Option, List, ℕ, map};
+// An object that is read, and one that is written. What fails on the way is told at the end, so that
+// a record with many members is read and written line by line, with no test after each.
+ghost use Rattle.std.specs.Prelude.{◌≡◌, IfOk, OnOk, IsOk, true, IsErrOf, Some, None, option_map, Option, List, ℕ, map};
 ghost use Rattle.serde_json.specs.Data.{Data, Members, object as object_of, put as with_member, no_members, string};
 ghost use Rattle.serde_json.specs.Find.{get_member};
 ghost use Rattle.serde_json.specs.View.{view};
-ghost use Rattle.lsp_shape.specs.Object.{read_from, written_to};
+ghost use Rattle.lsp_shape.specs.Object.{read_from, misfit_of, Takes, written_to, is_whole, Puts};
 ghost use Rattle.lsp_shape.specs.Plain.{maybe_of, Parts, entries_of};
 ghost use Rattle.lsp_shape.specs.Shape.{required, omitted, or_empty, or_false, list, truth, unless_empty, unless_false};
 ghost use Rattle.lsp_shape.specs.Shown.{show_list, show_bool};
@@ -19,17 +20,21 @@ use serde_json::{Map, Value};
 use std::alloc::Global;
 use std::collections::HashMap;
 
-/// An object that is read, member by member. A member that does not fit, or is missing, is `Unfit`.
-#[derive(Clone, Copy)]
+/// An object that is read, member by member. A member that has to be there is `Unfit` at once where
+/// it is missing or does not fit. The first misfit of the others is told at the end: from then on
+/// nothing more is read of them.
+#[derive(Drop)]
 pub struct Reader<'v> {
     alloc: Global,
     object: &'v Map<String, Value>,
+    misfit: Option<Misfit>,
 }
 
 impl<'v> Reader<'v> {
     /// The members of the object that the value is. `Unfit` comes only where it is none.
     pub fn new(alloc: Global, value: &'v Value) -> Result<Reader<'v>, Misfit>
         ensures ok { IfOk result (λ r. view value.now ≡ object_of (read_from r)) }
+        ensures fits { IfOk result (λ r. misfit_of r ≡ None) }
         ensures unfit { IsErrOf result Misfit.Unfit → (f : Data → Option Parts)
             → read_record f (view value.now) ≡ None }
         ensures unfit_rest { IsErrOf result Misfit.Unfit
@@ -37,7 +42,11 @@ impl<'v> Reader<'v> {
             → read_with_rest f g (view value.now) ≡ None }
     {
         match value {
-            Value::Object(object) => Ok(Reader { alloc, object }),
+            Value::Object(object) => Ok(Reader {
+                alloc,
+                object,
+                misfit: None,
+            }),
             _ => Err(Misfit::Unfit),
         }
     }
@@ -55,48 +64,75 @@ impl<'v> Reader<'v> {
     }
 
     /// The member of that name, and None where it is missing or null.
-    pub fn optional<T: Wire>(&self, name: &str) -> Result<Option<T>, Misfit>
-        ensures read { IfOk result
-            (λ o. read_member omitted (read T.shape) (get_member name.now (read_from self.now))
-            ≡ Some (maybe_of (option_map T.shown o))) }
-        ensures unfit { IsErrOf result Misfit.Unfit
-            → read_member omitted (read T.shape) (get_member name.now (read_from self.now)) ≡ None }
+    pub fn optional<T: Wire>(&mut self, name: &str) -> Option<T>
+        ensures { Takes self.old self.new
+            (read_member omitted (read T.shape) (get_member name.now (read_from self.old)))
+            (maybe_of (option_map T.shown result)) }
     {
-        member::optional(self.alloc, self.object, name)
+        if self.misfit.is_some() {
+            return None;
+        }
+        match member::optional(self.alloc, self.object, name) {
+            Ok(value) => value,
+            Err(misfit) => {
+                self.misfit = Some(misfit);
+                None
+            }
+        }
     }
 
     /// The same, but false is None too, and true is read as `{"valueSet": []}` is.
-    pub fn supported<T: Wire>(&self, name: &str) -> Result<Option<T>, Misfit>
-        ensures read { IfOk result
-            (λ o. read_supported (read T.shape) (get_member name.now (read_from self.now))
-            ≡ Some (maybe_of (option_map T.shown o))) }
-        ensures unfit { IsErrOf result Misfit.Unfit
-            → read_supported (read T.shape) (get_member name.now (read_from self.now)) ≡ None }
+    pub fn supported<T: Wire>(&mut self, name: &str) -> Option<T>
+        ensures { Takes self.old self.new
+            (read_supported (read T.shape) (get_member name.now (read_from self.old)))
+            (maybe_of (option_map T.shown result)) }
     {
-        member::supported(self.alloc, self.object, name)
+        if self.misfit.is_some() {
+            return None;
+        }
+        match member::supported(self.alloc, self.object, name) {
+            Ok(value) => value,
+            Err(misfit) => {
+                self.misfit = Some(misfit);
+                None
+            }
+        }
     }
 
     /// The member of that name, and an empty list where it is missing.
-    pub fn list_or_empty<T: Wire>(&self, name: &str) -> Result<Vec<T>, Misfit>
-        ensures read { IfOk result
-            (λ x. read_member or_empty (read (list T.shape))
-            (get_member name.now (read_from self.now)) ≡ Some (show_list T.shown x)) }
-        ensures unfit { IsErrOf result Misfit.Unfit
-            → read_member or_empty (read (list T.shape)) (get_member name.now (read_from self.now))
-            ≡ None }
+    pub fn list_or_empty<T: Wire>(&mut self, name: &str) -> Vec<T>
+        ensures { Takes self.old self.new
+            (read_member or_empty (read (list T.shape)) (get_member name.now (read_from self.old)))
+            (show_list T.shown result) }
     {
-        member::list_or_empty(self.alloc, self.object, name)
+        if self.misfit.is_some() {
+            return Vec::new(self.alloc);
+        }
+        match member::list_or_empty(self.alloc, self.object, name) {
+            Ok(value) => value,
+            Err(misfit) => {
+                self.misfit = Some(misfit);
+                Vec::new(self.alloc)
+            }
+        }
     }
 
     /// The member of that name, and false where it is missing.
-    pub fn truth_or_false(&self, name: &str) -> Result<bool, Misfit>
-        ensures read { IfOk result
-            (λ b. read_member or_false (read truth) (get_member name.now (read_from self.now))
-            ≡ Some (show_bool b)) }
-        ensures unfit { IsErrOf result Misfit.Unfit
-            → read_member or_false (read truth) (get_member name.now (read_from self.now)) ≡ None }
+    pub fn truth_or_false(&mut self, name: &str) -> bool
+        ensures { Takes self.old self.new
+            (read_member or_false (read truth) (get_member name.now (read_from self.old)))
+            (show_bool result) }
     {
-        member::truth_or_false(self.alloc, self.object, name)
+        if self.misfit.is_some() {
+            return false;
+        }
+        match member::truth_or_false(self.alloc, self.object, name) {
+            Ok(value) => value,
+            Err(misfit) => {
+                self.misfit = Some(misfit);
+                false
+            }
+        }
     }
 
     /// The members that are not named, as a map.
@@ -110,124 +146,165 @@ impl<'v> Reader<'v> {
     {
         map::rest(self.alloc, self.object, names)
     }
+
+    /// What was read of the object, or the first misfit that was met.
+    pub fn end<T: Drop>(self, read: T) -> Result<T, Misfit>
+        ensures value { IfOk result (λ x. x ≡ read) }
+        ensures fits { OnOk result (misfit_of self.entry ≡ None) }
+        ensures unfit { IsErrOf result Misfit.Unfit → misfit_of self.entry ≡ Some Misfit.Unfit }
+        ensures no_memory { IsErrOf result Misfit.NoMemory
+            → misfit_of self.entry ≡ Some Misfit.NoMemory }
+    {
+        match self.misfit {
+            None => Ok(read),
+            Some(misfit) => Err(misfit),
+        }
+    }
 }
 
-/// An object that is written, member by member.
+/// An object that is written, member by member. Want of memory is told at the end: from then on
+/// nothing more is written.
 #[derive(Drop)]
 pub struct Writer {
     alloc: Global,
     object: Map<String, Value>,
+    is_whole: bool,
 }
 
 impl Writer {
     /// An object with no member.
     pub fn new(alloc: Global) -> Writer
-        ensures { written_to result ≡ no_members }
+        ensures empty { written_to result ≡ no_members }
+        ensures whole { is_whole result ≡ true }
     {
         Writer {
             alloc,
             object: Map::new(alloc),
+            is_whole: true,
         }
     }
 
     /// The members of what is written for the value.
-    pub fn with_rest<T: Wire>(alloc: Global, value: &T) -> Result<Writer, NoMemory>
-        ensures ok { IfOk result
-            (λ w. written_to w ≡ members_in (write T.shape (T.shown value.now))) }
-        ensures of_shape { OnOk result (is_of T.shape (T.shown value.now) ≡ true) }
+    pub fn with_rest<T: Wire>(alloc: Global, value: &T) -> Writer
+        ensures written { is_whole result ≡ true
+            → written_to result ≡ members_in (write T.shape (T.shown value.now)) }
+        ensures of_shape { is_whole result ≡ true → is_of T.shape (T.shown value.now) ≡ true }
     {
-        Ok(Writer {
-            alloc,
-            object: flatten::members_written(alloc, value)?,
-        })
+        match flatten::members_written(alloc, value) {
+            Ok(object) => Writer {
+                alloc,
+                object,
+                is_whole: true,
+            },
+            Err(NoMemory) => Writer {
+                alloc,
+                object: Map::new(alloc),
+                is_whole: false,
+            },
+        }
     }
 
     /// Makes the member of that name the value.
-    pub fn field<T: Wire>(&mut self, name: &str, value: &T) -> Result<(), NoMemory>
-        ensures ok { OnOk result
-            (written_to self.new
-            ≡ with_member name.now (write T.shape (T.shown value.now)) (written_to self.old)) }
-        ensures of_shape { OnOk result (is_of T.shape (T.shown value.now) ≡ true) }
-        ensures err { OnErr result (written_to self.new ≡ written_to self.old) }
+    pub fn field<T: Wire>(&mut self, name: &str, value: &T)
+        ensures { Puts self.old self.new
+            (with_member name.now (write T.shape (T.shown value.now)) (written_to self.old))
+            (is_of T.shape (T.shown value.now)) }
     {
-        member::put(self.alloc, &mut self.object, name, value)
+        if self.is_whole {
+            self.is_whole = member::put(self.alloc, &mut self.object, name, value).is_ok();
+        }
     }
 
     /// The same for Some. None is left out.
-    pub fn optional<T: Wire>(&mut self, name: &str, value: &Option<T>) -> Result<(), NoMemory>
-        ensures ok { OnOk result
-            (written_to self.new
-            ≡ put_present name.now (write T.shape) (maybe_of (option_map T.shown value.now))
-            (written_to self.old)) }
-        ensures of_shape { OnOk result
-            (is_maybe (is_of T.shape) (maybe_of (option_map T.shown value.now)) ≡ true) }
-        ensures err { OnErr result (written_to self.new ≡ written_to self.old) }
+    pub fn optional<T: Wire>(&mut self, name: &str, value: &Option<T>)
+        ensures { Puts self.old self.new
+            (put_present name.now (write T.shape) (maybe_of (option_map T.shown value.now))
+            (written_to self.old))
+            (is_maybe (is_of T.shape) (maybe_of (option_map T.shown value.now))) }
     {
-        member::put_optional(self.alloc, &mut self.object, name, value)
+        if self.is_whole {
+            self.is_whole = member::put_optional(self.alloc, &mut self.object, name, value).is_ok();
+        }
     }
 
     /// The same for Some. None is null.
-    pub fn nullable<T: Wire>(&mut self, name: &str, value: &Option<T>) -> Result<(), NoMemory>
-        ensures ok { OnOk result
-            (written_to self.new
-            ≡ with_member name.now
+    pub fn nullable<T: Wire>(&mut self, name: &str, value: &Option<T>)
+        ensures { Puts self.old self.new
+            (with_member name.now
             (write_maybe (write T.shape) (maybe_of (option_map T.shown value.now)))
-            (written_to self.old)) }
-        ensures of_shape { OnOk result
-            (is_maybe (is_of T.shape) (maybe_of (option_map T.shown value.now)) ≡ true) }
-        ensures err { OnErr result (written_to self.new ≡ written_to self.old) }
+            (written_to self.old))
+            (is_maybe (is_of T.shape) (maybe_of (option_map T.shown value.now))) }
     {
-        member::put_nullable(self.alloc, &mut self.object, name, value)
+        if self.is_whole {
+            self.is_whole = member::put_nullable(self.alloc, &mut self.object, name, value).is_ok();
+        }
     }
 
     /// The same for a list. An empty one is left out.
-    pub fn unless_empty<T: Wire>(&mut self, name: &str, value: &Vec<T>) -> Result<(), NoMemory>
-        ensures ok { OnOk result
-            (written_to self.new
-            ≡ write_member name.now unless_empty (write (list T.shape))
-            (show_list T.shown value.now) (written_to self.old)) }
-        ensures of_shape { OnOk result (is_of (list T.shape) (show_list T.shown value.now) ≡ true) }
-        ensures err { OnErr result (written_to self.new ≡ written_to self.old) }
+    pub fn unless_empty<T: Wire>(&mut self, name: &str, value: &Vec<T>)
+        ensures { Puts self.old self.new
+            (write_member name.now unless_empty (write (list T.shape)) (show_list T.shown value.now)
+            (written_to self.old))
+            (is_of (list T.shape) (show_list T.shown value.now)) }
     {
-        member::put_unless_empty(self.alloc, &mut self.object, name, value)
+        if self.is_whole {
+            self.is_whole = member::put_unless_empty(
+                self.alloc,
+                &mut self.object,
+                name,
+                value,
+            ).is_ok();
+        }
     }
 
     /// The same for true. False is left out.
-    pub fn unless_false(&mut self, name: &str, value: bool) -> Result<(), NoMemory>
-        ensures ok { OnOk result
-            (written_to self.new
-            ≡ write_member name.now unless_false (write truth) (show_bool value)
-            (written_to self.old)) }
-        ensures err { OnErr result (written_to self.new ≡ written_to self.old) }
+    pub fn unless_false(&mut self, name: &str, value: bool)
+        ensures { Puts self.old self.new
+            (write_member name.now unless_false (write truth) (show_bool value)
+            (written_to self.old))
+            true }
     {
-        member::put_unless_false(self.alloc, &mut self.object, name, value)
+        if self.is_whole {
+            self.is_whole = member::put_unless_false(
+                self.alloc,
+                &mut self.object,
+                name,
+                value,
+            ).is_ok();
+        }
     }
 
-    /// Puts each member of what is written for the value. After `NoMemory` the object may have some
-    /// of them.
-    pub fn flat<T: Wire>(&mut self, value: &T) -> Result<(), NoMemory>
-        ensures ok { OnOk result
-            (written_to self.new
-            ≡ put_all (members_in (write T.shape (T.shown value.now))) (written_to self.old)) }
-        ensures of_shape { OnOk result (is_of T.shape (T.shown value.now) ≡ true) }
+    /// Puts each member of what is written for the value.
+    pub fn flat<T: Wire>(&mut self, value: &T)
+        ensures { Puts self.old self.new
+            (put_all (members_in (write T.shape (T.shown value.now))) (written_to self.old))
+            (is_of T.shape (T.shown value.now)) }
     {
-        flatten::put_flat(self.alloc, &mut self.object, value)
+        if self.is_whole {
+            self.is_whole = flatten::put_flat(self.alloc, &mut self.object, value).is_ok();
+        }
     }
 
     /// Makes the member of that name the text, which tells a variant.
-    pub fn tag(&mut self, name: &str, text: &str) -> Result<(), NoMemory>
-        ensures ok { OnOk result
-            (written_to self.new ≡ with_member name.now (string text.now) (written_to self.old)) }
-        ensures err { OnErr result (written_to self.new ≡ written_to self.old) }
+    pub fn tag(&mut self, name: &str, text: &str)
+        ensures { Puts self.old self.new
+            (with_member name.now (string text.now) (written_to self.old)) true }
     {
-        let text = Value::try_from_str(self.alloc, text)?;
-        member::put_value(self.alloc, &mut self.object, name, text)
+        if self.is_whole {
+            self.is_whole = member::put_text(self.alloc, &mut self.object, name, text).is_ok();
+        }
     }
 
-    /// The object.
-    pub fn end(self) -> Value
-        ensures { view result ≡ object_of (written_to self) }
+    /// The object. The one error is out of memory, in this call or an earlier one.
+    pub fn end(self) -> Result<Value, NoMemory>
+        ensures whole { OnOk result (is_whole self ≡ true) }
+        ensures written { IfOk result (λ v. view v ≡ object_of (written_to self)) }
+        ensures no_memory { is_whole self ≡ true → IsOk result }
     {
-        Value::Object(self.object)
+        if self.is_whole {
+            Ok(Value::Object(self.object))
+        } else {
+            Err(NoMemory)
+        }
     }
 }

@@ -38,10 +38,10 @@ impl Wire for FoldingRangeParams {
 
     fn to_value(&self, alloc: Global) -> Result<Value, NoMemory> {
         let mut object = Writer::new(alloc);
-        object.field("textDocument", &self.text_document)?;
-        object.flat(&self.work_done_progress_params)?;
-        object.flat(&self.partial_result_params)?;
-        Ok(object.end())
+        object.field("textDocument", &self.text_document);
+        object.flat(&self.work_done_progress_params);
+        object.flat(&self.partial_result_params);
+        object.end()
     }
 }
 
@@ -74,25 +74,26 @@ impl Wire for FoldingRange {
     ghost shown = { folding_range_row.shown };
 
     fn from_value(alloc: Global, value: &Value) -> Result<FoldingRange, Misfit> {
-        let object = Reader::new(alloc, value)?;
-        Ok(FoldingRange {
+        let mut object = Reader::new(alloc, value)?;
+        let read = FoldingRange {
             start_line: object.field("startLine")?,
-            start_character: object.optional("startCharacter")?,
+            start_character: object.optional("startCharacter"),
             end_line: object.field("endLine")?,
-            end_character: object.optional("endCharacter")?,
-            kind: object.optional("kind")?,
-            collapsed_text: object.optional("collapsedText")?,
-        })
+            end_character: object.optional("endCharacter"),
+            kind: object.optional("kind"),
+            collapsed_text: object.optional("collapsedText"),
+        };
+        object.end(read)
     }
 
     fn to_value(&self, alloc: Global) -> Result<Value, NoMemory> {
         let mut object = Writer::new(alloc);
-        object.field("startLine", &self.start_line)?;
-        object.optional("startCharacter", &self.start_character)?;
-        object.field("endLine", &self.end_line)?;
-        object.optional("endCharacter", &self.end_character)?;
-        object.optional("kind", &self.kind)?;
-        object.optional("collapsedText", &self.collapsed_text)?;
-        Ok(object.end())
+        object.field("startLine", &self.start_line);
+        object.optional("startCharacter", &self.start_character);
+        object.field("endLine", &self.end_line);
+        object.optional("endCharacter", &self.end_character);
+        object.optional("kind", &self.kind);
+        object.optional("collapsedText", &self.collapsed_text);
+        object.end()
     }
 }

@@ -38,10 +38,10 @@ impl Wire for DocumentFormattingParams {
 
     fn to_value(&self, alloc: Global) -> Result<Value, NoMemory> {
         let mut object = Writer::new(alloc);
-        object.field("textDocument", &self.text_document)?;
-        object.field("options", &self.options)?;
-        object.flat(&self.work_done_progress_params)?;
-        Ok(object.end())
+        object.field("textDocument", &self.text_document);
+        object.field("options", &self.options);
+        object.flat(&self.work_done_progress_params);
+        object.end()
     }
 }
 
@@ -92,8 +92,8 @@ impl Wire for FormattingOptions {
     ghost shown = { formatting_options_row.shown };
 
     fn from_value(alloc: Global, value: &Value) -> Result<FormattingOptions, Misfit> {
-        let object = Reader::new(alloc, value)?;
-        Ok(FormattingOptions {
+        let mut object = Reader::new(alloc, value)?;
+        let read = FormattingOptions {
             properties: object.rest(&[
                 "tabSize",
                 "insertSpaces",
@@ -103,20 +103,21 @@ impl Wire for FormattingOptions {
             ])?,
             tab_size: object.field("tabSize")?,
             insert_spaces: object.field("insertSpaces")?,
-            trim_trailing_whitespace: object.optional("trimTrailingWhitespace")?,
-            insert_final_newline: object.optional("insertFinalNewline")?,
-            trim_final_newlines: object.optional("trimFinalNewlines")?,
-        })
+            trim_trailing_whitespace: object.optional("trimTrailingWhitespace"),
+            insert_final_newline: object.optional("insertFinalNewline"),
+            trim_final_newlines: object.optional("trimFinalNewlines"),
+        };
+        object.end(read)
     }
 
     fn to_value(&self, alloc: Global) -> Result<Value, NoMemory> {
-        let mut object = Writer::with_rest(alloc, &self.properties)?;
-        object.field("tabSize", &self.tab_size)?;
-        object.field("insertSpaces", &self.insert_spaces)?;
-        object.optional("trimTrailingWhitespace", &self.trim_trailing_whitespace)?;
-        object.optional("insertFinalNewline", &self.insert_final_newline)?;
-        object.optional("trimFinalNewlines", &self.trim_final_newlines)?;
-        Ok(object.end())
+        let mut object = Writer::with_rest(alloc, &self.properties);
+        object.field("tabSize", &self.tab_size);
+        object.field("insertSpaces", &self.insert_spaces);
+        object.optional("trimTrailingWhitespace", &self.trim_trailing_whitespace);
+        object.optional("insertFinalNewline", &self.insert_final_newline);
+        object.optional("trimFinalNewlines", &self.trim_final_newlines);
+        object.end()
     }
 }
 
@@ -191,11 +192,11 @@ impl Wire for DocumentRangeFormattingParams {
 
     fn to_value(&self, alloc: Global) -> Result<Value, NoMemory> {
         let mut object = Writer::new(alloc);
-        object.field("textDocument", &self.text_document)?;
-        object.field("range", &self.range)?;
-        object.field("options", &self.options)?;
-        object.flat(&self.work_done_progress_params)?;
-        Ok(object.end())
+        object.field("textDocument", &self.text_document);
+        object.field("range", &self.range);
+        object.field("options", &self.options);
+        object.flat(&self.work_done_progress_params);
+        object.end()
     }
 }
 
@@ -231,9 +232,9 @@ impl Wire for DocumentOnTypeFormattingParams {
 
     fn to_value(&self, alloc: Global) -> Result<Value, NoMemory> {
         let mut object = Writer::new(alloc);
-        object.flat(&self.text_document_position)?;
-        object.field("ch", &self.ch)?;
-        object.field("options", &self.options)?;
-        Ok(object.end())
+        object.flat(&self.text_document_position);
+        object.field("ch", &self.ch);
+        object.field("options", &self.options);
+        object.end()
     }
 }

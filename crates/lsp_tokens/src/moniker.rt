@@ -36,10 +36,10 @@ impl Wire for MonikerParams {
 
     fn to_value(&self, alloc: Global) -> Result<Value, NoMemory> {
         let mut object = Writer::new(alloc);
-        object.flat(&self.text_document_position_params)?;
-        object.flat(&self.work_done_progress_params)?;
-        object.flat(&self.partial_result_params)?;
-        Ok(object.end())
+        object.flat(&self.text_document_position_params);
+        object.flat(&self.work_done_progress_params);
+        object.flat(&self.partial_result_params);
+        object.end()
     }
 }
 
@@ -66,22 +66,23 @@ impl Wire for Moniker {
     ghost shown = { moniker_row.shown };
 
     fn from_value(alloc: Global, value: &Value) -> Result<Moniker, Misfit> {
-        let object = Reader::new(alloc, value)?;
-        Ok(Moniker {
+        let mut object = Reader::new(alloc, value)?;
+        let read = Moniker {
             scheme: object.field("scheme")?,
             identifier: object.field("identifier")?,
             unique: object.field("unique")?,
-            kind: object.optional("kind")?,
-        })
+            kind: object.optional("kind"),
+        };
+        object.end(read)
     }
 
     fn to_value(&self, alloc: Global) -> Result<Value, NoMemory> {
         let mut object = Writer::new(alloc);
-        object.field("scheme", &self.scheme)?;
-        object.field("identifier", &self.identifier)?;
-        object.field("unique", &self.unique)?;
-        object.optional("kind", &self.kind)?;
-        Ok(object.end())
+        object.field("scheme", &self.scheme);
+        object.field("identifier", &self.identifier);
+        object.field("unique", &self.unique);
+        object.optional("kind", &self.kind);
+        object.end()
     }
 }
 

@@ -43,10 +43,10 @@ impl Wire for SemanticTokensParams {
 
     fn to_value(&self, alloc: Global) -> Result<Value, NoMemory> {
         let mut object = Writer::new(alloc);
-        object.flat(&self.work_done_progress_params)?;
-        object.flat(&self.partial_result_params)?;
-        object.field("textDocument", &self.text_document)?;
-        Ok(object.end())
+        object.flat(&self.work_done_progress_params);
+        object.flat(&self.partial_result_params);
+        object.field("textDocument", &self.text_document);
+        object.end()
     }
 }
 
@@ -86,11 +86,11 @@ impl Wire for SemanticTokensDeltaParams {
 
     fn to_value(&self, alloc: Global) -> Result<Value, NoMemory> {
         let mut object = Writer::new(alloc);
-        object.flat(&self.work_done_progress_params)?;
-        object.flat(&self.partial_result_params)?;
-        object.field("textDocument", &self.text_document)?;
-        object.field("previousResultId", &self.previous_result_id)?;
-        Ok(object.end())
+        object.flat(&self.work_done_progress_params);
+        object.flat(&self.partial_result_params);
+        object.field("textDocument", &self.text_document);
+        object.field("previousResultId", &self.previous_result_id);
+        object.end()
     }
 }
 
@@ -129,11 +129,11 @@ impl Wire for SemanticTokensRangeParams {
 
     fn to_value(&self, alloc: Global) -> Result<Value, NoMemory> {
         let mut object = Writer::new(alloc);
-        object.flat(&self.work_done_progress_params)?;
-        object.flat(&self.partial_result_params)?;
-        object.field("textDocument", &self.text_document)?;
-        object.field("range", &self.range)?;
-        Ok(object.end())
+        object.flat(&self.work_done_progress_params);
+        object.flat(&self.partial_result_params);
+        object.field("textDocument", &self.text_document);
+        object.field("range", &self.range);
+        object.end()
     }
 }
 
@@ -225,8 +225,8 @@ impl Wire for SemanticTokensFullDeltaResultPartialTokensDelta {
 
     fn to_value(&self, alloc: Global) -> Result<Value, NoMemory> {
         let mut object = Writer::new(alloc);
-        object.field("edits", &self.edits)?;
-        Ok(object.end())
+        object.field("edits", &self.edits);
+        object.end()
     }
 }
 
@@ -253,8 +253,8 @@ impl Wire for SemanticTokensFullDeltaResult {
             SemanticTokensFullDeltaResult::TokensDelta(delta) => delta.to_value(alloc),
             SemanticTokensFullDeltaResult::PartialTokensDelta { edits } => {
                 let mut object = Writer::new(alloc);
-                object.field("edits", edits)?;
-                Ok(object.end())
+                object.field("edits", edits);
+                object.end()
             }
         }
     }
@@ -308,18 +308,19 @@ impl Wire for SemanticTokensDelta {
     ghost shown = { semantic_tokens_delta_row.shown };
 
     fn from_value(alloc: Global, value: &Value) -> Result<SemanticTokensDelta, Misfit> {
-        let object = Reader::new(alloc, value)?;
-        Ok(SemanticTokensDelta {
-            result_id: object.optional("resultId")?,
+        let mut object = Reader::new(alloc, value)?;
+        let read = SemanticTokensDelta {
+            result_id: object.optional("resultId"),
             edits: object.field("edits")?,
-        })
+        };
+        object.end(read)
     }
 
     fn to_value(&self, alloc: Global) -> Result<Value, NoMemory> {
         let mut object = Writer::new(alloc);
-        object.optional("resultId", &self.result_id)?;
-        object.field("edits", &self.edits)?;
-        Ok(object.end())
+        object.optional("resultId", &self.result_id);
+        object.field("edits", &self.edits);
+        object.end()
     }
 }
 

@@ -44,11 +44,11 @@ impl Wire for SelectionRangeParams {
 
     fn to_value(&self, alloc: Global) -> Result<Value, NoMemory> {
         let mut object = Writer::new(alloc);
-        object.field("textDocument", &self.text_document)?;
-        object.field("positions", &self.positions)?;
-        object.flat(&self.work_done_progress_params)?;
-        object.flat(&self.partial_result_params)?;
-        Ok(object.end())
+        object.field("textDocument", &self.text_document);
+        object.field("positions", &self.positions);
+        object.flat(&self.work_done_progress_params);
+        object.flat(&self.partial_result_params);
+        object.end()
     }
 }
 
@@ -78,9 +78,9 @@ impl Wire for LinkedEditingRangeParams {
 
     fn to_value(&self, alloc: Global) -> Result<Value, NoMemory> {
         let mut object = Writer::new(alloc);
-        object.flat(&self.text_document_position_params)?;
-        object.flat(&self.work_done_progress_params)?;
-        Ok(object.end())
+        object.flat(&self.text_document_position_params);
+        object.flat(&self.work_done_progress_params);
+        object.end()
     }
 }
 
@@ -103,17 +103,18 @@ impl Wire for LinkedEditingRanges {
     ghost shown = { linked_editing_ranges_row.shown };
 
     fn from_value(alloc: Global, value: &Value) -> Result<LinkedEditingRanges, Misfit> {
-        let object = Reader::new(alloc, value)?;
-        Ok(LinkedEditingRanges {
+        let mut object = Reader::new(alloc, value)?;
+        let read = LinkedEditingRanges {
             ranges: object.field("ranges")?,
-            word_pattern: object.optional("wordPattern")?,
-        })
+            word_pattern: object.optional("wordPattern"),
+        };
+        object.end(read)
     }
 
     fn to_value(&self, alloc: Global) -> Result<Value, NoMemory> {
         let mut object = Writer::new(alloc);
-        object.field("ranges", &self.ranges)?;
-        object.optional("wordPattern", &self.word_pattern)?;
-        Ok(object.end())
+        object.field("ranges", &self.ranges);
+        object.optional("wordPattern", &self.word_pattern);
+        object.end()
     }
 }

@@ -29,20 +29,21 @@ impl Wire for SignatureHelpParams {
     ghost shown = { signature_help_params_row.shown };
 
     fn from_value(alloc: Global, value: &Value) -> Result<SignatureHelpParams, Misfit> {
-        let object = Reader::new(alloc, value)?;
-        Ok(SignatureHelpParams {
-            context: object.optional("context")?,
+        let mut object = Reader::new(alloc, value)?;
+        let read = SignatureHelpParams {
+            context: object.optional("context"),
             text_document_position_params: TextDocumentPositionParams::from_value(alloc, value)?,
             work_done_progress_params: WorkDoneProgressParams::from_value(alloc, value)?,
-        })
+        };
+        object.end(read)
     }
 
     fn to_value(&self, alloc: Global) -> Result<Value, NoMemory> {
         let mut object = Writer::new(alloc);
-        object.optional("context", &self.context)?;
-        object.flat(&self.text_document_position_params)?;
-        object.flat(&self.work_done_progress_params)?;
-        Ok(object.end())
+        object.optional("context", &self.context);
+        object.flat(&self.text_document_position_params);
+        object.flat(&self.work_done_progress_params);
+        object.end()
     }
 }
 
@@ -69,22 +70,23 @@ impl Wire for SignatureHelpContext {
     ghost shown = { signature_help_context_row.shown };
 
     fn from_value(alloc: Global, value: &Value) -> Result<SignatureHelpContext, Misfit> {
-        let object = Reader::new(alloc, value)?;
-        Ok(SignatureHelpContext {
+        let mut object = Reader::new(alloc, value)?;
+        let read = SignatureHelpContext {
             trigger_kind: object.field("triggerKind")?,
-            trigger_character: object.optional("triggerCharacter")?,
+            trigger_character: object.optional("triggerCharacter"),
             is_retrigger: object.field("isRetrigger")?,
-            active_signature_help: object.optional("activeSignatureHelp")?,
-        })
+            active_signature_help: object.optional("activeSignatureHelp"),
+        };
+        object.end(read)
     }
 
     fn to_value(&self, alloc: Global) -> Result<Value, NoMemory> {
         let mut object = Writer::new(alloc);
-        object.field("triggerKind", &self.trigger_kind)?;
-        object.optional("triggerCharacter", &self.trigger_character)?;
-        object.field("isRetrigger", &self.is_retrigger)?;
-        object.optional("activeSignatureHelp", &self.active_signature_help)?;
-        Ok(object.end())
+        object.field("triggerKind", &self.trigger_kind);
+        object.optional("triggerCharacter", &self.trigger_character);
+        object.field("isRetrigger", &self.is_retrigger);
+        object.optional("activeSignatureHelp", &self.active_signature_help);
+        object.end()
     }
 }
 
@@ -108,20 +110,21 @@ impl Wire for SignatureHelp {
     ghost shown = { signature_help_row.shown };
 
     fn from_value(alloc: Global, value: &Value) -> Result<SignatureHelp, Misfit> {
-        let object = Reader::new(alloc, value)?;
-        Ok(SignatureHelp {
+        let mut object = Reader::new(alloc, value)?;
+        let read = SignatureHelp {
             signatures: object.field("signatures")?,
-            active_signature: object.optional("activeSignature")?,
-            active_parameter: object.optional("activeParameter")?,
-        })
+            active_signature: object.optional("activeSignature"),
+            active_parameter: object.optional("activeParameter"),
+        };
+        object.end(read)
     }
 
     fn to_value(&self, alloc: Global) -> Result<Value, NoMemory> {
         let mut object = Writer::new(alloc);
-        object.field("signatures", &self.signatures)?;
-        object.optional("activeSignature", &self.active_signature)?;
-        object.optional("activeParameter", &self.active_parameter)?;
-        Ok(object.end())
+        object.field("signatures", &self.signatures);
+        object.optional("activeSignature", &self.active_signature);
+        object.optional("activeParameter", &self.active_parameter);
+        object.end()
     }
 }
 
@@ -147,22 +150,23 @@ impl Wire for SignatureInformation {
     ghost shown = { signature_information_row.shown };
 
     fn from_value(alloc: Global, value: &Value) -> Result<SignatureInformation, Misfit> {
-        let object = Reader::new(alloc, value)?;
-        Ok(SignatureInformation {
+        let mut object = Reader::new(alloc, value)?;
+        let read = SignatureInformation {
             label: object.field("label")?,
-            documentation: object.optional("documentation")?,
-            parameters: object.optional("parameters")?,
-            active_parameter: object.optional("activeParameter")?,
-        })
+            documentation: object.optional("documentation"),
+            parameters: object.optional("parameters"),
+            active_parameter: object.optional("activeParameter"),
+        };
+        object.end(read)
     }
 
     fn to_value(&self, alloc: Global) -> Result<Value, NoMemory> {
         let mut object = Writer::new(alloc);
-        object.field("label", &self.label)?;
-        object.optional("documentation", &self.documentation)?;
-        object.optional("parameters", &self.parameters)?;
-        object.optional("activeParameter", &self.active_parameter)?;
-        Ok(object.end())
+        object.field("label", &self.label);
+        object.optional("documentation", &self.documentation);
+        object.optional("parameters", &self.parameters);
+        object.optional("activeParameter", &self.active_parameter);
+        object.end()
     }
 }
 
@@ -183,18 +187,19 @@ impl Wire for ParameterInformation {
     ghost shown = { parameter_information_row.shown };
 
     fn from_value(alloc: Global, value: &Value) -> Result<ParameterInformation, Misfit> {
-        let object = Reader::new(alloc, value)?;
-        Ok(ParameterInformation {
+        let mut object = Reader::new(alloc, value)?;
+        let read = ParameterInformation {
             label: object.field("label")?,
-            documentation: object.optional("documentation")?,
-        })
+            documentation: object.optional("documentation"),
+        };
+        object.end(read)
     }
 
     fn to_value(&self, alloc: Global) -> Result<Value, NoMemory> {
         let mut object = Writer::new(alloc);
-        object.field("label", &self.label)?;
-        object.optional("documentation", &self.documentation)?;
-        Ok(object.end())
+        object.field("label", &self.label);
+        object.optional("documentation", &self.documentation);
+        object.end()
     }
 }
 

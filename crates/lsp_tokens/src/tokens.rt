@@ -132,18 +132,19 @@ impl Wire for SemanticTokens {
     ghost shown = { semantic_tokens_row.shown };
 
     fn from_value(alloc: Global, value: &Value) -> Result<SemanticTokens, Misfit> {
-        let object = Reader::new(alloc, value)?;
-        Ok(SemanticTokens {
-            result_id: object.optional("resultId")?,
+        let mut object = Reader::new(alloc, value)?;
+        let read = SemanticTokens {
+            result_id: object.optional("resultId"),
             payload: read_tokens(alloc, &object.field("data")?)?,
-        })
+        };
+        object.end(read)
     }
 
     fn to_value(&self, alloc: Global) -> Result<Value, NoMemory> {
         let mut object = Writer::new(alloc);
-        object.optional("resultId", &self.result_id)?;
-        object.field("data", &write_tokens(alloc, &self.payload)?)?;
-        Ok(object.end())
+        object.optional("resultId", &self.result_id);
+        object.field("data", &write_tokens(alloc, &self.payload)?);
+        object.end()
     }
 }
 
@@ -181,8 +182,8 @@ impl Wire for SemanticTokensPartialResult {
 
     fn to_value(&self, alloc: Global) -> Result<Value, NoMemory> {
         let mut object = Writer::new(alloc);
-        object.field("data", &write_tokens(alloc, &self.payload)?)?;
-        Ok(object.end())
+        object.field("data", &write_tokens(alloc, &self.payload)?);
+        object.end()
     }
 }
 
@@ -231,19 +232,20 @@ impl Wire for SemanticTokensEdit {
     ghost shown = { semantic_tokens_edit_row.shown };
 
     fn from_value(alloc: Global, value: &Value) -> Result<SemanticTokensEdit, Misfit> {
-        let object = Reader::new(alloc, value)?;
-        Ok(SemanticTokensEdit {
+        let mut object = Reader::new(alloc, value)?;
+        let read = SemanticTokensEdit {
             start: object.field("start")?,
             delete_count: object.field("deleteCount")?,
-            payload: read_inserted(alloc, &object.optional("data")?)?,
-        })
+            payload: read_inserted(alloc, &object.optional("data"))?,
+        };
+        object.end(read)
     }
 
     fn to_value(&self, alloc: Global) -> Result<Value, NoMemory> {
         let mut object = Writer::new(alloc);
-        object.field("start", &self.start)?;
-        object.field("deleteCount", &self.delete_count)?;
-        object.optional("data", &write_inserted(alloc, &self.payload)?)?;
-        Ok(object.end())
+        object.field("start", &self.start);
+        object.field("deleteCount", &self.delete_count);
+        object.optional("data", &write_inserted(alloc, &self.payload)?);
+        object.end()
     }
 }

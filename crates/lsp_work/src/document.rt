@@ -35,8 +35,8 @@ impl Wire for DidOpenTextDocumentParams {
 
     fn to_value(&self, alloc: Global) -> Result<Value, NoMemory> {
         let mut object = Writer::new(alloc);
-        object.field("textDocument", &self.text_document)?;
-        Ok(object.end())
+        object.field("textDocument", &self.text_document);
+        object.end()
     }
 }
 
@@ -66,9 +66,9 @@ impl Wire for DidChangeTextDocumentParams {
 
     fn to_value(&self, alloc: Global) -> Result<Value, NoMemory> {
         let mut object = Writer::new(alloc);
-        object.field("textDocument", &self.text_document)?;
-        object.field("contentChanges", &self.content_changes)?;
-        Ok(object.end())
+        object.field("textDocument", &self.text_document);
+        object.field("contentChanges", &self.content_changes);
+        object.end()
     }
 }
 
@@ -99,9 +99,9 @@ impl Wire for WillSaveTextDocumentParams {
 
     fn to_value(&self, alloc: Global) -> Result<Value, NoMemory> {
         let mut object = Writer::new(alloc);
-        object.field("textDocument", &self.text_document)?;
-        object.field("reason", &self.reason)?;
-        Ok(object.end())
+        object.field("textDocument", &self.text_document);
+        object.field("reason", &self.reason);
+        object.end()
     }
 }
 
@@ -122,18 +122,19 @@ impl Wire for DidSaveTextDocumentParams {
     ghost shown = { did_save_text_document_params_row.shown };
 
     fn from_value(alloc: Global, value: &Value) -> Result<DidSaveTextDocumentParams, Misfit> {
-        let object = Reader::new(alloc, value)?;
-        Ok(DidSaveTextDocumentParams {
+        let mut object = Reader::new(alloc, value)?;
+        let read = DidSaveTextDocumentParams {
             text_document: object.field("textDocument")?,
-            text: object.optional("text")?,
-        })
+            text: object.optional("text"),
+        };
+        object.end(read)
     }
 
     fn to_value(&self, alloc: Global) -> Result<Value, NoMemory> {
         let mut object = Writer::new(alloc);
-        object.field("textDocument", &self.text_document)?;
-        object.optional("text", &self.text)?;
-        Ok(object.end())
+        object.field("textDocument", &self.text_document);
+        object.optional("text", &self.text);
+        object.end()
     }
 }
 
@@ -160,8 +161,8 @@ impl Wire for DidCloseTextDocumentParams {
 
     fn to_value(&self, alloc: Global) -> Result<Value, NoMemory> {
         let mut object = Writer::new(alloc);
-        object.field("textDocument", &self.text_document)?;
-        Ok(object.end())
+        object.field("textDocument", &self.text_document);
+        object.end()
     }
 }
 
@@ -201,19 +202,20 @@ impl Wire for PublishDiagnosticsParams {
     ghost shown = { publish_diagnostics_params_row.shown };
 
     fn from_value(alloc: Global, value: &Value) -> Result<PublishDiagnosticsParams, Misfit> {
-        let object = Reader::new(alloc, value)?;
-        Ok(PublishDiagnosticsParams {
+        let mut object = Reader::new(alloc, value)?;
+        let read = PublishDiagnosticsParams {
             uri: object.field("uri")?,
             diagnostics: object.field("diagnostics")?,
-            version: object.optional("version")?,
-        })
+            version: object.optional("version"),
+        };
+        object.end(read)
     }
 
     fn to_value(&self, alloc: Global) -> Result<Value, NoMemory> {
         let mut object = Writer::new(alloc);
-        object.field("uri", &self.uri)?;
-        object.field("diagnostics", &self.diagnostics)?;
-        object.optional("version", &self.version)?;
-        Ok(object.end())
+        object.field("uri", &self.uri);
+        object.field("diagnostics", &self.diagnostics);
+        object.optional("version", &self.version);
+        object.end()
     }
 }

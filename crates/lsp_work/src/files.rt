@@ -42,8 +42,8 @@ impl Wire for CreateFilesParams {
 
     fn to_value(&self, alloc: Global) -> Result<Value, NoMemory> {
         let mut object = Writer::new(alloc);
-        object.field("files", &self.files)?;
-        Ok(object.end())
+        object.field("files", &self.files);
+        object.end()
     }
 }
 
@@ -82,8 +82,8 @@ impl Wire for FileCreate {
 
     fn to_value(&self, alloc: Global) -> Result<Value, NoMemory> {
         let mut object = Writer::new(alloc);
-        object.field("uri", &self.uri)?;
-        Ok(object.end())
+        object.field("uri", &self.uri);
+        object.end()
     }
 }
 
@@ -123,8 +123,8 @@ impl Wire for RenameFilesParams {
 
     fn to_value(&self, alloc: Global) -> Result<Value, NoMemory> {
         let mut object = Writer::new(alloc);
-        object.field("files", &self.files)?;
-        Ok(object.end())
+        object.field("files", &self.files);
+        object.end()
     }
 }
 
@@ -168,9 +168,9 @@ impl Wire for FileRename {
 
     fn to_value(&self, alloc: Global) -> Result<Value, NoMemory> {
         let mut object = Writer::new(alloc);
-        object.field("oldUri", &self.old_uri)?;
-        object.field("newUri", &self.new_uri)?;
-        Ok(object.end())
+        object.field("oldUri", &self.old_uri);
+        object.field("newUri", &self.new_uri);
+        object.end()
     }
 }
 
@@ -210,8 +210,8 @@ impl Wire for DeleteFilesParams {
 
     fn to_value(&self, alloc: Global) -> Result<Value, NoMemory> {
         let mut object = Writer::new(alloc);
-        object.field("files", &self.files)?;
-        Ok(object.end())
+        object.field("files", &self.files);
+        object.end()
     }
 }
 
@@ -250,7 +250,7 @@ impl Wire for FileDelete {
 
     fn to_value(&self, alloc: Global) -> Result<Value, NoMemory> {
         let mut object = Writer::new(alloc);
-        object.field("uri", &self.uri)?;
-        Ok(object.end())
+        object.field("uri", &self.uri);
+        object.end()
     }
 }

@@ -34,9 +34,9 @@ impl Wire for ProgressParams {
 
     fn to_value(&self, alloc: Global) -> Result<Value, NoMemory> {
         let mut object = Writer::new(alloc);
-        object.field("token", &self.token)?;
-        object.field("value", &self.value)?;
-        Ok(object.end())
+        object.field("token", &self.token);
+        object.field("value", &self.value);
+        object.end()
     }
 }
 
@@ -146,22 +146,23 @@ impl Wire for WorkDoneProgressBegin {
     ghost shown = { work_done_progress_begin_row.shown };
 
     fn from_value(alloc: Global, value: &Value) -> Result<WorkDoneProgressBegin, Misfit> {
-        let object = Reader::new(alloc, value)?;
-        Ok(WorkDoneProgressBegin {
+        let mut object = Reader::new(alloc, value)?;
+        let read = WorkDoneProgressBegin {
             title: object.field("title")?,
-            cancellable: object.optional("cancellable")?,
-            message: object.optional("message")?,
-            percentage: object.optional("percentage")?,
-        })
+            cancellable: object.optional("cancellable"),
+            message: object.optional("message"),
+            percentage: object.optional("percentage"),
+        };
+        object.end(read)
     }
 
     fn to_value(&self, alloc: Global) -> Result<Value, NoMemory> {
         let mut object = Writer::new(alloc);
-        object.field("title", &self.title)?;
-        object.optional("cancellable", &self.cancellable)?;
-        object.optional("message", &self.message)?;
-        object.optional("percentage", &self.percentage)?;
-        Ok(object.end())
+        object.field("title", &self.title);
+        object.optional("cancellable", &self.cancellable);
+        object.optional("message", &self.message);
+        object.optional("percentage", &self.percentage);
+        object.end()
     }
 }
 
@@ -184,20 +185,21 @@ impl Wire for WorkDoneProgressReport {
     ghost shown = { work_done_progress_report_row.shown };
 
     fn from_value(alloc: Global, value: &Value) -> Result<WorkDoneProgressReport, Misfit> {
-        let object = Reader::new(alloc, value)?;
-        Ok(WorkDoneProgressReport {
-            cancellable: object.optional("cancellable")?,
-            message: object.optional("message")?,
-            percentage: object.optional("percentage")?,
-        })
+        let mut object = Reader::new(alloc, value)?;
+        let read = WorkDoneProgressReport {
+            cancellable: object.optional("cancellable"),
+            message: object.optional("message"),
+            percentage: object.optional("percentage"),
+        };
+        object.end(read)
     }
 
     fn to_value(&self, alloc: Global) -> Result<Value, NoMemory> {
         let mut object = Writer::new(alloc);
-        object.optional("cancellable", &self.cancellable)?;
-        object.optional("message", &self.message)?;
-        object.optional("percentage", &self.percentage)?;
-        Ok(object.end())
+        object.optional("cancellable", &self.cancellable);
+        object.optional("message", &self.message);
+        object.optional("percentage", &self.percentage);
+        object.end()
     }
 }
 
@@ -216,16 +218,17 @@ impl Wire for WorkDoneProgressEnd {
     ghost shown = { work_done_progress_end_row.shown };
 
     fn from_value(alloc: Global, value: &Value) -> Result<WorkDoneProgressEnd, Misfit> {
-        let object = Reader::new(alloc, value)?;
-        Ok(WorkDoneProgressEnd {
-            message: object.optional("message")?,
-        })
+        let mut object = Reader::new(alloc, value)?;
+        let read = WorkDoneProgressEnd {
+            message: object.optional("message"),
+        };
+        object.end(read)
     }
 
     fn to_value(&self, alloc: Global) -> Result<Value, NoMemory> {
         let mut object = Writer::new(alloc);
-        object.optional("message", &self.message)?;
-        Ok(object.end())
+        object.optional("message", &self.message);
+        object.end()
     }
 }
 
@@ -254,8 +257,8 @@ impl Wire for WorkDoneProgressCreateParams {
 
     fn to_value(&self, alloc: Global) -> Result<Value, NoMemory> {
         let mut object = Writer::new(alloc);
-        object.field("token", &self.token)?;
-        Ok(object.end())
+        object.field("token", &self.token);
+        object.end()
     }
 }
 
@@ -283,7 +286,7 @@ impl Wire for WorkDoneProgressCancelParams {
 
     fn to_value(&self, alloc: Global) -> Result<Value, NoMemory> {
         let mut object = Writer::new(alloc);
-        object.field("token", &self.token)?;
-        Ok(object.end())
+        object.field("token", &self.token);
+        object.end()
     }
 }

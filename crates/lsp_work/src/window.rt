@@ -37,9 +37,9 @@ impl Wire for ShowMessageParams {
 
     fn to_value(&self, alloc: Global) -> Result<Value, NoMemory> {
         let mut object = Writer::new(alloc);
-        object.field("type", &self.typ)?;
-        object.field("message", &self.message)?;
-        Ok(object.end())
+        object.field("type", &self.typ);
+        object.field("message", &self.message);
+        object.end()
     }
 }
 
@@ -63,20 +63,21 @@ impl Wire for ShowMessageRequestParams {
     ghost shown = { show_message_request_params_row.shown };
 
     fn from_value(alloc: Global, value: &Value) -> Result<ShowMessageRequestParams, Misfit> {
-        let object = Reader::new(alloc, value)?;
-        Ok(ShowMessageRequestParams {
+        let mut object = Reader::new(alloc, value)?;
+        let read = ShowMessageRequestParams {
             typ: object.field("type")?,
             message: object.field("message")?,
-            actions: object.optional("actions")?,
-        })
+            actions: object.optional("actions"),
+        };
+        object.end(read)
     }
 
     fn to_value(&self, alloc: Global) -> Result<Value, NoMemory> {
         let mut object = Writer::new(alloc);
-        object.field("type", &self.typ)?;
-        object.field("message", &self.message)?;
-        object.optional("actions", &self.actions)?;
-        Ok(object.end())
+        object.field("type", &self.typ);
+        object.field("message", &self.message);
+        object.optional("actions", &self.actions);
+        object.end()
     }
 }
 
@@ -106,9 +107,9 @@ impl Wire for MessageActionItem {
     }
 
     fn to_value(&self, alloc: Global) -> Result<Value, NoMemory> {
-        let mut object = Writer::with_rest(alloc, &self.properties)?;
-        object.field("title", &self.title)?;
-        Ok(object.end())
+        let mut object = Writer::with_rest(alloc, &self.properties);
+        object.field("title", &self.title);
+        object.end()
     }
 }
 
@@ -182,9 +183,9 @@ impl Wire for LogMessageParams {
 
     fn to_value(&self, alloc: Global) -> Result<Value, NoMemory> {
         let mut object = Writer::new(alloc);
-        object.field("type", &self.typ)?;
-        object.field("message", &self.message)?;
-        Ok(object.end())
+        object.field("type", &self.typ);
+        object.field("message", &self.message);
+        object.end()
     }
 }
 
@@ -212,22 +213,23 @@ impl Wire for ShowDocumentParams {
     ghost shown = { show_document_params_row.shown };
 
     fn from_value(alloc: Global, value: &Value) -> Result<ShowDocumentParams, Misfit> {
-        let object = Reader::new(alloc, value)?;
-        Ok(ShowDocumentParams {
+        let mut object = Reader::new(alloc, value)?;
+        let read = ShowDocumentParams {
             uri: object.field("uri")?,
-            external: object.optional("external")?,
-            take_focus: object.optional("takeFocus")?,
-            selection: object.optional("selection")?,
-        })
+            external: object.optional("external"),
+            take_focus: object.optional("takeFocus"),
+            selection: object.optional("selection"),
+        };
+        object.end(read)
     }
 
     fn to_value(&self, alloc: Global) -> Result<Value, NoMemory> {
         let mut object = Writer::new(alloc);
-        object.field("uri", &self.uri)?;
-        object.optional("external", &self.external)?;
-        object.optional("takeFocus", &self.take_focus)?;
-        object.optional("selection", &self.selection)?;
-        Ok(object.end())
+        object.field("uri", &self.uri);
+        object.optional("external", &self.external);
+        object.optional("takeFocus", &self.take_focus);
+        object.optional("selection", &self.selection);
+        object.end()
     }
 }
 
@@ -253,8 +255,8 @@ impl Wire for ShowDocumentResult {
 
     fn to_value(&self, alloc: Global) -> Result<Value, NoMemory> {
         let mut object = Writer::new(alloc);
-        object.field("success", &self.success)?;
-        Ok(object.end())
+        object.field("success", &self.success);
+        object.end()
     }
 }
 
@@ -281,8 +283,8 @@ impl Wire for SetTraceParams {
 
     fn to_value(&self, alloc: Global) -> Result<Value, NoMemory> {
         let mut object = Writer::new(alloc);
-        object.field("value", &self.value)?;
-        Ok(object.end())
+        object.field("value", &self.value);
+        object.end()
     }
 }
 
@@ -303,17 +305,18 @@ impl Wire for LogTraceParams {
     ghost shown = { log_trace_params_row.shown };
 
     fn from_value(alloc: Global, value: &Value) -> Result<LogTraceParams, Misfit> {
-        let object = Reader::new(alloc, value)?;
-        Ok(LogTraceParams {
+        let mut object = Reader::new(alloc, value)?;
+        let read = LogTraceParams {
             message: object.field("message")?,
-            verbose: object.optional("verbose")?,
-        })
+            verbose: object.optional("verbose"),
+        };
+        object.end(read)
     }
 
     fn to_value(&self, alloc: Global) -> Result<Value, NoMemory> {
         let mut object = Writer::new(alloc);
-        object.field("message", &self.message)?;
-        object.optional("verbose", &self.verbose)?;
-        Ok(object.end())
+        object.field("message", &self.message);
+        object.optional("verbose", &self.verbose);
+        object.end()
     }
 }

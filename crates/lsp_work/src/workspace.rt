@@ -32,8 +32,8 @@ impl Wire for DidChangeConfigurationParams {
 
     fn to_value(&self, alloc: Global) -> Result<Value, NoMemory> {
         let mut object = Writer::new(alloc);
-        object.field("settings", &self.settings)?;
-        Ok(object.end())
+        object.field("settings", &self.settings);
+        object.end()
     }
 }
 
@@ -73,8 +73,8 @@ impl Wire for ConfigurationParams {
 
     fn to_value(&self, alloc: Global) -> Result<Value, NoMemory> {
         let mut object = Writer::new(alloc);
-        object.field("items", &self.items)?;
-        Ok(object.end())
+        object.field("items", &self.items);
+        object.end()
     }
 }
 
@@ -95,18 +95,19 @@ impl Wire for ConfigurationItem {
     ghost shown = { configuration_item_row.shown };
 
     fn from_value(alloc: Global, value: &Value) -> Result<ConfigurationItem, Misfit> {
-        let object = Reader::new(alloc, value)?;
-        Ok(ConfigurationItem {
-            scope_uri: object.optional("scopeUri")?,
-            section: object.optional("section")?,
-        })
+        let mut object = Reader::new(alloc, value)?;
+        let read = ConfigurationItem {
+            scope_uri: object.optional("scopeUri"),
+            section: object.optional("section"),
+        };
+        object.end(read)
     }
 
     fn to_value(&self, alloc: Global) -> Result<Value, NoMemory> {
         let mut object = Writer::new(alloc);
-        object.optional("scopeUri", &self.scope_uri)?;
-        object.optional("section", &self.section)?;
-        Ok(object.end())
+        object.optional("scopeUri", &self.scope_uri);
+        object.optional("section", &self.section);
+        object.end()
     }
 }
 
@@ -133,8 +134,8 @@ impl Wire for DidChangeWatchedFilesParams {
 
     fn to_value(&self, alloc: Global) -> Result<Value, NoMemory> {
         let mut object = Writer::new(alloc);
-        object.field("changes", &self.changes)?;
-        Ok(object.end())
+        object.field("changes", &self.changes);
+        object.end()
     }
 }
 
@@ -172,9 +173,9 @@ impl Wire for FileEvent {
 
     fn to_value(&self, alloc: Global) -> Result<Value, NoMemory> {
         let mut object = Writer::new(alloc);
-        object.field("uri", &self.uri)?;
-        object.field("type", &self.typ)?;
-        Ok(object.end())
+        object.field("uri", &self.uri);
+        object.field("type", &self.typ);
+        object.end()
     }
 }
 
@@ -213,8 +214,8 @@ impl Wire for DidChangeWorkspaceFoldersParams {
 
     fn to_value(&self, alloc: Global) -> Result<Value, NoMemory> {
         let mut object = Writer::new(alloc);
-        object.field("event", &self.event)?;
-        Ok(object.end())
+        object.field("event", &self.event);
+        object.end()
     }
 }
 
@@ -257,9 +258,9 @@ impl Wire for WorkspaceFoldersChangeEvent {
 
     fn to_value(&self, alloc: Global) -> Result<Value, NoMemory> {
         let mut object = Writer::new(alloc);
-        object.field("added", &self.added)?;
-        object.field("removed", &self.removed)?;
-        Ok(object.end())
+        object.field("added", &self.added);
+        object.field("removed", &self.removed);
+        object.end()
     }
 }
 
@@ -300,20 +301,21 @@ impl Wire for ExecuteCommandParams {
     ghost shown = { execute_command_params_row.shown };
 
     fn from_value(alloc: Global, value: &Value) -> Result<ExecuteCommandParams, Misfit> {
-        let object = Reader::new(alloc, value)?;
-        Ok(ExecuteCommandParams {
+        let mut object = Reader::new(alloc, value)?;
+        let read = ExecuteCommandParams {
             command: object.field("command")?,
-            arguments: object.list_or_empty("arguments")?,
+            arguments: object.list_or_empty("arguments"),
             work_done_progress_params: WorkDoneProgressParams::from_value(alloc, value)?,
-        })
+        };
+        object.end(read)
     }
 
     fn to_value(&self, alloc: Global) -> Result<Value, NoMemory> {
         let mut object = Writer::new(alloc);
-        object.field("command", &self.command)?;
-        object.field("arguments", &self.arguments)?;
-        object.flat(&self.work_done_progress_params)?;
-        Ok(object.end())
+        object.field("command", &self.command);
+        object.field("arguments", &self.arguments);
+        object.flat(&self.work_done_progress_params);
+        object.end()
     }
 }
 
@@ -334,18 +336,19 @@ impl Wire for ApplyWorkspaceEditParams {
     ghost shown = { apply_workspace_edit_params_row.shown };
 
     fn from_value(alloc: Global, value: &Value) -> Result<ApplyWorkspaceEditParams, Misfit> {
-        let object = Reader::new(alloc, value)?;
-        Ok(ApplyWorkspaceEditParams {
-            label: object.optional("label")?,
+        let mut object = Reader::new(alloc, value)?;
+        let read = ApplyWorkspaceEditParams {
+            label: object.optional("label"),
             edit: object.field("edit")?,
-        })
+        };
+        object.end(read)
     }
 
     fn to_value(&self, alloc: Global) -> Result<Value, NoMemory> {
         let mut object = Writer::new(alloc);
-        object.optional("label", &self.label)?;
-        object.field("edit", &self.edit)?;
-        Ok(object.end())
+        object.optional("label", &self.label);
+        object.field("edit", &self.edit);
+        object.end()
     }
 }
 
@@ -369,19 +372,20 @@ impl Wire for ApplyWorkspaceEditResponse {
     ghost shown = { apply_workspace_edit_response_row.shown };
 
     fn from_value(alloc: Global, value: &Value) -> Result<ApplyWorkspaceEditResponse, Misfit> {
-        let object = Reader::new(alloc, value)?;
-        Ok(ApplyWorkspaceEditResponse {
+        let mut object = Reader::new(alloc, value)?;
+        let read = ApplyWorkspaceEditResponse {
             applied: object.field("applied")?,
-            failure_reason: object.optional("failureReason")?,
-            failed_change: object.optional("failedChange")?,
-        })
+            failure_reason: object.optional("failureReason"),
+            failed_change: object.optional("failedChange"),
+        };
+        object.end(read)
     }
 
     fn to_value(&self, alloc: Global) -> Result<Value, NoMemory> {
         let mut object = Writer::new(alloc);
-        object.field("applied", &self.applied)?;
-        object.optional("failureReason", &self.failure_reason)?;
-        object.optional("failedChange", &self.failed_change)?;
-        Ok(object.end())
+        object.field("applied", &self.applied);
+        object.optional("failureReason", &self.failure_reason);
+        object.optional("failedChange", &self.failed_change);
+        object.end()
     }
 }

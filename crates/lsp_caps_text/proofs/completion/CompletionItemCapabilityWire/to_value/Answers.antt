@@ -1,28 +1,34 @@
-use Rattle.std.proofs.Common.{◌∙◌, ap, refl}
-use Rattle.serde_json.specs.Data.{object}
-use Rattle.lsp_shape.specs.Object.{written_to}
+use Rattle.std.proofs.Common.{rules, refl, ◌≡◌, true, Bool}
+use Rattle.serde_json.specs.View.{view}
+use Rattle.lsp_shape.specs.Object.{is_whole, written_to}
 use Rattle.lsp_shape.specs.Plain.{no_parts}
 use Rattle.lsp_shape.specs.Shape.{no_fields}
-use Rattle.lsp_shape.specs.Write.{write_fields, writes_null}
-use Rattle.lsp_shape.proofs.Parts.{put_step}
+use Rattle.lsp_shape.proofs.Parts.{Writes, both_ok, record_written, record_of_shape, writes_member, writes_end}
 use Rattle.lsp_caps_text.specs.Completion.{completion_item_capability_row, completion_item_capability_fields}
 use Rattle.lsp_caps_text.proofs.completion.CompletionItemCapabilityWire.to_value.Goals as goal
 
+-- line by line
+lines : (c : goal.After-end) → is_whole c.optional-10.new.self ≡ true → Writes (written_to c.optional-10.new.self) c.new-object.result (completion_item_capability_fields.row no_fields) (completion_item_capability_fields.shown c.args.self.now no_parts)
+unfolding completion_item_capability_fields
+lines c whole =
+    writes_member c.optional.new.self c.optional.ensures (
+    writes_member c.optional-2.new.self c.optional-2.ensures (
+    writes_member c.optional-3.new.self c.optional-3.ensures (
+    writes_member c.optional-4.new.self c.optional-4.ensures (
+    writes_member c.optional-5.new.self c.optional-5.ensures (
+    writes_member c.optional-6.new.self c.optional-6.ensures (
+    writes_member c.optional-7.new.self c.optional-7.ensures (
+    writes_member c.optional-8.new.self c.optional-8.ensures (
+    writes_member c.optional-9.new.self c.optional-9.ensures (
+    writes_member c.optional-10.new.self c.optional-10.ensures (
+    writes_end c.optional-10.new.self whole))))))))))
+
 pub returns-clause-written : goal.returns-clause-written
 unfolding completion_item_capability_row completion_item_capability_fields
-returns-clause-written c =
-    let fs = completion_item_capability_fields.row no_fields in
-    let ps = completion_item_capability_fields.shown c.args.self.now no_parts in
-    let last = written_to c.optional-10.new.self in
-    c.end.ensures ∙ ap object (
-    put_step 0 fs ps last (written_to c.optional.new.self) (written_to c.new-object.result) c.in_ok-optional.ensures.ok (
-    put_step 1 fs ps last (written_to c.optional-2.new.self) (written_to c.optional.new.self) c.in_ok-optional-2.ensures.ok (
-    put_step 2 fs ps last (written_to c.optional-3.new.self) (written_to c.optional-2.new.self) c.in_ok-optional-3.ensures.ok (
-    put_step 3 fs ps last (written_to c.optional-4.new.self) (written_to c.optional-3.new.self) c.in_ok-optional-4.ensures.ok (
-    put_step 4 fs ps last (written_to c.optional-5.new.self) (written_to c.optional-4.new.self) c.in_ok-optional-5.ensures.ok (
-    put_step 5 fs ps last (written_to c.optional-6.new.self) (written_to c.optional-5.new.self) c.in_ok-optional-6.ensures.ok (
-    put_step 6 fs ps last (written_to c.optional-7.new.self) (written_to c.optional-6.new.self) c.in_ok-optional-7.ensures.ok (
-    put_step 7 fs ps last (written_to c.optional-8.new.self) (written_to c.optional-7.new.self) c.in_ok-optional-8.ensures.ok (
-    put_step 8 fs ps last (written_to c.optional-9.new.self) (written_to c.optional-8.new.self) c.in_ok-optional-9.ensures.ok (
-    put_step 9 fs ps last (written_to c.optional-10.new.self) (written_to c.optional-9.new.self) c.in_ok-optional-10.ensures.ok (
-    refl)))))))))) ∙ ap (write_fields fs writes_null ps) c.new-object.ensures)
+returns-clause-written c = both_ok _ _ c.end.result c.end.ensures.written c.end.ensures.whole (λ v written whole.
+    record_written (written_to c.optional-10.new.self) c.new-object.result (view v) written c.new-object.ensures.empty (lines c whole))
+
+pub returns-clause-of_shape : goal.returns-clause-of_shape
+unfolding completion_item_capability_row completion_item_capability_fields
+returns-clause-of_shape c = both_ok _ _ c.end.result c.end.ensures.written c.end.ensures.whole (λ v written whole.
+    record_of_shape {fs = completion_item_capability_fields.row no_fields} refl (lines c whole))

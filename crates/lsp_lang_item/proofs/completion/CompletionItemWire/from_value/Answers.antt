@@ -1,104 +1,56 @@
-use Rattle.std.proofs.Common.{rules, refl}
+use Rattle.std.proofs.Common.{rules, ◌≡◌}
+use Rattle.std.specs.Prelude.{Result, Ok, Err, IfOk, IsOk}
 use Rattle.serde_json.specs.View.{view}
-use Rattle.lsp_shape.specs.Shape.{Fields, no_fields}
-use Rattle.lsp_shape.proofs.Parts.{and_part-Some, fields_some, fields_none_at}
+use Rattle.lsp_shape.specs.Plain.{no_parts}
+use Rattle.lsp_shape.specs.Shape.{no_fields}
+use Rattle.lsp_shape.proofs.Parts.{when_ok, record_read, reads_end, reads_member, reads_required, record_unread, unread_end, unread_member, unread_required}
 use Rattle.lsp_lang_item.specs.Completion.{completion_item_row, completion_item_fields}
 use Rattle.lsp_lang_item.proofs.completion.CompletionItemWire.from_value.Goals as goal
 
-abbrev fs : Fields
-fs = completion_item_fields.row no_fields
-
-pub returns-in_err-field-clause-unfit : goal.returns-in_err-field-clause-unfit
-unfolding completion_item_row completion_item_fields
-returns-in_err-field-clause-unfit c = λ h. fields_none_at 0 fs (view c.args.value.now) _ c.in_ok-object.ensures.ok (c.in_err-field.ensures.unfit (search rules))
-
-pub returns-in_err-optional-clause-unfit : goal.returns-in_err-optional-clause-unfit
-unfolding completion_item_row completion_item_fields
-returns-in_err-optional-clause-unfit c = λ h. fields_none_at 1 fs (view c.args.value.now) _ c.in_ok-object.ensures.ok (c.in_err-optional.ensures.unfit (search rules))
-
-pub returns-in_err-optional-2-clause-unfit : goal.returns-in_err-optional-2-clause-unfit
-unfolding completion_item_row completion_item_fields
-returns-in_err-optional-2-clause-unfit c = λ h. fields_none_at 2 fs (view c.args.value.now) _ c.in_ok-object.ensures.ok (c.in_err-optional-2.ensures.unfit (search rules))
-
-pub returns-in_err-optional-3-clause-unfit : goal.returns-in_err-optional-3-clause-unfit
-unfolding completion_item_row completion_item_fields
-returns-in_err-optional-3-clause-unfit c = λ h. fields_none_at 3 fs (view c.args.value.now) _ c.in_ok-object.ensures.ok (c.in_err-optional-3.ensures.unfit (search rules))
-
-pub returns-in_err-optional-4-clause-unfit : goal.returns-in_err-optional-4-clause-unfit
-unfolding completion_item_row completion_item_fields
-returns-in_err-optional-4-clause-unfit c = λ h. fields_none_at 4 fs (view c.args.value.now) _ c.in_ok-object.ensures.ok (c.in_err-optional-4.ensures.unfit (search rules))
-
-pub returns-in_err-optional-5-clause-unfit : goal.returns-in_err-optional-5-clause-unfit
-unfolding completion_item_row completion_item_fields
-returns-in_err-optional-5-clause-unfit c = λ h. fields_none_at 5 fs (view c.args.value.now) _ c.in_ok-object.ensures.ok (c.in_err-optional-5.ensures.unfit (search rules))
-
-pub returns-in_err-optional-6-clause-unfit : goal.returns-in_err-optional-6-clause-unfit
-unfolding completion_item_row completion_item_fields
-returns-in_err-optional-6-clause-unfit c = λ h. fields_none_at 6 fs (view c.args.value.now) _ c.in_ok-object.ensures.ok (c.in_err-optional-6.ensures.unfit (search rules))
-
-pub returns-in_err-optional-7-clause-unfit : goal.returns-in_err-optional-7-clause-unfit
-unfolding completion_item_row completion_item_fields
-returns-in_err-optional-7-clause-unfit c = λ h. fields_none_at 7 fs (view c.args.value.now) _ c.in_ok-object.ensures.ok (c.in_err-optional-7.ensures.unfit (search rules))
-
-pub returns-in_err-optional-8-clause-unfit : goal.returns-in_err-optional-8-clause-unfit
-unfolding completion_item_row completion_item_fields
-returns-in_err-optional-8-clause-unfit c = λ h. fields_none_at 8 fs (view c.args.value.now) _ c.in_ok-object.ensures.ok (c.in_err-optional-8.ensures.unfit (search rules))
-
-pub returns-in_err-optional-9-clause-unfit : goal.returns-in_err-optional-9-clause-unfit
-unfolding completion_item_row completion_item_fields
-returns-in_err-optional-9-clause-unfit c = λ h. fields_none_at 9 fs (view c.args.value.now) _ c.in_ok-object.ensures.ok (c.in_err-optional-9.ensures.unfit (search rules))
-
-pub returns-in_err-optional-10-clause-unfit : goal.returns-in_err-optional-10-clause-unfit
-unfolding completion_item_row completion_item_fields
-returns-in_err-optional-10-clause-unfit c = λ h. fields_none_at 10 fs (view c.args.value.now) _ c.in_ok-object.ensures.ok (c.in_err-optional-10.ensures.unfit (search rules))
-
-pub returns-in_err-optional-11-clause-unfit : goal.returns-in_err-optional-11-clause-unfit
-unfolding completion_item_row completion_item_fields
-returns-in_err-optional-11-clause-unfit c = λ h. fields_none_at 11 fs (view c.args.value.now) _ c.in_ok-object.ensures.ok (c.in_err-optional-11.ensures.unfit (search rules))
-
-pub returns-in_err-optional-12-clause-unfit : goal.returns-in_err-optional-12-clause-unfit
-unfolding completion_item_row completion_item_fields
-returns-in_err-optional-12-clause-unfit c = λ h. fields_none_at 12 fs (view c.args.value.now) _ c.in_ok-object.ensures.ok (c.in_err-optional-12.ensures.unfit (search rules))
-
-pub returns-in_err-optional-13-clause-unfit : goal.returns-in_err-optional-13-clause-unfit
-unfolding completion_item_row completion_item_fields
-returns-in_err-optional-13-clause-unfit c = λ h. fields_none_at 13 fs (view c.args.value.now) _ c.in_ok-object.ensures.ok (c.in_err-optional-13.ensures.unfit (search rules))
-
-pub returns-in_err-optional-14-clause-unfit : goal.returns-in_err-optional-14-clause-unfit
-unfolding completion_item_row completion_item_fields
-returns-in_err-optional-14-clause-unfit c = λ h. fields_none_at 14 fs (view c.args.value.now) _ c.in_ok-object.ensures.ok (c.in_err-optional-14.ensures.unfit (search rules))
-
-pub returns-in_err-optional-15-clause-unfit : goal.returns-in_err-optional-15-clause-unfit
-unfolding completion_item_row completion_item_fields
-returns-in_err-optional-15-clause-unfit c = λ h. fields_none_at 15 fs (view c.args.value.now) _ c.in_ok-object.ensures.ok (c.in_err-optional-15.ensures.unfit (search rules))
-
-pub returns-in_err-optional-16-clause-unfit : goal.returns-in_err-optional-16-clause-unfit
-unfolding completion_item_row completion_item_fields
-returns-in_err-optional-16-clause-unfit c = λ h. fields_none_at 16 fs (view c.args.value.now) _ c.in_ok-object.ensures.ok (c.in_err-optional-16.ensures.unfit (search rules))
-
-pub returns-in_err-optional-17-clause-unfit : goal.returns-in_err-optional-17-clause-unfit
-unfolding completion_item_row completion_item_fields
-returns-in_err-optional-17-clause-unfit c = λ h. fields_none_at 17 fs (view c.args.value.now) _ c.in_ok-object.ensures.ok (c.in_err-optional-17.ensures.unfit (search rules))
-
 pub returns-clause-read : goal.returns-clause-read
 unfolding completion_item_row completion_item_fields
-returns-clause-read c = fields_some fs (view c.args.value.now) _ _ c.in_ok-object.ensures.ok (
-    and_part-Some c.in_ok-field.ensures.read (
-    and_part-Some c.in_ok-optional.ensures.read (
-    and_part-Some c.in_ok-optional-2.ensures.read (
-    and_part-Some c.in_ok-optional-3.ensures.read (
-    and_part-Some c.in_ok-optional-4.ensures.read (
-    and_part-Some c.in_ok-optional-5.ensures.read (
-    and_part-Some c.in_ok-optional-6.ensures.read (
-    and_part-Some c.in_ok-optional-7.ensures.read (
-    and_part-Some c.in_ok-optional-8.ensures.read (
-    and_part-Some c.in_ok-optional-9.ensures.read (
-    and_part-Some c.in_ok-optional-10.ensures.read (
-    and_part-Some c.in_ok-optional-11.ensures.read (
-    and_part-Some c.in_ok-optional-12.ensures.read (
-    and_part-Some c.in_ok-optional-13.ensures.read (
-    and_part-Some c.in_ok-optional-14.ensures.read (
-    and_part-Some c.in_ok-optional-15.ensures.read (
-    and_part-Some c.in_ok-optional-16.ensures.read (
-    and_part-Some c.in_ok-optional-17.ensures.read (
-    refl)))))))))))))))))))
+returns-clause-read c = when_ok _ c.end.result c.end.ensures.value c.end.ensures.fits (λ fits.
+    record_read (completion_item_fields.row no_fields) _ c.in_ok-object.object (view c.args.value.now) c.in_ok-object.ensures.ok (
+    reads_required c.in_ok-field.ensures.read (
+    reads_member c.optional.new.self c.optional.ensures (
+    reads_member c.optional-2.new.self c.optional-2.ensures (
+    reads_member c.optional-3.new.self c.optional-3.ensures (
+    reads_member c.optional-4.new.self c.optional-4.ensures (
+    reads_member c.optional-5.new.self c.optional-5.ensures (
+    reads_member c.optional-6.new.self c.optional-6.ensures (
+    reads_member c.optional-7.new.self c.optional-7.ensures (
+    reads_member c.optional-8.new.self c.optional-8.ensures (
+    reads_member c.optional-9.new.self c.optional-9.ensures (
+    reads_member c.optional-10.new.self c.optional-10.ensures (
+    reads_member c.optional-11.new.self c.optional-11.ensures (
+    reads_member c.optional-12.new.self c.optional-12.ensures (
+    reads_member c.optional-13.new.self c.optional-13.ensures (
+    reads_member c.optional-14.new.self c.optional-14.ensures (
+    reads_member c.optional-15.new.self c.optional-15.ensures (
+    reads_member c.optional-16.new.self c.optional-16.ensures (
+    reads_member c.optional-17.new.self c.optional-17.ensures (
+    reads_end c.optional-17.new.self fits))))))))))))))))))))
+
+pub returns-clause-unfit : goal.returns-clause-unfit
+unfolding completion_item_row completion_item_fields
+returns-clause-unfit c = λ unfit.
+    record_unread (completion_item_fields.row no_fields) c.in_ok-object.object (view c.args.value.now) c.in_ok-object.ensures.ok c.in_ok-object.ensures.fits (
+    unread_required (
+    unread_member c.optional.new.self c.optional.ensures (
+    unread_member c.optional-2.new.self c.optional-2.ensures (
+    unread_member c.optional-3.new.self c.optional-3.ensures (
+    unread_member c.optional-4.new.self c.optional-4.ensures (
+    unread_member c.optional-5.new.self c.optional-5.ensures (
+    unread_member c.optional-6.new.self c.optional-6.ensures (
+    unread_member c.optional-7.new.self c.optional-7.ensures (
+    unread_member c.optional-8.new.self c.optional-8.ensures (
+    unread_member c.optional-9.new.self c.optional-9.ensures (
+    unread_member c.optional-10.new.self c.optional-10.ensures (
+    unread_member c.optional-11.new.self c.optional-11.ensures (
+    unread_member c.optional-12.new.self c.optional-12.ensures (
+    unread_member c.optional-13.new.self c.optional-13.ensures (
+    unread_member c.optional-14.new.self c.optional-14.ensures (
+    unread_member c.optional-15.new.self c.optional-15.ensures (
+    unread_member c.optional-16.new.self c.optional-16.ensures (
+    unread_member c.optional-17.new.self c.optional-17.ensures (
+    unread_end c.optional-17.new.self (c.end.ensures.unfit unfit))))))))))))))))))))

@@ -1,52 +1,58 @@
-use Rattle.std.proofs.Common.{◌∙◌, ap, refl}
-use Rattle.serde_json.specs.Data.{object}
-use Rattle.lsp_shape.specs.Object.{written_to}
+use Rattle.std.proofs.Common.{rules, refl, ◌≡◌, true, Bool}
+use Rattle.serde_json.specs.View.{view}
+use Rattle.lsp_shape.specs.Object.{is_whole, written_to}
 use Rattle.lsp_shape.specs.Plain.{no_parts}
 use Rattle.lsp_shape.specs.Shape.{no_fields}
-use Rattle.lsp_shape.specs.Write.{write_fields, writes_null}
-use Rattle.lsp_shape.proofs.Parts.{put_step}
+use Rattle.lsp_shape.proofs.Parts.{Writes, both_ok, record_written, record_of_shape, writes_member, writes_end}
 use Rattle.lsp_methods.specs.Server.{server_capabilities_row, server_capabilities_fields}
 use Rattle.lsp_methods.proofs.server.ServerCapabilitiesWire.to_value.Goals as goal
 
+-- line by line
+lines : (c : goal.After-end) → is_whole c.optional-34.new.self ≡ true → Writes (written_to c.optional-34.new.self) c.new-object.result (server_capabilities_fields.row no_fields) (server_capabilities_fields.shown c.args.self.now no_parts)
+unfolding server_capabilities_fields
+lines c whole =
+    writes_member c.optional.new.self c.optional.ensures (
+    writes_member c.optional-2.new.self c.optional-2.ensures (
+    writes_member c.optional-3.new.self c.optional-3.ensures (
+    writes_member c.optional-4.new.self c.optional-4.ensures (
+    writes_member c.optional-5.new.self c.optional-5.ensures (
+    writes_member c.optional-6.new.self c.optional-6.ensures (
+    writes_member c.optional-7.new.self c.optional-7.ensures (
+    writes_member c.optional-8.new.self c.optional-8.ensures (
+    writes_member c.optional-9.new.self c.optional-9.ensures (
+    writes_member c.optional-10.new.self c.optional-10.ensures (
+    writes_member c.optional-11.new.self c.optional-11.ensures (
+    writes_member c.optional-12.new.self c.optional-12.ensures (
+    writes_member c.optional-13.new.self c.optional-13.ensures (
+    writes_member c.optional-14.new.self c.optional-14.ensures (
+    writes_member c.optional-15.new.self c.optional-15.ensures (
+    writes_member c.optional-16.new.self c.optional-16.ensures (
+    writes_member c.optional-17.new.self c.optional-17.ensures (
+    writes_member c.optional-18.new.self c.optional-18.ensures (
+    writes_member c.optional-19.new.self c.optional-19.ensures (
+    writes_member c.optional-20.new.self c.optional-20.ensures (
+    writes_member c.optional-21.new.self c.optional-21.ensures (
+    writes_member c.optional-22.new.self c.optional-22.ensures (
+    writes_member c.optional-23.new.self c.optional-23.ensures (
+    writes_member c.optional-24.new.self c.optional-24.ensures (
+    writes_member c.optional-25.new.self c.optional-25.ensures (
+    writes_member c.optional-26.new.self c.optional-26.ensures (
+    writes_member c.optional-27.new.self c.optional-27.ensures (
+    writes_member c.optional-28.new.self c.optional-28.ensures (
+    writes_member c.optional-29.new.self c.optional-29.ensures (
+    writes_member c.optional-30.new.self c.optional-30.ensures (
+    writes_member c.optional-31.new.self c.optional-31.ensures (
+    writes_member c.optional-32.new.self c.optional-32.ensures (
+    writes_member c.optional-33.new.self c.optional-33.ensures (
+    writes_member c.optional-34.new.self c.optional-34.ensures (
+    writes_end c.optional-34.new.self whole))))))))))))))))))))))))))))))))))
+
 pub returns-clause-written : goal.returns-clause-written
 unfolding server_capabilities_row server_capabilities_fields
-returns-clause-written c =
-    let fs = server_capabilities_fields.row no_fields in
-    let ps = server_capabilities_fields.shown c.args.self.now no_parts in
-    let last = written_to c.optional-34.new.self in
-    c.end.ensures ∙ ap object (
-    put_step 0 fs ps last (written_to c.optional.new.self) (written_to c.new-object.result) c.in_ok-optional.ensures.ok (
-    put_step 1 fs ps last (written_to c.optional-2.new.self) (written_to c.optional.new.self) c.in_ok-optional-2.ensures.ok (
-    put_step 2 fs ps last (written_to c.optional-3.new.self) (written_to c.optional-2.new.self) c.in_ok-optional-3.ensures.ok (
-    put_step 3 fs ps last (written_to c.optional-4.new.self) (written_to c.optional-3.new.self) c.in_ok-optional-4.ensures.ok (
-    put_step 4 fs ps last (written_to c.optional-5.new.self) (written_to c.optional-4.new.self) c.in_ok-optional-5.ensures.ok (
-    put_step 5 fs ps last (written_to c.optional-6.new.self) (written_to c.optional-5.new.self) c.in_ok-optional-6.ensures.ok (
-    put_step 6 fs ps last (written_to c.optional-7.new.self) (written_to c.optional-6.new.self) c.in_ok-optional-7.ensures.ok (
-    put_step 7 fs ps last (written_to c.optional-8.new.self) (written_to c.optional-7.new.self) c.in_ok-optional-8.ensures.ok (
-    put_step 8 fs ps last (written_to c.optional-9.new.self) (written_to c.optional-8.new.self) c.in_ok-optional-9.ensures.ok (
-    put_step 9 fs ps last (written_to c.optional-10.new.self) (written_to c.optional-9.new.self) c.in_ok-optional-10.ensures.ok (
-    put_step 10 fs ps last (written_to c.optional-11.new.self) (written_to c.optional-10.new.self) c.in_ok-optional-11.ensures.ok (
-    put_step 11 fs ps last (written_to c.optional-12.new.self) (written_to c.optional-11.new.self) c.in_ok-optional-12.ensures.ok (
-    put_step 12 fs ps last (written_to c.optional-13.new.self) (written_to c.optional-12.new.self) c.in_ok-optional-13.ensures.ok (
-    put_step 13 fs ps last (written_to c.optional-14.new.self) (written_to c.optional-13.new.self) c.in_ok-optional-14.ensures.ok (
-    put_step 14 fs ps last (written_to c.optional-15.new.self) (written_to c.optional-14.new.self) c.in_ok-optional-15.ensures.ok (
-    put_step 15 fs ps last (written_to c.optional-16.new.self) (written_to c.optional-15.new.self) c.in_ok-optional-16.ensures.ok (
-    put_step 16 fs ps last (written_to c.optional-17.new.self) (written_to c.optional-16.new.self) c.in_ok-optional-17.ensures.ok (
-    put_step 17 fs ps last (written_to c.optional-18.new.self) (written_to c.optional-17.new.self) c.in_ok-optional-18.ensures.ok (
-    put_step 18 fs ps last (written_to c.optional-19.new.self) (written_to c.optional-18.new.self) c.in_ok-optional-19.ensures.ok (
-    put_step 19 fs ps last (written_to c.optional-20.new.self) (written_to c.optional-19.new.self) c.in_ok-optional-20.ensures.ok (
-    put_step 20 fs ps last (written_to c.optional-21.new.self) (written_to c.optional-20.new.self) c.in_ok-optional-21.ensures.ok (
-    put_step 21 fs ps last (written_to c.optional-22.new.self) (written_to c.optional-21.new.self) c.in_ok-optional-22.ensures.ok (
-    put_step 22 fs ps last (written_to c.optional-23.new.self) (written_to c.optional-22.new.self) c.in_ok-optional-23.ensures.ok (
-    put_step 23 fs ps last (written_to c.optional-24.new.self) (written_to c.optional-23.new.self) c.in_ok-optional-24.ensures.ok (
-    put_step 24 fs ps last (written_to c.optional-25.new.self) (written_to c.optional-24.new.self) c.in_ok-optional-25.ensures.ok (
-    put_step 25 fs ps last (written_to c.optional-26.new.self) (written_to c.optional-25.new.self) c.in_ok-optional-26.ensures.ok (
-    put_step 26 fs ps last (written_to c.optional-27.new.self) (written_to c.optional-26.new.self) c.in_ok-optional-27.ensures.ok (
-    put_step 27 fs ps last (written_to c.optional-28.new.self) (written_to c.optional-27.new.self) c.in_ok-optional-28.ensures.ok (
-    put_step 28 fs ps last (written_to c.optional-29.new.self) (written_to c.optional-28.new.self) c.in_ok-optional-29.ensures.ok (
-    put_step 29 fs ps last (written_to c.optional-30.new.self) (written_to c.optional-29.new.self) c.in_ok-optional-30.ensures.ok (
-    put_step 30 fs ps last (written_to c.optional-31.new.self) (written_to c.optional-30.new.self) c.in_ok-optional-31.ensures.ok (
-    put_step 31 fs ps last (written_to c.optional-32.new.self) (written_to c.optional-31.new.self) c.in_ok-optional-32.ensures.ok (
-    put_step 32 fs ps last (written_to c.optional-33.new.self) (written_to c.optional-32.new.self) c.in_ok-optional-33.ensures.ok (
-    put_step 33 fs ps last (written_to c.optional-34.new.self) (written_to c.optional-33.new.self) c.in_ok-optional-34.ensures.ok (
-    refl)))))))))))))))))))))))))))))))))) ∙ ap (write_fields fs writes_null ps) c.new-object.ensures)
+returns-clause-written c = both_ok _ _ c.end.result c.end.ensures.written c.end.ensures.whole (λ v written whole.
+    record_written (written_to c.optional-34.new.self) c.new-object.result (view v) written c.new-object.ensures.empty (lines c whole))
+
+pub returns-clause-of_shape : goal.returns-clause-of_shape
+unfolding server_capabilities_row server_capabilities_fields
+returns-clause-of_shape c = both_ok _ _ c.end.result c.end.ensures.written c.end.ensures.whole (λ v written whole.
+    record_of_shape {fs = server_capabilities_fields.row no_fields} refl (lines c whole))
