@@ -278,7 +278,7 @@ elif renew; then
 else
   unlock
   [ ! "$only_build" ] || exit 69
-  if is_whole || works "$built"; then
+  if is_whole || { is_there && works "$built"; }; then
     say 'serving what was built before'
   elif works "$crate/out/$program"; then
     say 'serving what rt built before'

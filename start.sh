@@ -3,9 +3,9 @@
 # folder with a slash at its end. The crate is the one of that name, or where there is one, that with
 # _main after its name.
 #
-# Before the program's words may stand, in any order and once each: --stdio, which is passed over;
+# Before the program's arguments may stand, in any order and once each: --stdio, which is dropped;
 # --wait, which waits for a build; --build, which only builds. --help and --version stand alone. Where
-# the words are none of the program's forms, its usage goes to standard error, and the status is 2.
+# the arguments are none of the program's forms, its usage goes to standard error, and the status is 2.
 #
 # What is served stands in .built/, where no build comes near it; build.sh says how it comes there.
 # All that is said goes to standard error. The status is the program's, or 69 where there is none.
@@ -26,7 +26,7 @@ say() {
   (trap '' PIPE && echo "$name: $*" >&2)
 }
 
-# ---- The words.
+# ---- The arguments.
 
 # Whether a number is written in digits alone, and lies between the second and the third.
 is_between() {
@@ -41,7 +41,7 @@ is_at_most() {
   [ "${#1}" -lt "${#2}" ] || { [ "${#1}" -eq "${#2}" ] && [ ! "$1" \> "$2" ]; }
 }
 
-# Whether the words after the first are what the first asks for, word by word.
+# Whether the arguments after the first are what the first asks for, part by part.
 is_of_form() {
   parts=$1
   shift
@@ -56,9 +56,9 @@ is_of_form() {
   [ $# -eq 0 ]
 }
 
-# Whether the words are one of the forms in the crate's file of that name: one a line, with LOW..HIGH
-# for a number. The program itself tells its forms only by its status, once it has ended; a row of
-# .ci/start tries on it that the file says the same.
+# Whether the arguments are one of the forms in the crate's file of that name: one a line, an empty one
+# for none, with LOW..HIGH for a number. The program itself tells its forms only by its status, once it
+# has ended; a row of .ci/start tries on it that the file says the same.
 are_a_form() {
   [ -r "$crate/forms" ] || return 0
   while read -r form; do
@@ -69,7 +69,7 @@ are_a_form() {
 
 tell_usage() {
   [ ! -r "$crate/usage" ] || cat "$crate/usage"
-  echo 'Before these words --stdio is passed over, --wait waits for a build, and --build only builds;'
+  echo 'Before these arguments --stdio is dropped, --wait waits for a build, and --build only builds;'
   echo '--help and --version stand alone.'
 }
 
@@ -134,8 +134,8 @@ while :; do
   shift
 done
 case $#$1 in
-  1-h | 1--help) tell_usage && exit ;;
-  1--version) tell_version && exit ;;
+  1-h | 1--help) tell_usage; exit 0 ;;
+  1--version) tell_version; exit 0 ;;
 esac
 if [ "$only_build" ] && [ $# -eq 0 ]; then
   :
