@@ -56,24 +56,33 @@ sum_sources() {
 
 # Sets $crates and $now, the sum of what they are, and notes the time before that.
 look() {
-  true 2>/dev/null >"$time"
+  { true >"$time"; } 2>/dev/null
   crates=
   seen=
   add_crate "$program"
   now=$(sum_sources)
 }
 
-# Whether the program is there as it was built, whatever its sources are by now.
+# Whether the program is there as it was built, whatever its sources are by now. Where its note is lost,
+# its stored run tells.
 is_whole() {
-  is_there && read_made && [ "$program_sum" = "$(cksum <"$built")" ]
+  is_there || return
+  read_made
+  if [ "$program_sum" ]; then
+    [ "$program_sum" = "$(cksum <"$built")" ]
+  else
+    works "$built"
+  fi
 }
 
 is_same() {
   is_whole && [ "$sum" = "$now" ]
 }
 
+# Whether rt has refused just these sources before, which is said.
 was_refused() {
-  [ -r "$built.failed" ] && read -r failed <"$built.failed" && [ "$failed" = "$now" ]
+  [ -r "$built.failed" ] && read -r failed <"$built.failed" && [ "$failed" = "$now" ] || return
+  say "rt has refused these sources; $built.log says why. To try again change one, or remove $built.failed"
 }
 
 # ---- One build at a time, of any program.
@@ -165,8 +174,10 @@ tell_failure() {
     say "rt refused $each (status $1)"
     [ "$now" != "$(sum_sources)" ] || echo "$now" >"$built.failed"
   fi
-  say "the last that rt said, of $built.log:"
-  tail -n 15 "$built.log" >&2
+  if [ ! /dev/fd/2 -ef "$built.log" ]; then
+    say "the last that rt said, of $built.log:"
+    tail -n 15 "$built.log" >&2
+  fi
 }
 
 # Proves and builds each crate, and says which is begun.
@@ -233,7 +244,6 @@ renew() {
       touch -r "$time" "$built" "$built.made"
       return
     elif was_refused; then
-      say "rt has refused these sources; $built.log says why. To try again change one, or remove $built.failed"
       return 1
     elif build_crates; then
       [ "$now" != "$(sum_sources)" ] || { install; return; }
@@ -266,9 +276,7 @@ look
 if is_same; then
   keep_dates
 elif is_whole && [ ! "$wait$only_build" ]; then
-  if was_refused; then
-    say "serving what was built before: rt has refused these sources; $built.log says why. To try again change one, or remove $built.failed"
-  elif find_obstacle; then
+  if was_refused || find_obstacle; then
     say 'serving what was built before'
   else
     build_behind
