@@ -1,174 +1,150 @@
-# Starts a program of this repository over standard input and output, with the arguments given. It is
-# read by a script that is named as the program is, lsp_sample or lsp_proxy, and that sets $name, and
-# $root, the path of this folder with a slash at its end. The crate is the one of that name, or where
-# there is one, that with _main after its name.
+# Starts a program of this repository over standard input and output. It is read by a script that is
+# named as the program is, lsp_sample or lsp_proxy, and that sets $name, and $root, the path of this
+# folder with a slash at its end. The crate is the one of that name, or where there is one, that with
+# _main after its name.
 #
-# What is served stands in .built/, where no build comes near it. Where a source of the crate or of the
-# crates below it is newer, these are proved and built first; the new program takes the old one's place
-# once the crate's stored run (its files args, stdin, stdout and status) has gone through it. Where it
-# can't be built, what was built before is served. All that is said goes to standard error. The status
-# is the program's, or 69 where there is none to start.
+# Before the program's arguments may stand, in any order and once each: --stdio, which is dropped;
+# --wait, which waits for a build; --build, which only builds. --help and --version stand alone. Where
+# the arguments are none of the program's forms, its usage goes to standard error, and the status is 2.
+#
+# What is served stands in .built/, where no build comes near it; build.sh says how it comes there.
+# All that is said goes to standard error. The status is the program's, or 69 where there is none.
 [ -e /dev/fd/2 ] || exec 2>/dev/null
+case $root in
+  /*) ;;
+  *) root=$PWD/${root#./} ;;
+esac
 
 program=$name
 [ ! -d "${root}crates/${name}_main" ] || program=${name}_main
 crate=${root}crates/$program
 built=${root}.built/$name
+set -f
 
+# Whoever reads standard error may have gone, which is no reason to end.
 say() {
-  echo "$name: $*" >&2
+  (trap '' PIPE && echo "$name: $*" >&2)
 }
 
-# Whether the folder, or anything in it, is newer than the file $against.
-has_newer() {
-  [ "$1" -nt "$against" ] && return
-  for found in "$1"/*; do
-    case $found in
-      *.rt | *.antt) [ "$found" -nt "$against" ] && return ;;
-      *) [ -d "$found" ] && has_newer "$found" && return ;;
+# ---- The arguments.
+
+# Whether a number is written in digits alone, and lies between the second and the third.
+is_between() {
+  case $1 in '' | *[!0-9]*) return 1 ;; esac
+  number=${1#"${1%%[!0]*}"}
+  number=${number:-0}
+  is_at_most "$2" "$number" && is_at_most "$number" "$3"
+}
+
+# Whether a number is at most the second. They may be too large to be counted with.
+is_at_most() {
+  [ "${#1}" -lt "${#2}" ] || { [ "${#1}" -eq "${#2}" ] && [ ! "$1" \> "$2" ]; }
+}
+
+# Whether the arguments after the first are what the first asks for, part by part.
+is_of_form() {
+  parts=$1
+  shift
+  for part in $parts; do
+    [ $# -gt 0 ] || return
+    case $part in
+      *..*) is_between "$1" "${part%..*}" "${part#*..}" || return ;;
+      *) [ "$1" = "$part" ] || return ;;
     esac
+    shift
   done
+  [ $# -eq 0 ]
+}
+
+# Whether the arguments are one of the forms in the crate's file of that name: one a line, an empty one
+# for none, with LOW..HIGH for a number. The program itself tells its forms only by its status, once it
+# has ended; a row of .ci/start tries on it that the file says the same.
+are_a_form() {
+  [ -r "$crate/forms" ] || return 0
+  while read -r form; do
+    is_of_form "$form" "$@" && return
+  done <"$crate/forms"
   return 1
 }
 
-# Whether a source of these crates is newer than the file.
-is_older() {
-  against=$1
-  [ "${root}crates.txt" -nt "$against" ] && return
-  for each in $crates; do
-    for part in src specs proofs; do
-      has_newer "${root}crates/$each/$part" && return
-    done
-  done
-  return 1
+tell_usage() {
+  [ ! -r "$crate/usage" ] || cat "$crate/usage"
+  echo 'Before these arguments --stdio is dropped, --wait waits for a build, and --build only builds;'
+  echo '--help and --version stand alone.'
 }
 
+# One line: the project's version, and the kit's, or what the kit was when the program was built.
+tell_version() {
+  version=
+  [ ! -r "${root}VERSION" ] || read -r version <"${root}VERSION"
+  read_made
+  now=$(timeout -k 1 5 rt version 2>/dev/null | head -n 1)
+  echo "$name ${version:-unknown}, ${now:-${kit:-unknown}}"
+}
+
+# ---- What is built.
+
+# Sets what was noted as the program was built: $kit, $program_sum, $sources and $sum.
+read_made() {
+  sources='' sum='' program_sum='' kit=''
+  [ -r "$built.made" ] && command . "$built.made" 2>/dev/null
+}
+
+# Whether there is a file at $built that may be run. An empty one would run, and do nothing.
+is_there() {
+  [ -f "$built" ] && [ -s "$built" ] && [ -x "$built" ]
+}
+
+# Whether the dates alone tell that $built is what the sources are. $built and its note have one date,
+# before which the sources were read; where that is ahead of the clock it tells nothing.
 is_ready() {
-  [ -x "$built" ] && [ -r "$built.crates" ] && read -r crates <"$built.crates" && ! is_older "$built"
-}
-
-case $1 in
-  -h | --help) [ ! -r "$crate/usage" ] || cat "$crate/usage" >&2 ;;
-esac
-if is_ready; then
-  exec "$built" "$@"
-fi
-
-# ---- The program has to be built.
-
-# The crate, and the crates of this repository on which it stands.
-find_crates() {
-  crates=$program
-  grown=yes
-  while [ "$grown" ]; do
-    grown=
-    while IFS=: read -r head tail; do
-      case " $crates " in *" ${head%% *} "*) ;; *) continue ;; esac
-      for below in $tail; do
-        case " $crates " in *" $below "*) continue ;; esac
-        if [ -d "${root}crates/$below" ]; then
-          crates="$crates $below"
-          grown=yes
-        fi
-      done
-    done <"${root}crates.txt"
-  done
-}
-
-# Runs a command on the crate's stored run.
-with_stored_run() {
-  if [ -r "$crate/args" ]; then
-    while read -r word || [ "$word" ]; do
-      set -- "$@" "$word"
-    done <"$crate/args"
-  fi
-  if [ -r "$crate/stdin" ]; then
-    "$@" <"$crate/stdin"
-  else
-    "$@" </dev/null
-  fi
-}
-
-stored_status() {
-  status=0
-  [ ! -r "$crate/status" ] || read -r status <"$crate/status"
-  echo "${status:-0}"
-}
-
-# Whether the program answers the stored run as it should.
-works() {
-  answer=$(mktemp) || return
-  with_stored_run timeout 20 "$1" >"$answer" 2>/dev/null
-  ended=$?
-  wanted=$crate/stdout
-  [ -r "$wanted" ] || wanted=/dev/null
-  [ "$ended" = "$(stored_status)" ] && cmp -s "$answer" "$wanted"
-  ended=$?
-  rm -f "$answer"
-  return "$ended"
-}
-
-# Puts the program that rt made in the place of the old one, if it works. It is as old as the file.
-install() {
-  if cp "$crate/out/$program" "$built.new" && touch -r "$1" "$built.new" && works "$built.new"; then
-    echo "$crates" >"$built.crates" && mv -f "$built.new" "$built" && rm -f "$built.failed"
-  else
-    rm -f "$built.new"
+  made=$built.made
+  is_there && read_made && [ "$sources" ] || return
+  if [ "$built" -nt "$made" ] || [ "$built" -ot "$made" ] || [ "$made" -nt /proc/self ]; then
     return 1
   fi
+  for each in $sources; do
+    [ "$made" -nt "$root$each" ] || return
+  done
 }
 
-build() {
-  say 'proving and building; a first time takes some minutes'
-  : >"$built.begun"
-  with_stored_run env -C "$crate" rt run -- >&2
-  if [ $? = "$(stored_status)" ] && install "$built.begun"; then
-    return
-  fi
-  touch -r "$built.begun" "$built.failed"
-  return 1
+# Ends, or goes over to the program.
+serve() {
+  [ ! "$only_build" ] || exit 0
+  exec "$@"
 }
 
-can_write() {
-  mkdir -p "${root}.built" 2>/dev/null && [ -w "${root}.built" ] && [ -w "$crate" ]
-}
+# ---- The start.
 
-# Sees to it that $built is what the sources are, if that can be.
-renew() {
-  exec 9<"${root}start.sh"
-  if command -v flock >/dev/null && ! flock -n 9; then
-    say 'waiting for another build'
-    flock 9
-  fi
-  is_ready && return
-  find_crates
-  if [ -x "$crate/out/$program" ] && ! is_older "$crate/out/$program" && install "$crate/out/$program"; then
-    return
-  elif ! command -v rt >/dev/null; then
-    say 'rt is not on the path, so nothing can be built'
-  elif [ -x "$built" ] && [ -e "$built.failed" ] && ! is_older "$built.failed"; then
-    say 'what stands in the sources could not be built before'
-  else
-    build || say 'not built'
-  fi
-}
-
-if can_write; then
-  renew
-  exec 9<&-
-else
-  say 'this checkout cannot be written, so nothing can be built'
+if [ ! -f "$crate/src/main.rt" ]; then
+  say "no program of this repository has this name, by which the script finds it: start one under its own name, or by a link to it"
+  exit 69
 fi
+
+stdio=
+wait=
+only_build=
+while :; do
+  case $1 in
+    --stdio) [ ! "$stdio" ] && stdio=yes || break ;;
+    --wait) [ ! "$wait" ] && wait=yes || break ;;
+    --build) [ ! "$only_build" ] && only_build=yes || break ;;
+    *) break ;;
+  esac
+  shift
+done
+case $#$1 in
+  1-h | 1--help) tell_usage; exit 0 ;;
+  1--version) tell_version; exit 0 ;;
+esac
+if [ "$only_build" ] && [ $# -eq 0 ]; then
+  :
+elif ! are_a_form "$@"; then
+  tell_usage >&2
+  exit 2
+fi
+
 if is_ready; then
-  exec "$built" "$@"
+  serve "$built" "$@"
 fi
-if [ -x "$built" ]; then
-  say 'serving what was built before'
-  exec "$built" "$@"
-fi
-if [ -x "$crate/out/$program" ] && works "$crate/out/$program"; then
-  say 'serving what rt built before'
-  exec "$crate/out/$program" "$@"
-fi
-say 'there is no program to start'
-exit 69
+. "${root}build.sh"
