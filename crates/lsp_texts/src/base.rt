@@ -10,8 +10,7 @@ use lsp_base::{
     TextDocumentPositionParams, TextDocumentRegistrationOptions, TextEdit,
     VersionedTextDocumentIdentifier, WorkDoneProgressParams, WorkspaceEdit, WorkspaceFolder,
 };
-use lsp_rows::{holds, text_of};
-use std::test::Fail;
+use lsp_rows::{RowError, Trial};
 
 const NUMBER_OR_STRING: &str = r#"
 44 :: Number(44)
@@ -216,128 +215,98 @@ const SYMBOL_KIND_CAPABILITY: &str = r#"
 "#;
 
 #[test]
-fn rows_1(rt: HostRuntime) -> Result<(), Fail> {
-    let alloc = rt.alloc();
-    holds::<NumberOrString>(alloc, NUMBER_OR_STRING)?;
-    holds::<CancelParams>(alloc, CANCEL_PARAMS)?;
-    holds::<Position>(alloc, POSITION)?;
-    holds::<Range>(alloc, RANGE)?;
-    holds::<Location>(alloc, LOCATION)?;
-    holds::<LocationLink>(alloc, LOCATION_LINK)?;
-    holds::<Command>(alloc, COMMAND)?;
-    holds::<CodeDescription>(alloc, CODE_DESCRIPTION)?;
-    holds::<DiagnosticRelatedInformation>(alloc, DIAGNOSTIC_RELATED_INFORMATION)?;
-    holds::<Diagnostic>(alloc, DIAGNOSTIC)?;
-    holds::<TextEdit>(alloc, TEXT_EDIT)?;
-    holds::<AnnotatedTextEdit>(alloc, ANNOTATED_TEXT_EDIT)?;
-    Ok(())
+fn rows_1(rt: HostRuntime) -> Result<(), RowError> {
+    let mut trial = Trial::new(rt.alloc());
+    trial.holds::<NumberOrString>(NUMBER_OR_STRING);
+    trial.holds::<CancelParams>(CANCEL_PARAMS);
+    trial.holds::<Position>(POSITION);
+    trial.holds::<Range>(RANGE);
+    trial.holds::<Location>(LOCATION);
+    trial.holds::<LocationLink>(LOCATION_LINK);
+    trial.holds::<Command>(COMMAND);
+    trial.holds::<CodeDescription>(CODE_DESCRIPTION);
+    trial.holds::<DiagnosticRelatedInformation>(DIAGNOSTIC_RELATED_INFORMATION);
+    trial.holds::<Diagnostic>(DIAGNOSTIC);
+    trial.holds::<TextEdit>(TEXT_EDIT);
+    trial.holds::<AnnotatedTextEdit>(ANNOTATED_TEXT_EDIT);
+    trial.end()
 }
 
 #[test]
-fn rows_2(rt: HostRuntime) -> Result<(), Fail> {
-    let alloc = rt.alloc();
-    holds::<TextDocumentEdit>(alloc, TEXT_DOCUMENT_EDIT)?;
-    holds::<ChangeAnnotation>(alloc, CHANGE_ANNOTATION)?;
-    holds::<CreateFileOptions>(alloc, CREATE_FILE_OPTIONS)?;
-    holds::<CreateFile>(alloc, CREATE_FILE)?;
-    holds::<RenameFileOptions>(alloc, RENAME_FILE_OPTIONS)?;
-    holds::<RenameFile>(alloc, RENAME_FILE)?;
-    holds::<DeleteFileOptions>(alloc, DELETE_FILE_OPTIONS)?;
-    holds::<DeleteFile>(alloc, DELETE_FILE)?;
-    holds::<ResourceOp>(alloc, RESOURCE_OP)?;
-    holds::<WorkspaceEdit>(alloc, WORKSPACE_EDIT)?;
-    holds::<DocumentChanges>(alloc, DOCUMENT_CHANGES)?;
-    holds::<DocumentChangeOperation>(alloc, DOCUMENT_CHANGE_OPERATION)?;
-    Ok(())
+fn rows_2(rt: HostRuntime) -> Result<(), RowError> {
+    let mut trial = Trial::new(rt.alloc());
+    trial.holds::<TextDocumentEdit>(TEXT_DOCUMENT_EDIT);
+    trial.holds::<ChangeAnnotation>(CHANGE_ANNOTATION);
+    trial.holds::<CreateFileOptions>(CREATE_FILE_OPTIONS);
+    trial.holds::<CreateFile>(CREATE_FILE);
+    trial.holds::<RenameFileOptions>(RENAME_FILE_OPTIONS);
+    trial.holds::<RenameFile>(RENAME_FILE);
+    trial.holds::<DeleteFileOptions>(DELETE_FILE_OPTIONS);
+    trial.holds::<DeleteFile>(DELETE_FILE);
+    trial.holds::<ResourceOp>(RESOURCE_OP);
+    trial.holds::<WorkspaceEdit>(WORKSPACE_EDIT);
+    trial.holds::<DocumentChanges>(DOCUMENT_CHANGES);
+    trial.holds::<DocumentChangeOperation>(DOCUMENT_CHANGE_OPERATION);
+    trial.end()
 }
 
 #[test]
-fn rows_3(rt: HostRuntime) -> Result<(), Fail> {
-    let alloc = rt.alloc();
-    holds::<TextDocumentIdentifier>(alloc, TEXT_DOCUMENT_IDENTIFIER)?;
-    holds::<TextDocumentItem>(alloc, TEXT_DOCUMENT_ITEM)?;
-    holds::<VersionedTextDocumentIdentifier>(alloc, VERSIONED_TEXT_DOCUMENT_IDENTIFIER)?;
-    holds::<OptionalVersionedTextDocumentIdentifier>(
-        alloc,
+fn rows_3(rt: HostRuntime) -> Result<(), RowError> {
+    let mut trial = Trial::new(rt.alloc());
+    trial.holds::<TextDocumentIdentifier>(TEXT_DOCUMENT_IDENTIFIER);
+    trial.holds::<TextDocumentItem>(TEXT_DOCUMENT_ITEM);
+    trial.holds::<VersionedTextDocumentIdentifier>(VERSIONED_TEXT_DOCUMENT_IDENTIFIER);
+    trial.holds::<OptionalVersionedTextDocumentIdentifier>(
         OPTIONAL_VERSIONED_TEXT_DOCUMENT_IDENTIFIER,
-    )?;
-    holds::<TextDocumentPositionParams>(alloc, TEXT_DOCUMENT_POSITION_PARAMS)?;
-    holds::<DocumentFilter>(alloc, DOCUMENT_FILTER)?;
-    holds::<TextDocumentContentChangeEvent>(alloc, TEXT_DOCUMENT_CONTENT_CHANGE_EVENT)?;
-    holds::<PartialResultParams>(alloc, PARTIAL_RESULT_PARAMS)?;
-    holds::<WorkDoneProgressParams>(alloc, WORK_DONE_PROGRESS_PARAMS)?;
-    holds::<WorkspaceFolder>(alloc, WORKSPACE_FOLDER)?;
-    holds::<DynamicRegistrationClientCapabilities>(
-        alloc,
-        DYNAMIC_REGISTRATION_CLIENT_CAPABILITIES,
-    )?;
-    holds::<GotoCapability>(alloc, GOTO_CAPABILITY)?;
-    Ok(())
+    );
+    trial.holds::<TextDocumentPositionParams>(TEXT_DOCUMENT_POSITION_PARAMS);
+    trial.holds::<DocumentFilter>(DOCUMENT_FILTER);
+    trial.holds::<TextDocumentContentChangeEvent>(TEXT_DOCUMENT_CONTENT_CHANGE_EVENT);
+    trial.holds::<PartialResultParams>(PARTIAL_RESULT_PARAMS);
+    trial.holds::<WorkDoneProgressParams>(WORK_DONE_PROGRESS_PARAMS);
+    trial.holds::<WorkspaceFolder>(WORKSPACE_FOLDER);
+    trial.holds::<DynamicRegistrationClientCapabilities>(DYNAMIC_REGISTRATION_CLIENT_CAPABILITIES);
+    trial.holds::<GotoCapability>(GOTO_CAPABILITY);
+    trial.end()
 }
 
 #[test]
-fn rows_4(rt: HostRuntime) -> Result<(), Fail> {
-    let alloc = rt.alloc();
-    holds::<TextDocumentRegistrationOptions>(alloc, TEXT_DOCUMENT_REGISTRATION_OPTIONS)?;
-    holds::<StaticRegistrationOptions>(alloc, STATIC_REGISTRATION_OPTIONS)?;
-    holds::<SymbolKindCapability>(alloc, SYMBOL_KIND_CAPABILITY)?;
-    Ok(())
+fn rows_4(rt: HostRuntime) -> Result<(), RowError> {
+    let mut trial = Trial::new(rt.alloc());
+    trial.holds::<TextDocumentRegistrationOptions>(TEXT_DOCUMENT_REGISTRATION_OPTIONS);
+    trial.holds::<StaticRegistrationOptions>(STATIC_REGISTRATION_OPTIONS);
+    trial.holds::<SymbolKindCapability>(SYMBOL_KIND_CAPABILITY);
+    trial.end()
 }
 
 #[test]
-fn defaults(rt: HostRuntime) -> Result<(), Fail> {
+fn defaults(rt: HostRuntime) -> Result<(), RowError> {
     let alloc = rt.alloc();
-    assert_eq!(rt;
-        text_of(alloc, &Position::default())?.as_str(),
-        r#"{"character":0,"line":0}"#
+    let mut trial = Trial::new(alloc);
+    trial.is_written(Position::default(), r#"{"character":0,"line":0}"#);
+    trial.is_written(
+        Range::default(),
+        r#"{"end":{"character":0,"line":0},"start":{"character":0,"line":0}}"#,
     );
-    assert_eq!(rt;
-        text_of(alloc, &Range::default())?.as_str(),
-        r#"{"end":{"character":0,"line":0},"start":{"character":0,"line":0}}"#
+    trial.is_written(Command::default(alloc), r#"{"command":"","title":""}"#);
+    trial.is_written(
+        Diagnostic::default(alloc),
+        r#"{"message":"","range":{"end":{"character":0,"line":0},"start":{"character":0,"line":0}}}"#,
     );
-    assert_eq!(rt;
-        text_of(alloc, &Command::default(alloc))?.as_str(),
-        r#"{"command":"","title":""}"#
+    trial.is_written(
+        TextEdit::default(alloc),
+        r#"{"newText":"","range":{"end":{"character":0,"line":0},"start":{"character":0,"line":0}}}"#,
     );
-    assert_eq!(rt;
-        text_of(alloc, &Diagnostic::default(alloc))?.as_str(),
-        r#"{"message":"","range":{"end":{"character":0,"line":0},"start":{"character":0,"line":0}}}"#
+    trial.is_written(WorkspaceEdit::default(), r#"{}"#);
+    trial.is_written(PartialResultParams::default(), r#"{}"#);
+    trial.is_written(WorkDoneProgressParams::default(), r#"{}"#);
+    trial.is_written(DynamicRegistrationClientCapabilities::default(), r#"{}"#);
+    trial.is_written(GotoCapability::default(), r#"{}"#);
+    trial.is_written(
+        TextDocumentRegistrationOptions::default(),
+        r#"{"documentSelector":null}"#,
     );
-    assert_eq!(rt;
-        text_of(alloc, &TextEdit::default(alloc))?.as_str(),
-        r#"{"newText":"","range":{"end":{"character":0,"line":0},"start":{"character":0,"line":0}}}"#
-    );
-    assert_eq!(rt;
-        text_of(alloc, &WorkspaceEdit::default())?.as_str(),
-        r#"{}"#
-    );
-    assert_eq!(rt;
-        text_of(alloc, &PartialResultParams::default())?.as_str(),
-        r#"{}"#
-    );
-    assert_eq!(rt;
-        text_of(alloc, &WorkDoneProgressParams::default())?.as_str(),
-        r#"{}"#
-    );
-    assert_eq!(rt;
-        text_of(alloc, &DynamicRegistrationClientCapabilities::default())?.as_str(),
-        r#"{}"#
-    );
-    assert_eq!(rt;
-        text_of(alloc, &GotoCapability::default())?.as_str(),
-        r#"{}"#
-    );
-    assert_eq!(rt;
-        text_of(alloc, &TextDocumentRegistrationOptions::default())?.as_str(),
-        r#"{"documentSelector":null}"#
-    );
-    assert_eq!(rt;
-        text_of(alloc, &StaticRegistrationOptions::default())?.as_str(),
-        r#"{}"#
-    );
-    assert_eq!(rt;
-        text_of(alloc, &SymbolKindCapability::default())?.as_str(),
-        r#"{"valueSet":null}"#
-    );
-    Ok(())
+    trial.is_written(StaticRegistrationOptions::default(), r#"{}"#);
+    trial.is_written(SymbolKindCapability::default(), r#"{"valueSet":null}"#);
+    trial.end()
 }

@@ -13,7 +13,7 @@ use lsp_caps_work::{
     WorkspaceEditClientCapabilities, WorkspaceFileOperationsClientCapabilities,
     WorkspaceSymbolClientCapabilities, WorkspaceSymbolResolveSupportCapability,
 };
-use lsp_rows::{holds, text_of};
+use lsp_rows::{RowError, Trial};
 use std::test::Fail;
 
 const WORKSPACE_EDIT_CLIENT_CAPABILITIES: &str = r#"
@@ -223,170 +223,110 @@ const INITIALIZED_PARAMS: &str = r#"
 "#;
 
 #[test]
-fn rows_1(rt: HostRuntime) -> Result<(), Fail> {
-    let alloc = rt.alloc();
-    holds::<WorkspaceEditClientCapabilities>(alloc, WORKSPACE_EDIT_CLIENT_CAPABILITIES)?;
-    holds::<ChangeAnnotationWorkspaceEditClientCapabilities>(
-        alloc,
+fn rows_1(rt: HostRuntime) -> Result<(), RowError> {
+    let mut trial = Trial::new(rt.alloc());
+    trial.holds::<WorkspaceEditClientCapabilities>(WORKSPACE_EDIT_CLIENT_CAPABILITIES);
+    trial.holds::<ChangeAnnotationWorkspaceEditClientCapabilities>(
         CHANGE_ANNOTATION_WORKSPACE_EDIT_CLIENT_CAPABILITIES,
-    )?;
-    holds::<ResourceOperationKind>(alloc, RESOURCE_OPERATION_KIND)?;
-    holds::<FailureHandlingKind>(alloc, FAILURE_HANDLING_KIND)?;
-    holds::<DidChangeWatchedFilesClientCapabilities>(
-        alloc,
+    );
+    trial.holds::<ResourceOperationKind>(RESOURCE_OPERATION_KIND);
+    trial.holds::<FailureHandlingKind>(FAILURE_HANDLING_KIND);
+    trial.holds::<DidChangeWatchedFilesClientCapabilities>(
         DID_CHANGE_WATCHED_FILES_CLIENT_CAPABILITIES,
-    )?;
-    holds::<WorkspaceFileOperationsClientCapabilities>(
-        alloc,
+    );
+    trial.holds::<WorkspaceFileOperationsClientCapabilities>(
         WORKSPACE_FILE_OPERATIONS_CLIENT_CAPABILITIES,
-    )?;
-    holds::<WorkspaceSymbolClientCapabilities>(alloc, WORKSPACE_SYMBOL_CLIENT_CAPABILITIES)?;
-    holds::<WorkspaceSymbolResolveSupportCapability>(
-        alloc,
+    );
+    trial.holds::<WorkspaceSymbolClientCapabilities>(WORKSPACE_SYMBOL_CLIENT_CAPABILITIES);
+    trial.holds::<WorkspaceSymbolResolveSupportCapability>(
         WORKSPACE_SYMBOL_RESOLVE_SUPPORT_CAPABILITY,
-    )?;
-    holds::<CodeLensWorkspaceClientCapabilities>(alloc, CODE_LENS_WORKSPACE_CLIENT_CAPABILITIES)?;
-    holds::<SemanticTokensWorkspaceClientCapabilities>(
-        alloc,
+    );
+    trial.holds::<CodeLensWorkspaceClientCapabilities>(CODE_LENS_WORKSPACE_CLIENT_CAPABILITIES);
+    trial.holds::<SemanticTokensWorkspaceClientCapabilities>(
         SEMANTIC_TOKENS_WORKSPACE_CLIENT_CAPABILITIES,
-    )?;
-    holds::<InlayHintWorkspaceClientCapabilities>(alloc, INLAY_HINT_WORKSPACE_CLIENT_CAPABILITIES)?;
-    holds::<InlineValueWorkspaceClientCapabilities>(
-        alloc,
+    );
+    trial.holds::<InlayHintWorkspaceClientCapabilities>(INLAY_HINT_WORKSPACE_CLIENT_CAPABILITIES);
+    trial.holds::<InlineValueWorkspaceClientCapabilities>(
         INLINE_VALUE_WORKSPACE_CLIENT_CAPABILITIES,
-    )?;
-    Ok(())
+    );
+    trial.end()
 }
 
 #[test]
-fn rows_2(rt: HostRuntime) -> Result<(), Fail> {
-    let alloc = rt.alloc();
-    holds::<DiagnosticWorkspaceClientCapabilities>(
-        alloc,
-        DIAGNOSTIC_WORKSPACE_CLIENT_CAPABILITIES,
-    )?;
-    holds::<WorkspaceClientCapabilities>(alloc, WORKSPACE_CLIENT_CAPABILITIES)?;
-    holds::<WindowClientCapabilities>(alloc, WINDOW_CLIENT_CAPABILITIES)?;
-    holds::<ShowMessageRequestClientCapabilities>(alloc, SHOW_MESSAGE_REQUEST_CLIENT_CAPABILITIES)?;
-    holds::<MessageActionItemCapabilities>(alloc, MESSAGE_ACTION_ITEM_CAPABILITIES)?;
-    holds::<ShowDocumentClientCapabilities>(alloc, SHOW_DOCUMENT_CLIENT_CAPABILITIES)?;
-    holds::<GeneralClientCapabilities>(alloc, GENERAL_CLIENT_CAPABILITIES)?;
-    holds::<StaleRequestSupportClientCapabilities>(
-        alloc,
-        STALE_REQUEST_SUPPORT_CLIENT_CAPABILITIES,
-    )?;
-    holds::<RegularExpressionsClientCapabilities>(alloc, REGULAR_EXPRESSIONS_CLIENT_CAPABILITIES)?;
-    holds::<MarkdownClientCapabilities>(alloc, MARKDOWN_CLIENT_CAPABILITIES)?;
-    holds::<NotebookDocumentClientCapabilities>(alloc, NOTEBOOK_DOCUMENT_CLIENT_CAPABILITIES)?;
-    holds::<NotebookDocumentSyncClientCapabilities>(
-        alloc,
+fn rows_2(rt: HostRuntime) -> Result<(), RowError> {
+    let mut trial = Trial::new(rt.alloc());
+    trial.holds::<DiagnosticWorkspaceClientCapabilities>(DIAGNOSTIC_WORKSPACE_CLIENT_CAPABILITIES);
+    trial.holds::<WorkspaceClientCapabilities>(WORKSPACE_CLIENT_CAPABILITIES);
+    trial.holds::<WindowClientCapabilities>(WINDOW_CLIENT_CAPABILITIES);
+    trial.holds::<ShowMessageRequestClientCapabilities>(SHOW_MESSAGE_REQUEST_CLIENT_CAPABILITIES);
+    trial.holds::<MessageActionItemCapabilities>(MESSAGE_ACTION_ITEM_CAPABILITIES);
+    trial.holds::<ShowDocumentClientCapabilities>(SHOW_DOCUMENT_CLIENT_CAPABILITIES);
+    trial.holds::<GeneralClientCapabilities>(GENERAL_CLIENT_CAPABILITIES);
+    trial.holds::<StaleRequestSupportClientCapabilities>(STALE_REQUEST_SUPPORT_CLIENT_CAPABILITIES);
+    trial.holds::<RegularExpressionsClientCapabilities>(REGULAR_EXPRESSIONS_CLIENT_CAPABILITIES);
+    trial.holds::<MarkdownClientCapabilities>(MARKDOWN_CLIENT_CAPABILITIES);
+    trial.holds::<NotebookDocumentClientCapabilities>(NOTEBOOK_DOCUMENT_CLIENT_CAPABILITIES);
+    trial.holds::<NotebookDocumentSyncClientCapabilities>(
         NOTEBOOK_DOCUMENT_SYNC_CLIENT_CAPABILITIES,
-    )?;
-    Ok(())
+    );
+    trial.end()
 }
 
 #[test]
-fn rows_3(rt: HostRuntime) -> Result<(), Fail> {
-    let alloc = rt.alloc();
-    holds::<ClientInfo>(alloc, CLIENT_INFO)?;
-    holds::<InitializedParams>(alloc, INITIALIZED_PARAMS)?;
-    Ok(())
+fn rows_3(rt: HostRuntime) -> Result<(), RowError> {
+    let mut trial = Trial::new(rt.alloc());
+    trial.holds::<ClientInfo>(CLIENT_INFO);
+    trial.holds::<InitializedParams>(INITIALIZED_PARAMS);
+    trial.end()
 }
 
 #[test]
-fn defaults(rt: HostRuntime) -> Result<(), Fail> {
+fn defaults(rt: HostRuntime) -> Result<(), RowError> {
     let alloc = rt.alloc();
-    assert_eq!(rt;
-        text_of(alloc, &WorkspaceEditClientCapabilities::default())?.as_str(),
-        r#"{}"#
+    let mut trial = Trial::new(alloc);
+    trial.is_written(WorkspaceEditClientCapabilities::default(), r#"{}"#);
+    trial.is_written(
+        ChangeAnnotationWorkspaceEditClientCapabilities::default(),
+        r#"{}"#,
     );
-    assert_eq!(rt;
-        text_of(
-            alloc,
-            &ChangeAnnotationWorkspaceEditClientCapabilities::default()
-        )?
-        .as_str(),
-        r#"{}"#
+    trial.is_written(DidChangeWatchedFilesClientCapabilities::default(), r#"{}"#);
+    trial.is_written(
+        WorkspaceFileOperationsClientCapabilities::default(),
+        r#"{}"#,
     );
-    assert_eq!(rt;
-        text_of(alloc, &DidChangeWatchedFilesClientCapabilities::default())?.as_str(),
-        r#"{}"#
+    trial.is_written(WorkspaceSymbolClientCapabilities::default(), r#"{}"#);
+    trial.is_written(
+        WorkspaceSymbolResolveSupportCapability::default(alloc),
+        r#"{"properties":[]}"#,
     );
-    assert_eq!(rt;
-        text_of(alloc, &WorkspaceFileOperationsClientCapabilities::default())?.as_str(),
-        r#"{}"#
+    trial.is_written(InlayHintWorkspaceClientCapabilities::default(), r#"{}"#);
+    trial.is_written(InlineValueWorkspaceClientCapabilities::default(), r#"{}"#);
+    trial.is_written(DiagnosticWorkspaceClientCapabilities::default(), r#"{}"#);
+    trial.is_written(WorkspaceClientCapabilities::default(), r#"{}"#);
+    trial.is_written(WindowClientCapabilities::default(), r#"{}"#);
+    trial.is_written(ShowMessageRequestClientCapabilities::default(), r#"{}"#);
+    trial.is_written(MessageActionItemCapabilities::default(), r#"{}"#);
+    trial.is_written(
+        ShowDocumentClientCapabilities::default(),
+        r#"{"support":false}"#,
     );
-    assert_eq!(rt;
-        text_of(alloc, &WorkspaceSymbolClientCapabilities::default())?.as_str(),
-        r#"{}"#
+    trial.is_written(GeneralClientCapabilities::default(), r#"{}"#);
+    trial.is_written(
+        StaleRequestSupportClientCapabilities::default(alloc),
+        r#"{"cancel":false,"retryOnContentModified":[]}"#,
     );
-    assert_eq!(rt;
-        text_of(
-            alloc,
-            &WorkspaceSymbolResolveSupportCapability::default(alloc)
-        )?
-        .as_str(),
-        r#"{"properties":[]}"#
+    trial.is_written(
+        RegularExpressionsClientCapabilities::default(alloc),
+        r#"{"engine":""}"#,
     );
-    assert_eq!(rt;
-        text_of(alloc, &InlayHintWorkspaceClientCapabilities::default())?.as_str(),
-        r#"{}"#
+    trial.is_written(
+        MarkdownClientCapabilities::default(alloc),
+        r#"{"parser":""}"#,
     );
-    assert_eq!(rt;
-        text_of(alloc, &InlineValueWorkspaceClientCapabilities::default())?.as_str(),
-        r#"{}"#
+    trial.is_written(
+        NotebookDocumentClientCapabilities::default(),
+        r#"{"synchronization":{}}"#,
     );
-    assert_eq!(rt;
-        text_of(alloc, &DiagnosticWorkspaceClientCapabilities::default())?.as_str(),
-        r#"{}"#
-    );
-    assert_eq!(rt;
-        text_of(alloc, &WorkspaceClientCapabilities::default())?.as_str(),
-        r#"{}"#
-    );
-    assert_eq!(rt;
-        text_of(alloc, &WindowClientCapabilities::default())?.as_str(),
-        r#"{}"#
-    );
-    assert_eq!(rt;
-        text_of(alloc, &ShowMessageRequestClientCapabilities::default())?.as_str(),
-        r#"{}"#
-    );
-    assert_eq!(rt;
-        text_of(alloc, &MessageActionItemCapabilities::default())?.as_str(),
-        r#"{}"#
-    );
-    assert_eq!(rt;
-        text_of(alloc, &ShowDocumentClientCapabilities::default())?.as_str(),
-        r#"{"support":false}"#
-    );
-    assert_eq!(rt;
-        text_of(alloc, &GeneralClientCapabilities::default())?.as_str(),
-        r#"{}"#
-    );
-    assert_eq!(rt;
-        text_of(
-            alloc,
-            &StaleRequestSupportClientCapabilities::default(alloc)
-        )?
-        .as_str(),
-        r#"{"cancel":false,"retryOnContentModified":[]}"#
-    );
-    assert_eq!(rt;
-        text_of(alloc, &RegularExpressionsClientCapabilities::default(alloc))?.as_str(),
-        r#"{"engine":""}"#
-    );
-    assert_eq!(rt;
-        text_of(alloc, &MarkdownClientCapabilities::default(alloc))?.as_str(),
-        r#"{"parser":""}"#
-    );
-    assert_eq!(rt;
-        text_of(alloc, &NotebookDocumentClientCapabilities::default())?.as_str(),
-        r#"{"synchronization":{}}"#
-    );
-    assert_eq!(rt;
-        text_of(alloc, &NotebookDocumentSyncClientCapabilities::default())?.as_str(),
-        r#"{}"#
-    );
-    Ok(())
+    trial.is_written(NotebookDocumentSyncClientCapabilities::default(), r#"{}"#);
+    trial.end()
 }

@@ -3,8 +3,7 @@ use lsp_names::{
     Documentation, LanguageString, MarkedString, MarkupContent, SemanticTokensFullOptions,
     WorkDoneProgressOptions,
 };
-use lsp_rows::{holds, text_of};
-use std::test::Fail;
+use lsp_rows::{RowError, Trial};
 
 const MARKUP_CONTENT: &str = r#"
 {"kind":"plaintext","value":"value"} :: MarkupContent { kind: PlainText, value: "value" }
@@ -40,23 +39,20 @@ true :: Bool(true)
 "#;
 
 #[test]
-fn rows_1(rt: HostRuntime) -> Result<(), Fail> {
-    let alloc = rt.alloc();
-    holds::<MarkupContent>(alloc, MARKUP_CONTENT)?;
-    holds::<LanguageString>(alloc, LANGUAGE_STRING)?;
-    holds::<MarkedString>(alloc, MARKED_STRING)?;
-    holds::<Documentation>(alloc, DOCUMENTATION)?;
-    holds::<WorkDoneProgressOptions>(alloc, WORK_DONE_PROGRESS_OPTIONS)?;
-    holds::<SemanticTokensFullOptions>(alloc, SEMANTIC_TOKENS_FULL_OPTIONS)?;
-    Ok(())
+fn rows_1(rt: HostRuntime) -> Result<(), RowError> {
+    let mut trial = Trial::new(rt.alloc());
+    trial.holds::<MarkupContent>(MARKUP_CONTENT);
+    trial.holds::<LanguageString>(LANGUAGE_STRING);
+    trial.holds::<MarkedString>(MARKED_STRING);
+    trial.holds::<Documentation>(DOCUMENTATION);
+    trial.holds::<WorkDoneProgressOptions>(WORK_DONE_PROGRESS_OPTIONS);
+    trial.holds::<SemanticTokensFullOptions>(SEMANTIC_TOKENS_FULL_OPTIONS);
+    trial.end()
 }
 
 #[test]
-fn defaults(rt: HostRuntime) -> Result<(), Fail> {
-    let alloc = rt.alloc();
-    assert_eq!(rt;
-        text_of(alloc, &WorkDoneProgressOptions::default())?.as_str(),
-        r#"{}"#
-    );
-    Ok(())
+fn defaults(rt: HostRuntime) -> Result<(), RowError> {
+    let mut trial = Trial::new(rt.alloc());
+    trial.is_written(WorkDoneProgressOptions::default(), r#"{}"#);
+    trial.end()
 }

@@ -11,8 +11,7 @@ use lsp_offer_lang::{
     SemanticTokensRegistrationOptions, SemanticTokensServerCapabilities,
     StaticTextDocumentColorProviderOptions, TypeHierarchyOptions, TypeHierarchyRegistrationOptions,
 };
-use lsp_rows::{holds, text_of};
-use std::test::Fail;
+use lsp_rows::{RowError, Trial};
 
 const CALL_HIERARCHY_SERVER_CAPABILITY: &str = r#"
 true :: Simple(true)
@@ -190,107 +189,89 @@ const DIAGNOSTIC_REGISTRATION_OPTIONS: &str = r#"
 "#;
 
 #[test]
-fn rows_1(rt: HostRuntime) -> Result<(), Fail> {
-    let alloc = rt.alloc();
-    holds::<CallHierarchyServerCapability>(alloc, CALL_HIERARCHY_SERVER_CAPABILITY)?;
-    holds::<CallHierarchyOptions>(alloc, CALL_HIERARCHY_OPTIONS)?;
-    holds::<TypeHierarchyOptions>(alloc, TYPE_HIERARCHY_OPTIONS)?;
-    holds::<TypeHierarchyRegistrationOptions>(alloc, TYPE_HIERARCHY_REGISTRATION_OPTIONS)?;
-    holds::<ColorProviderCapability>(alloc, COLOR_PROVIDER_CAPABILITY)?;
-    holds::<ColorProviderOptions>(alloc, COLOR_PROVIDER_OPTIONS)?;
-    holds::<StaticTextDocumentColorProviderOptions>(
-        alloc,
+fn rows_1(rt: HostRuntime) -> Result<(), RowError> {
+    let mut trial = Trial::new(rt.alloc());
+    trial.holds::<CallHierarchyServerCapability>(CALL_HIERARCHY_SERVER_CAPABILITY);
+    trial.holds::<CallHierarchyOptions>(CALL_HIERARCHY_OPTIONS);
+    trial.holds::<TypeHierarchyOptions>(TYPE_HIERARCHY_OPTIONS);
+    trial.holds::<TypeHierarchyRegistrationOptions>(TYPE_HIERARCHY_REGISTRATION_OPTIONS);
+    trial.holds::<ColorProviderCapability>(COLOR_PROVIDER_CAPABILITY);
+    trial.holds::<ColorProviderOptions>(COLOR_PROVIDER_OPTIONS);
+    trial.holds::<StaticTextDocumentColorProviderOptions>(
         STATIC_TEXT_DOCUMENT_COLOR_PROVIDER_OPTIONS,
-    )?;
-    holds::<FoldingRangeProviderCapability>(alloc, FOLDING_RANGE_PROVIDER_CAPABILITY)?;
-    holds::<FoldingProviderOptions>(alloc, FOLDING_PROVIDER_OPTIONS)?;
-    holds::<LinkedEditingRangeServerCapabilities>(alloc, LINKED_EDITING_RANGE_SERVER_CAPABILITIES)?;
-    holds::<LinkedEditingRangeOptions>(alloc, LINKED_EDITING_RANGE_OPTIONS)?;
-    holds::<LinkedEditingRangeRegistrationOptions>(
-        alloc,
-        LINKED_EDITING_RANGE_REGISTRATION_OPTIONS,
-    )?;
-    Ok(())
+    );
+    trial.holds::<FoldingRangeProviderCapability>(FOLDING_RANGE_PROVIDER_CAPABILITY);
+    trial.holds::<FoldingProviderOptions>(FOLDING_PROVIDER_OPTIONS);
+    trial.holds::<LinkedEditingRangeServerCapabilities>(LINKED_EDITING_RANGE_SERVER_CAPABILITIES);
+    trial.holds::<LinkedEditingRangeOptions>(LINKED_EDITING_RANGE_OPTIONS);
+    trial.holds::<LinkedEditingRangeRegistrationOptions>(LINKED_EDITING_RANGE_REGISTRATION_OPTIONS);
+    trial.end()
 }
 
 #[test]
-fn rows_2(rt: HostRuntime) -> Result<(), Fail> {
-    let alloc = rt.alloc();
-    holds::<SemanticTokensServerCapabilities>(alloc, SEMANTIC_TOKENS_SERVER_CAPABILITIES)?;
-    holds::<SemanticTokensOptions>(alloc, SEMANTIC_TOKENS_OPTIONS)?;
-    holds::<SemanticTokensRegistrationOptions>(alloc, SEMANTIC_TOKENS_REGISTRATION_OPTIONS)?;
-    holds::<SemanticTokensLegend>(alloc, SEMANTIC_TOKENS_LEGEND)?;
-    holds::<MonikerServerCapabilities>(alloc, MONIKER_SERVER_CAPABILITIES)?;
-    holds::<MonikerOptions>(alloc, MONIKER_OPTIONS)?;
-    holds::<MonikerRegistrationOptions>(alloc, MONIKER_REGISTRATION_OPTIONS)?;
-    holds::<InlayHintServerCapabilities>(alloc, INLAY_HINT_SERVER_CAPABILITIES)?;
-    holds::<InlayHintOptions>(alloc, INLAY_HINT_OPTIONS)?;
-    holds::<InlayHintRegistrationOptions>(alloc, INLAY_HINT_REGISTRATION_OPTIONS)?;
-    holds::<InlineValueServerCapabilities>(alloc, INLINE_VALUE_SERVER_CAPABILITIES)?;
-    holds::<InlineValueOptions>(alloc, INLINE_VALUE_OPTIONS)?;
-    Ok(())
+fn rows_2(rt: HostRuntime) -> Result<(), RowError> {
+    let mut trial = Trial::new(rt.alloc());
+    trial.holds::<SemanticTokensServerCapabilities>(SEMANTIC_TOKENS_SERVER_CAPABILITIES);
+    trial.holds::<SemanticTokensOptions>(SEMANTIC_TOKENS_OPTIONS);
+    trial.holds::<SemanticTokensRegistrationOptions>(SEMANTIC_TOKENS_REGISTRATION_OPTIONS);
+    trial.holds::<SemanticTokensLegend>(SEMANTIC_TOKENS_LEGEND);
+    trial.holds::<MonikerServerCapabilities>(MONIKER_SERVER_CAPABILITIES);
+    trial.holds::<MonikerOptions>(MONIKER_OPTIONS);
+    trial.holds::<MonikerRegistrationOptions>(MONIKER_REGISTRATION_OPTIONS);
+    trial.holds::<InlayHintServerCapabilities>(INLAY_HINT_SERVER_CAPABILITIES);
+    trial.holds::<InlayHintOptions>(INLAY_HINT_OPTIONS);
+    trial.holds::<InlayHintRegistrationOptions>(INLAY_HINT_REGISTRATION_OPTIONS);
+    trial.holds::<InlineValueServerCapabilities>(INLINE_VALUE_SERVER_CAPABILITIES);
+    trial.holds::<InlineValueOptions>(INLINE_VALUE_OPTIONS);
+    trial.end()
 }
 
 #[test]
-fn rows_3(rt: HostRuntime) -> Result<(), Fail> {
-    let alloc = rt.alloc();
-    holds::<InlineValueRegistrationOptions>(alloc, INLINE_VALUE_REGISTRATION_OPTIONS)?;
-    holds::<DiagnosticServerCapabilities>(alloc, DIAGNOSTIC_SERVER_CAPABILITIES)?;
-    holds::<DiagnosticOptions>(alloc, DIAGNOSTIC_OPTIONS)?;
-    holds::<DiagnosticRegistrationOptions>(alloc, DIAGNOSTIC_REGISTRATION_OPTIONS)?;
-    Ok(())
+fn rows_3(rt: HostRuntime) -> Result<(), RowError> {
+    let mut trial = Trial::new(rt.alloc());
+    trial.holds::<InlineValueRegistrationOptions>(INLINE_VALUE_REGISTRATION_OPTIONS);
+    trial.holds::<DiagnosticServerCapabilities>(DIAGNOSTIC_SERVER_CAPABILITIES);
+    trial.holds::<DiagnosticOptions>(DIAGNOSTIC_OPTIONS);
+    trial.holds::<DiagnosticRegistrationOptions>(DIAGNOSTIC_REGISTRATION_OPTIONS);
+    trial.end()
 }
 
 #[test]
-fn defaults(rt: HostRuntime) -> Result<(), Fail> {
+fn defaults(rt: HostRuntime) -> Result<(), RowError> {
     let alloc = rt.alloc();
-    assert_eq!(rt;
-        text_of(alloc, &CallHierarchyOptions::default())?.as_str(),
-        r#"{}"#
+    let mut trial = Trial::new(alloc);
+    trial.is_written(CallHierarchyOptions::default(), r#"{}"#);
+    trial.is_written(TypeHierarchyOptions::default(), r#"{}"#);
+    trial.is_written(
+        TypeHierarchyRegistrationOptions::default(),
+        r#"{"documentSelector":null}"#,
     );
-    assert_eq!(rt;
-        text_of(alloc, &TypeHierarchyOptions::default())?.as_str(),
-        r#"{}"#
+    trial.is_written(LinkedEditingRangeOptions::default(), r#"{}"#);
+    trial.is_written(
+        SemanticTokensOptions::default(alloc),
+        r#"{"legend":{"tokenModifiers":[],"tokenTypes":[]}}"#,
     );
-    assert_eq!(rt;
-        text_of(alloc, &TypeHierarchyRegistrationOptions::default())?.as_str(),
-        r#"{"documentSelector":null}"#
+    trial.is_written(
+        SemanticTokensLegend::default(alloc),
+        r#"{"tokenModifiers":[],"tokenTypes":[]}"#,
     );
-    assert_eq!(rt;
-        text_of(alloc, &LinkedEditingRangeOptions::default())?.as_str(),
-        r#"{}"#
+    trial.is_written(InlayHintOptions::default(), r#"{}"#);
+    trial.is_written(
+        InlayHintRegistrationOptions::default(),
+        r#"{"documentSelector":null}"#,
     );
-    assert_eq!(rt;
-        text_of(alloc, &SemanticTokensOptions::default(alloc))?.as_str(),
-        r#"{"legend":{"tokenModifiers":[],"tokenTypes":[]}}"#
+    trial.is_written(InlineValueOptions::default(), r#"{}"#);
+    trial.is_written(
+        InlineValueRegistrationOptions::default(),
+        r#"{"documentSelector":null}"#,
     );
-    assert_eq!(rt;
-        text_of(alloc, &SemanticTokensLegend::default(alloc))?.as_str(),
-        r#"{"tokenModifiers":[],"tokenTypes":[]}"#
+    trial.is_written(
+        DiagnosticOptions::default(),
+        r#"{"interFileDependencies":false,"workspaceDiagnostics":false}"#,
     );
-    assert_eq!(rt;
-        text_of(alloc, &InlayHintOptions::default())?.as_str(),
-        r#"{}"#
+    trial.is_written(
+        DiagnosticRegistrationOptions::default(),
+        r#"{"documentSelector":null,"interFileDependencies":false,"workspaceDiagnostics":false}"#,
     );
-    assert_eq!(rt;
-        text_of(alloc, &InlayHintRegistrationOptions::default())?.as_str(),
-        r#"{"documentSelector":null}"#
-    );
-    assert_eq!(rt;
-        text_of(alloc, &InlineValueOptions::default())?.as_str(),
-        r#"{}"#
-    );
-    assert_eq!(rt;
-        text_of(alloc, &InlineValueRegistrationOptions::default())?.as_str(),
-        r#"{"documentSelector":null}"#
-    );
-    assert_eq!(rt;
-        text_of(alloc, &DiagnosticOptions::default())?.as_str(),
-        r#"{"interFileDependencies":false,"workspaceDiagnostics":false}"#
-    );
-    assert_eq!(rt;
-        text_of(alloc, &DiagnosticRegistrationOptions::default())?.as_str(),
-        r#"{"documentSelector":null,"interFileDependencies":false,"workspaceDiagnostics":false}"#
-    );
-    Ok(())
+    trial.end()
 }

@@ -14,8 +14,7 @@ use lsp_offer_text::{
     TextDocumentSyncCapability, TextDocumentSyncOptions, TextDocumentSyncSaveOptions,
     TypeDefinitionProviderCapability, WorkspaceSymbolOptions,
 };
-use lsp_rows::{holds, text_of};
-use std::test::Fail;
+use lsp_rows::{RowError, Trial};
 
 const TEXT_DOCUMENT_SYNC_CAPABILITY: &str = r#"
 142 :: Kind(TextDocumentSyncKind(142))
@@ -295,125 +294,94 @@ const RENAME_OPTIONS: &str = r#"
 "#;
 
 #[test]
-fn rows_1(rt: HostRuntime) -> Result<(), Fail> {
-    let alloc = rt.alloc();
-    holds::<TextDocumentSyncCapability>(alloc, TEXT_DOCUMENT_SYNC_CAPABILITY)?;
-    holds::<TextDocumentSyncOptions>(alloc, TEXT_DOCUMENT_SYNC_OPTIONS)?;
-    holds::<TextDocumentSyncSaveOptions>(alloc, TEXT_DOCUMENT_SYNC_SAVE_OPTIONS)?;
-    holds::<SaveOptions>(alloc, SAVE_OPTIONS)?;
-    holds::<TextDocumentChangeRegistrationOptions>(
-        alloc,
-        TEXT_DOCUMENT_CHANGE_REGISTRATION_OPTIONS,
-    )?;
-    holds::<TextDocumentSaveRegistrationOptions>(alloc, TEXT_DOCUMENT_SAVE_REGISTRATION_OPTIONS)?;
-    holds::<CompletionOptions>(alloc, COMPLETION_OPTIONS)?;
-    holds::<CompletionOptionsCompletionItem>(alloc, COMPLETION_OPTIONS_COMPLETION_ITEM)?;
-    holds::<CompletionRegistrationOptions>(alloc, COMPLETION_REGISTRATION_OPTIONS)?;
-    holds::<HoverProviderCapability>(alloc, HOVER_PROVIDER_CAPABILITY)?;
-    holds::<HoverOptions>(alloc, HOVER_OPTIONS)?;
-    holds::<HoverRegistrationOptions>(alloc, HOVER_REGISTRATION_OPTIONS)?;
-    Ok(())
+fn rows_1(rt: HostRuntime) -> Result<(), RowError> {
+    let mut trial = Trial::new(rt.alloc());
+    trial.holds::<TextDocumentSyncCapability>(TEXT_DOCUMENT_SYNC_CAPABILITY);
+    trial.holds::<TextDocumentSyncOptions>(TEXT_DOCUMENT_SYNC_OPTIONS);
+    trial.holds::<TextDocumentSyncSaveOptions>(TEXT_DOCUMENT_SYNC_SAVE_OPTIONS);
+    trial.holds::<SaveOptions>(SAVE_OPTIONS);
+    trial.holds::<TextDocumentChangeRegistrationOptions>(TEXT_DOCUMENT_CHANGE_REGISTRATION_OPTIONS);
+    trial.holds::<TextDocumentSaveRegistrationOptions>(TEXT_DOCUMENT_SAVE_REGISTRATION_OPTIONS);
+    trial.holds::<CompletionOptions>(COMPLETION_OPTIONS);
+    trial.holds::<CompletionOptionsCompletionItem>(COMPLETION_OPTIONS_COMPLETION_ITEM);
+    trial.holds::<CompletionRegistrationOptions>(COMPLETION_REGISTRATION_OPTIONS);
+    trial.holds::<HoverProviderCapability>(HOVER_PROVIDER_CAPABILITY);
+    trial.holds::<HoverOptions>(HOVER_OPTIONS);
+    trial.holds::<HoverRegistrationOptions>(HOVER_REGISTRATION_OPTIONS);
+    trial.end()
 }
 
 #[test]
-fn rows_2(rt: HostRuntime) -> Result<(), Fail> {
-    let alloc = rt.alloc();
-    holds::<SignatureHelpOptions>(alloc, SIGNATURE_HELP_OPTIONS)?;
-    holds::<SignatureHelpRegistrationOptions>(alloc, SIGNATURE_HELP_REGISTRATION_OPTIONS)?;
-    holds::<StaticTextDocumentRegistrationOptions>(
-        alloc,
-        STATIC_TEXT_DOCUMENT_REGISTRATION_OPTIONS,
-    )?;
-    holds::<ImplementationProviderCapability>(alloc, IMPLEMENTATION_PROVIDER_CAPABILITY)?;
-    holds::<TypeDefinitionProviderCapability>(alloc, TYPE_DEFINITION_PROVIDER_CAPABILITY)?;
-    holds::<DeclarationCapability>(alloc, DECLARATION_CAPABILITY)?;
-    holds::<DeclarationRegistrationOptions>(alloc, DECLARATION_REGISTRATION_OPTIONS)?;
-    holds::<DeclarationOptions>(alloc, DECLARATION_OPTIONS)?;
-    holds::<DefinitionOptions>(alloc, DEFINITION_OPTIONS)?;
-    holds::<ReferencesOptions>(alloc, REFERENCES_OPTIONS)?;
-    holds::<DocumentHighlightOptions>(alloc, DOCUMENT_HIGHLIGHT_OPTIONS)?;
-    holds::<GenericRegistrationOptions>(alloc, GENERIC_REGISTRATION_OPTIONS)?;
-    Ok(())
+fn rows_2(rt: HostRuntime) -> Result<(), RowError> {
+    let mut trial = Trial::new(rt.alloc());
+    trial.holds::<SignatureHelpOptions>(SIGNATURE_HELP_OPTIONS);
+    trial.holds::<SignatureHelpRegistrationOptions>(SIGNATURE_HELP_REGISTRATION_OPTIONS);
+    trial.holds::<StaticTextDocumentRegistrationOptions>(STATIC_TEXT_DOCUMENT_REGISTRATION_OPTIONS);
+    trial.holds::<ImplementationProviderCapability>(IMPLEMENTATION_PROVIDER_CAPABILITY);
+    trial.holds::<TypeDefinitionProviderCapability>(TYPE_DEFINITION_PROVIDER_CAPABILITY);
+    trial.holds::<DeclarationCapability>(DECLARATION_CAPABILITY);
+    trial.holds::<DeclarationRegistrationOptions>(DECLARATION_REGISTRATION_OPTIONS);
+    trial.holds::<DeclarationOptions>(DECLARATION_OPTIONS);
+    trial.holds::<DefinitionOptions>(DEFINITION_OPTIONS);
+    trial.holds::<ReferencesOptions>(REFERENCES_OPTIONS);
+    trial.holds::<DocumentHighlightOptions>(DOCUMENT_HIGHLIGHT_OPTIONS);
+    trial.holds::<GenericRegistrationOptions>(GENERIC_REGISTRATION_OPTIONS);
+    trial.end()
 }
 
 #[test]
-fn rows_3(rt: HostRuntime) -> Result<(), Fail> {
-    let alloc = rt.alloc();
-    holds::<GenericOptions>(alloc, GENERIC_OPTIONS)?;
-    holds::<DocumentSymbolOptions>(alloc, DOCUMENT_SYMBOL_OPTIONS)?;
-    holds::<WorkspaceSymbolOptions>(alloc, WORKSPACE_SYMBOL_OPTIONS)?;
-    holds::<CodeActionProviderCapability>(alloc, CODE_ACTION_PROVIDER_CAPABILITY)?;
-    holds::<CodeActionOptions>(alloc, CODE_ACTION_OPTIONS)?;
-    holds::<CodeLensOptions>(alloc, CODE_LENS_OPTIONS)?;
-    holds::<DocumentLinkOptions>(alloc, DOCUMENT_LINK_OPTIONS)?;
-    holds::<SelectionRangeProviderCapability>(alloc, SELECTION_RANGE_PROVIDER_CAPABILITY)?;
-    holds::<SelectionRangeOptions>(alloc, SELECTION_RANGE_OPTIONS)?;
-    holds::<SelectionRangeRegistrationOptions>(alloc, SELECTION_RANGE_REGISTRATION_OPTIONS)?;
-    holds::<DocumentFormattingOptions>(alloc, DOCUMENT_FORMATTING_OPTIONS)?;
-    holds::<DocumentRangeFormattingOptions>(alloc, DOCUMENT_RANGE_FORMATTING_OPTIONS)?;
-    Ok(())
+fn rows_3(rt: HostRuntime) -> Result<(), RowError> {
+    let mut trial = Trial::new(rt.alloc());
+    trial.holds::<GenericOptions>(GENERIC_OPTIONS);
+    trial.holds::<DocumentSymbolOptions>(DOCUMENT_SYMBOL_OPTIONS);
+    trial.holds::<WorkspaceSymbolOptions>(WORKSPACE_SYMBOL_OPTIONS);
+    trial.holds::<CodeActionProviderCapability>(CODE_ACTION_PROVIDER_CAPABILITY);
+    trial.holds::<CodeActionOptions>(CODE_ACTION_OPTIONS);
+    trial.holds::<CodeLensOptions>(CODE_LENS_OPTIONS);
+    trial.holds::<DocumentLinkOptions>(DOCUMENT_LINK_OPTIONS);
+    trial.holds::<SelectionRangeProviderCapability>(SELECTION_RANGE_PROVIDER_CAPABILITY);
+    trial.holds::<SelectionRangeOptions>(SELECTION_RANGE_OPTIONS);
+    trial.holds::<SelectionRangeRegistrationOptions>(SELECTION_RANGE_REGISTRATION_OPTIONS);
+    trial.holds::<DocumentFormattingOptions>(DOCUMENT_FORMATTING_OPTIONS);
+    trial.holds::<DocumentRangeFormattingOptions>(DOCUMENT_RANGE_FORMATTING_OPTIONS);
+    trial.end()
 }
 
 #[test]
-fn rows_4(rt: HostRuntime) -> Result<(), Fail> {
-    let alloc = rt.alloc();
-    holds::<DocumentOnTypeFormattingOptions>(alloc, DOCUMENT_ON_TYPE_FORMATTING_OPTIONS)?;
-    holds::<DocumentOnTypeFormattingRegistrationOptions>(
-        alloc,
+fn rows_4(rt: HostRuntime) -> Result<(), RowError> {
+    let mut trial = Trial::new(rt.alloc());
+    trial.holds::<DocumentOnTypeFormattingOptions>(DOCUMENT_ON_TYPE_FORMATTING_OPTIONS);
+    trial.holds::<DocumentOnTypeFormattingRegistrationOptions>(
         DOCUMENT_ON_TYPE_FORMATTING_REGISTRATION_OPTIONS,
-    )?;
-    holds::<RenameOptions>(alloc, RENAME_OPTIONS)?;
-    Ok(())
+    );
+    trial.holds::<RenameOptions>(RENAME_OPTIONS);
+    trial.end()
 }
 
 #[test]
-fn defaults(rt: HostRuntime) -> Result<(), Fail> {
+fn defaults(rt: HostRuntime) -> Result<(), RowError> {
     let alloc = rt.alloc();
-    assert_eq!(rt;
-        text_of(alloc, &TextDocumentSyncOptions::default())?.as_str(),
-        r#"{}"#
+    let mut trial = Trial::new(alloc);
+    trial.is_written(TextDocumentSyncOptions::default(), r#"{}"#);
+    trial.is_written(SaveOptions::default(), r#"{}"#);
+    trial.is_written(CompletionOptions::default(), r#"{}"#);
+    trial.is_written(CompletionOptionsCompletionItem::default(), r#"{}"#);
+    trial.is_written(HoverOptions::default(), r#"{}"#);
+    trial.is_written(
+        HoverRegistrationOptions::default(),
+        r#"{"documentSelector":null}"#,
     );
-    assert_eq!(rt; text_of(alloc, &SaveOptions::default())?.as_str(), r#"{}"#);
-    assert_eq!(rt;
-        text_of(alloc, &CompletionOptions::default())?.as_str(),
-        r#"{}"#
+    trial.is_written(SignatureHelpOptions::default(), r#"{}"#);
+    trial.is_written(CodeActionOptions::default(), r#"{}"#);
+    trial.is_written(SelectionRangeOptions::default(), r#"{}"#);
+    trial.is_written(DocumentFormattingOptions::default(), r#"{}"#);
+    trial.is_written(
+        DocumentOnTypeFormattingOptions::default(alloc),
+        r#"{"firstTriggerCharacter":""}"#,
     );
-    assert_eq!(rt;
-        text_of(alloc, &CompletionOptionsCompletionItem::default())?.as_str(),
-        r#"{}"#
+    trial.is_written(
+        DocumentOnTypeFormattingRegistrationOptions::default(alloc),
+        r#"{"documentSelector":null,"firstTriggerCharacter":""}"#,
     );
-    assert_eq!(rt; text_of(alloc, &HoverOptions::default())?.as_str(), r#"{}"#);
-    assert_eq!(rt;
-        text_of(alloc, &HoverRegistrationOptions::default())?.as_str(),
-        r#"{"documentSelector":null}"#
-    );
-    assert_eq!(rt;
-        text_of(alloc, &SignatureHelpOptions::default())?.as_str(),
-        r#"{}"#
-    );
-    assert_eq!(rt;
-        text_of(alloc, &CodeActionOptions::default())?.as_str(),
-        r#"{}"#
-    );
-    assert_eq!(rt;
-        text_of(alloc, &SelectionRangeOptions::default())?.as_str(),
-        r#"{}"#
-    );
-    assert_eq!(rt;
-        text_of(alloc, &DocumentFormattingOptions::default())?.as_str(),
-        r#"{}"#
-    );
-    assert_eq!(rt;
-        text_of(alloc, &DocumentOnTypeFormattingOptions::default(alloc))?.as_str(),
-        r#"{"firstTriggerCharacter":""}"#
-    );
-    assert_eq!(rt;
-        text_of(
-            alloc,
-            &DocumentOnTypeFormattingRegistrationOptions::default(alloc)
-        )?
-        .as_str(),
-        r#"{"documentSelector":null,"firstTriggerCharacter":""}"#
-    );
-    Ok(())
+    trial.end()
 }

@@ -12,7 +12,7 @@ use lsp_caps_text::{
     SignatureInformationSettings, TextDocumentClientCapabilities,
     TextDocumentSyncClientCapabilities,
 };
-use lsp_rows::{holds, text_of};
+use lsp_rows::{RowError, Trial, holds, text_of};
 use lsp_shape::Wire;
 use std::alloc::Global;
 use std::process::Abort;
@@ -269,42 +269,41 @@ const TEXT_DOCUMENT_CLIENT_CAPABILITIES: &str = r#"
 "#;
 
 #[test]
-fn rows_1(rt: HostRuntime) -> Result<(), Fail> {
-    let alloc = rt.alloc();
-    holds::<TextDocumentSyncClientCapabilities>(alloc, TEXT_DOCUMENT_SYNC_CLIENT_CAPABILITIES)?;
-    holds::<CompletionClientCapabilities>(alloc, COMPLETION_CLIENT_CAPABILITIES)?;
-    holds::<CompletionItemCapability>(alloc, COMPLETION_ITEM_CAPABILITY)?;
-    holds::<CompletionItemCapabilityResolveSupport>(
-        alloc,
+fn rows_1(rt: HostRuntime) -> Result<(), RowError> {
+    let mut trial = Trial::new(rt.alloc());
+    trial.holds::<TextDocumentSyncClientCapabilities>(TEXT_DOCUMENT_SYNC_CLIENT_CAPABILITIES);
+    trial.holds::<CompletionClientCapabilities>(COMPLETION_CLIENT_CAPABILITIES);
+    trial.holds::<CompletionItemCapability>(COMPLETION_ITEM_CAPABILITY);
+    trial.holds::<CompletionItemCapabilityResolveSupport>(
         COMPLETION_ITEM_CAPABILITY_RESOLVE_SUPPORT,
-    )?;
-    holds::<InsertTextModeSupport>(alloc, INSERT_TEXT_MODE_SUPPORT)?;
-    holds::<CompletionItemKindCapability>(alloc, COMPLETION_ITEM_KIND_CAPABILITY)?;
-    holds::<CompletionListCapability>(alloc, COMPLETION_LIST_CAPABILITY)?;
-    holds::<HoverClientCapabilities>(alloc, HOVER_CLIENT_CAPABILITIES)?;
-    holds::<SignatureHelpClientCapabilities>(alloc, SIGNATURE_HELP_CLIENT_CAPABILITIES)?;
-    holds::<SignatureInformationSettings>(alloc, SIGNATURE_INFORMATION_SETTINGS)?;
-    holds::<ParameterInformationSettings>(alloc, PARAMETER_INFORMATION_SETTINGS)?;
-    holds::<DocumentSymbolClientCapabilities>(alloc, DOCUMENT_SYMBOL_CLIENT_CAPABILITIES)?;
-    Ok(())
+    );
+    trial.holds::<InsertTextModeSupport>(INSERT_TEXT_MODE_SUPPORT);
+    trial.holds::<CompletionItemKindCapability>(COMPLETION_ITEM_KIND_CAPABILITY);
+    trial.holds::<CompletionListCapability>(COMPLETION_LIST_CAPABILITY);
+    trial.holds::<HoverClientCapabilities>(HOVER_CLIENT_CAPABILITIES);
+    trial.holds::<SignatureHelpClientCapabilities>(SIGNATURE_HELP_CLIENT_CAPABILITIES);
+    trial.holds::<SignatureInformationSettings>(SIGNATURE_INFORMATION_SETTINGS);
+    trial.holds::<ParameterInformationSettings>(PARAMETER_INFORMATION_SETTINGS);
+    trial.holds::<DocumentSymbolClientCapabilities>(DOCUMENT_SYMBOL_CLIENT_CAPABILITIES);
+    trial.end()
 }
 
 #[test]
-fn rows_2(rt: HostRuntime) -> Result<(), Fail> {
-    let alloc = rt.alloc();
-    holds::<CodeActionClientCapabilities>(alloc, CODE_ACTION_CLIENT_CAPABILITIES)?;
-    holds::<CodeActionCapabilityResolveSupport>(alloc, CODE_ACTION_CAPABILITY_RESOLVE_SUPPORT)?;
-    holds::<CodeActionLiteralSupport>(alloc, CODE_ACTION_LITERAL_SUPPORT)?;
-    holds::<CodeActionKindLiteralSupport>(alloc, CODE_ACTION_KIND_LITERAL_SUPPORT)?;
-    holds::<DocumentLinkClientCapabilities>(alloc, DOCUMENT_LINK_CLIENT_CAPABILITIES)?;
-    holds::<RenameClientCapabilities>(alloc, RENAME_CLIENT_CAPABILITIES)?;
-    holds::<PublishDiagnosticsClientCapabilities>(alloc, PUBLISH_DIAGNOSTICS_CLIENT_CAPABILITIES)?;
-    holds::<DiagnosticClientCapabilities>(alloc, DIAGNOSTIC_CLIENT_CAPABILITIES)?;
-    holds::<FoldingRangeClientCapabilities>(alloc, FOLDING_RANGE_CLIENT_CAPABILITIES)?;
-    holds::<FoldingRangeKindCapability>(alloc, FOLDING_RANGE_KIND_CAPABILITY)?;
-    holds::<FoldingRangeCapability>(alloc, FOLDING_RANGE_CAPABILITY)?;
-    holds::<SelectionRangeClientCapabilities>(alloc, SELECTION_RANGE_CLIENT_CAPABILITIES)?;
-    Ok(())
+fn rows_2(rt: HostRuntime) -> Result<(), RowError> {
+    let mut trial = Trial::new(rt.alloc());
+    trial.holds::<CodeActionClientCapabilities>(CODE_ACTION_CLIENT_CAPABILITIES);
+    trial.holds::<CodeActionCapabilityResolveSupport>(CODE_ACTION_CAPABILITY_RESOLVE_SUPPORT);
+    trial.holds::<CodeActionLiteralSupport>(CODE_ACTION_LITERAL_SUPPORT);
+    trial.holds::<CodeActionKindLiteralSupport>(CODE_ACTION_KIND_LITERAL_SUPPORT);
+    trial.holds::<DocumentLinkClientCapabilities>(DOCUMENT_LINK_CLIENT_CAPABILITIES);
+    trial.holds::<RenameClientCapabilities>(RENAME_CLIENT_CAPABILITIES);
+    trial.holds::<PublishDiagnosticsClientCapabilities>(PUBLISH_DIAGNOSTICS_CLIENT_CAPABILITIES);
+    trial.holds::<DiagnosticClientCapabilities>(DIAGNOSTIC_CLIENT_CAPABILITIES);
+    trial.holds::<FoldingRangeClientCapabilities>(FOLDING_RANGE_CLIENT_CAPABILITIES);
+    trial.holds::<FoldingRangeKindCapability>(FOLDING_RANGE_KIND_CAPABILITY);
+    trial.holds::<FoldingRangeCapability>(FOLDING_RANGE_CAPABILITY);
+    trial.holds::<SelectionRangeClientCapabilities>(SELECTION_RANGE_CLIENT_CAPABILITIES);
+    trial.end()
 }
 
 #[test]
@@ -357,39 +356,33 @@ fn empty_defaults(rt: HostRuntime) -> Result<(), Fail> {
 }
 
 #[test]
-fn defaults(rt: HostRuntime) -> Result<(), Fail> {
+fn defaults(rt: HostRuntime) -> Result<(), RowError> {
     let alloc = rt.alloc();
-    assert_eq!(rt;
-        text_of(
-            alloc,
-            &CompletionItemCapabilityResolveSupport::default(alloc)
-        )?
-        .as_str(),
-        r#"{"properties":[]}"#
+    let mut trial = Trial::new(alloc);
+    trial.is_written(
+        CompletionItemCapabilityResolveSupport::default(alloc),
+        r#"{"properties":[]}"#,
     );
-    assert_eq!(rt;
-        text_of(alloc, &InsertTextModeSupport::default(alloc))?.as_str(),
-        r#"{"valueSet":[]}"#
+    trial.is_written(InsertTextModeSupport::default(alloc), r#"{"valueSet":[]}"#);
+    trial.is_written(
+        CodeActionCapabilityResolveSupport::default(alloc),
+        r#"{"properties":[]}"#,
     );
-    assert_eq!(rt;
-        text_of(alloc, &CodeActionCapabilityResolveSupport::default(alloc))?.as_str(),
-        r#"{"properties":[]}"#
+    trial.is_written(
+        CodeActionLiteralSupport::default(alloc),
+        r#"{"codeActionKind":{"valueSet":[]}}"#,
     );
-    assert_eq!(rt;
-        text_of(alloc, &CodeActionLiteralSupport::default(alloc))?.as_str(),
-        r#"{"codeActionKind":{"valueSet":[]}}"#
+    trial.is_written(
+        CodeActionKindLiteralSupport::default(alloc),
+        r#"{"valueSet":[]}"#,
     );
-    assert_eq!(rt;
-        text_of(alloc, &CodeActionKindLiteralSupport::default(alloc))?.as_str(),
-        r#"{"valueSet":[]}"#
+    trial.is_written(
+        SemanticTokensClientCapabilities::default(alloc),
+        r#"{"formats":[],"requests":{},"tokenModifiers":[],"tokenTypes":[]}"#,
     );
-    assert_eq!(rt;
-        text_of(alloc, &SemanticTokensClientCapabilities::default(alloc))?.as_str(),
-        r#"{"formats":[],"requests":{},"tokenModifiers":[],"tokenTypes":[]}"#
+    trial.is_written(
+        InlayHintResolveClientCapabilities::default(alloc),
+        r#"{"properties":[]}"#,
     );
-    assert_eq!(rt;
-        text_of(alloc, &InlayHintResolveClientCapabilities::default(alloc))?.as_str(),
-        r#"{"properties":[]}"#
-    );
-    Ok(())
+    trial.end()
 }

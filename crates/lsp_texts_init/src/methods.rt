@@ -1,7 +1,6 @@
 // The rows of lsp_methods.
 use lsp_methods::{ClientCapabilities, InitializeParams, InitializeResult, ServerCapabilities};
-use lsp_rows::{holds, text_of};
-use std::test::Fail;
+use lsp_rows::{RowError, Trial};
 
 const CLIENT_CAPABILITIES: &str = r#"
 {"experimental":26,"general":{"regularExpressions":{"engine":"engine"}},"notebookDocument":{"synchronization":{"dynamicRegistration":true}},"textDocument":{"synchronization":{"dynamicRegistration":true}},"window":{"workDoneProgress":true},"workspace":{"applyEdit":true}} :: ClientCapabilities { workspace: Some(WorkspaceClientCapabilities { apply_edit: Some(true), workspace_edit: None, did_change_configuration: None, did_change_watched_files: None, symbol: None, execute_command: None, workspace_folders: None, configuration: None, semantic_tokens: None, code_lens: None, file_operations: None, inline_value: None, inlay_hint: None, diagnostic: None }), text_document: Some(TextDocumentClientCapabilities { synchronization: Some(TextDocumentSyncClientCapabilities { dynamic_registration: Some(true), will_save: None, will_save_wait_until: None, did_save: None }), completion: None, hover: None, signature_help: None, references: None, document_highlight: None, document_symbol: None, formatting: None, range_formatting: None, on_type_formatting: None, declaration: None, definition: None, type_definition: None, implementation: None, code_action: None, code_lens: None, document_link: None, color_provider: None, rename: None, publish_diagnostics: None, folding_range: None, selection_range: None, linked_editing_range: None, call_hierarchy: None, semantic_tokens: None, moniker: None, type_hierarchy: None, inline_value: None, inlay_hint: None, diagnostic: None }), notebook_document: Some(NotebookDocumentClientCapabilities { synchronization: NotebookDocumentSyncClientCapabilities { dynamic_registration: Some(true), execution_summary_report: None } }), window: Some(WindowClientCapabilities { work_done_progress: Some(true), show_message: None, show_document: None }), general: Some(GeneralClientCapabilities { regular_expressions: Some(RegularExpressionsClientCapabilities { engine: "engine", version: None }), markdown: None, stale_request_support: None, position_encodings: None }), experimental: Some(Number(26)) }
@@ -54,33 +53,24 @@ const INITIALIZE_RESULT: &str = r##"
 "##;
 
 #[test]
-fn rows_1(rt: HostRuntime) -> Result<(), Fail> {
-    let alloc = rt.alloc();
-    holds::<ClientCapabilities>(alloc, CLIENT_CAPABILITIES)?;
-    holds::<InitializeParams>(alloc, INITIALIZE_PARAMS)?;
-    holds::<ServerCapabilities>(alloc, SERVER_CAPABILITIES)?;
-    holds::<InitializeResult>(alloc, INITIALIZE_RESULT)?;
-    Ok(())
+fn rows_1(rt: HostRuntime) -> Result<(), RowError> {
+    let mut trial = Trial::new(rt.alloc());
+    trial.holds::<ClientCapabilities>(CLIENT_CAPABILITIES);
+    trial.holds::<InitializeParams>(INITIALIZE_PARAMS);
+    trial.holds::<ServerCapabilities>(SERVER_CAPABILITIES);
+    trial.holds::<InitializeResult>(INITIALIZE_RESULT);
+    trial.end()
 }
 
 #[test]
-fn defaults(rt: HostRuntime) -> Result<(), Fail> {
-    let alloc = rt.alloc();
-    assert_eq!(rt;
-        text_of(alloc, &ClientCapabilities::default())?.as_str(),
-        r#"{}"#
+fn defaults(rt: HostRuntime) -> Result<(), RowError> {
+    let mut trial = Trial::new(rt.alloc());
+    trial.is_written(ClientCapabilities::default(), r#"{}"#);
+    trial.is_written(
+        InitializeParams::default(),
+        r#"{"capabilities":{},"processId":null,"rootUri":null}"#,
     );
-    assert_eq!(rt;
-        text_of(alloc, &InitializeParams::default())?.as_str(),
-        r#"{"capabilities":{},"processId":null,"rootUri":null}"#
-    );
-    assert_eq!(rt;
-        text_of(alloc, &ServerCapabilities::default())?.as_str(),
-        r#"{}"#
-    );
-    assert_eq!(rt;
-        text_of(alloc, &InitializeResult::default())?.as_str(),
-        r#"{"capabilities":{}}"#
-    );
-    Ok(())
+    trial.is_written(ServerCapabilities::default(), r#"{}"#);
+    trial.is_written(InitializeResult::default(), r#"{"capabilities":{}}"#);
+    trial.end()
 }

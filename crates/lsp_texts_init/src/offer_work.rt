@@ -10,8 +10,7 @@ use lsp_offer_work::{
     WorkspaceFileOperationsServerCapabilities, WorkspaceFoldersServerCapabilities,
     WorkspaceServerCapabilities,
 };
-use lsp_rows::{holds, text_of};
-use std::test::Fail;
+use lsp_rows::{RowError, Trial};
 
 const REGISTRATION: &str = r#"
 {"id":"id","method":"method","registerOptions":15} :: Registration { id: "id", method: "method", register_options: Some(Number(15)) }
@@ -204,102 +203,79 @@ const INITIALIZE_ERROR: &str = r#"
 "#;
 
 #[test]
-fn rows_1(rt: HostRuntime) -> Result<(), Fail> {
-    let alloc = rt.alloc();
-    holds::<Registration>(alloc, REGISTRATION)?;
-    holds::<RegistrationParams>(alloc, REGISTRATION_PARAMS)?;
-    holds::<Unregistration>(alloc, UNREGISTRATION)?;
-    holds::<UnregistrationParams>(alloc, UNREGISTRATION_PARAMS)?;
-    holds::<ExecuteCommandOptions>(alloc, EXECUTE_COMMAND_OPTIONS)?;
-    holds::<ExecuteCommandRegistrationOptions>(alloc, EXECUTE_COMMAND_REGISTRATION_OPTIONS)?;
-    holds::<DidChangeWatchedFilesRegistrationOptions>(
-        alloc,
+fn rows_1(rt: HostRuntime) -> Result<(), RowError> {
+    let mut trial = Trial::new(rt.alloc());
+    trial.holds::<Registration>(REGISTRATION);
+    trial.holds::<RegistrationParams>(REGISTRATION_PARAMS);
+    trial.holds::<Unregistration>(UNREGISTRATION);
+    trial.holds::<UnregistrationParams>(UNREGISTRATION_PARAMS);
+    trial.holds::<ExecuteCommandOptions>(EXECUTE_COMMAND_OPTIONS);
+    trial.holds::<ExecuteCommandRegistrationOptions>(EXECUTE_COMMAND_REGISTRATION_OPTIONS);
+    trial.holds::<DidChangeWatchedFilesRegistrationOptions>(
         DID_CHANGE_WATCHED_FILES_REGISTRATION_OPTIONS,
-    )?;
-    holds::<FileSystemWatcher>(alloc, FILE_SYSTEM_WATCHER)?;
-    holds::<GlobPattern>(alloc, GLOB_PATTERN)?;
-    holds::<RelativePattern>(alloc, RELATIVE_PATTERN)?;
-    holds::<WatchKind>(alloc, WATCH_KIND)?;
-    holds::<WorkspaceFileOperationsServerCapabilities>(
-        alloc,
+    );
+    trial.holds::<FileSystemWatcher>(FILE_SYSTEM_WATCHER);
+    trial.holds::<GlobPattern>(GLOB_PATTERN);
+    trial.holds::<RelativePattern>(RELATIVE_PATTERN);
+    trial.holds::<WatchKind>(WATCH_KIND);
+    trial.holds::<WorkspaceFileOperationsServerCapabilities>(
         WORKSPACE_FILE_OPERATIONS_SERVER_CAPABILITIES,
-    )?;
-    Ok(())
+    );
+    trial.end()
 }
 
 #[test]
-fn rows_2(rt: HostRuntime) -> Result<(), Fail> {
-    let alloc = rt.alloc();
-    holds::<FileOperationRegistrationOptions>(alloc, FILE_OPERATION_REGISTRATION_OPTIONS)?;
-    holds::<FileOperationFilter>(alloc, FILE_OPERATION_FILTER)?;
-    holds::<FileOperationPatternKind>(alloc, FILE_OPERATION_PATTERN_KIND)?;
-    holds::<FileOperationPatternOptions>(alloc, FILE_OPERATION_PATTERN_OPTIONS)?;
-    holds::<FileOperationPattern>(alloc, FILE_OPERATION_PATTERN)?;
-    holds::<WorkspaceServerCapabilities>(alloc, WORKSPACE_SERVER_CAPABILITIES)?;
-    holds::<WorkspaceFoldersServerCapabilities>(alloc, WORKSPACE_FOLDERS_SERVER_CAPABILITIES)?;
-    holds::<NotebookDocumentSyncOptions>(alloc, NOTEBOOK_DOCUMENT_SYNC_OPTIONS)?;
-    holds::<NotebookDocumentSyncRegistrationOptions>(
-        alloc,
+fn rows_2(rt: HostRuntime) -> Result<(), RowError> {
+    let mut trial = Trial::new(rt.alloc());
+    trial.holds::<FileOperationRegistrationOptions>(FILE_OPERATION_REGISTRATION_OPTIONS);
+    trial.holds::<FileOperationFilter>(FILE_OPERATION_FILTER);
+    trial.holds::<FileOperationPatternKind>(FILE_OPERATION_PATTERN_KIND);
+    trial.holds::<FileOperationPatternOptions>(FILE_OPERATION_PATTERN_OPTIONS);
+    trial.holds::<FileOperationPattern>(FILE_OPERATION_PATTERN);
+    trial.holds::<WorkspaceServerCapabilities>(WORKSPACE_SERVER_CAPABILITIES);
+    trial.holds::<WorkspaceFoldersServerCapabilities>(WORKSPACE_FOLDERS_SERVER_CAPABILITIES);
+    trial.holds::<NotebookDocumentSyncOptions>(NOTEBOOK_DOCUMENT_SYNC_OPTIONS);
+    trial.holds::<NotebookDocumentSyncRegistrationOptions>(
         NOTEBOOK_DOCUMENT_SYNC_REGISTRATION_OPTIONS,
-    )?;
-    holds::<NotebookCellTextDocumentFilter>(alloc, NOTEBOOK_CELL_TEXT_DOCUMENT_FILTER)?;
-    holds::<NotebookSelector>(alloc, NOTEBOOK_SELECTOR)?;
-    holds::<NotebookCellSelector>(alloc, NOTEBOOK_CELL_SELECTOR)?;
-    Ok(())
+    );
+    trial.holds::<NotebookCellTextDocumentFilter>(NOTEBOOK_CELL_TEXT_DOCUMENT_FILTER);
+    trial.holds::<NotebookSelector>(NOTEBOOK_SELECTOR);
+    trial.holds::<NotebookCellSelector>(NOTEBOOK_CELL_SELECTOR);
+    trial.end()
 }
 
 #[test]
-fn rows_3(rt: HostRuntime) -> Result<(), Fail> {
-    let alloc = rt.alloc();
-    holds::<Notebook>(alloc, NOTEBOOK)?;
-    holds::<NotebookDocumentFilter>(alloc, NOTEBOOK_DOCUMENT_FILTER)?;
-    holds::<ServerInfo>(alloc, SERVER_INFO)?;
-    holds::<InitializeError>(alloc, INITIALIZE_ERROR)?;
-    Ok(())
+fn rows_3(rt: HostRuntime) -> Result<(), RowError> {
+    let mut trial = Trial::new(rt.alloc());
+    trial.holds::<Notebook>(NOTEBOOK);
+    trial.holds::<NotebookDocumentFilter>(NOTEBOOK_DOCUMENT_FILTER);
+    trial.holds::<ServerInfo>(SERVER_INFO);
+    trial.holds::<InitializeError>(INITIALIZE_ERROR);
+    trial.end()
 }
 
 #[test]
-fn defaults(rt: HostRuntime) -> Result<(), Fail> {
+fn defaults(rt: HostRuntime) -> Result<(), RowError> {
     let alloc = rt.alloc();
-    assert_eq!(rt;
-        text_of(alloc, &ExecuteCommandOptions::default(alloc))?.as_str(),
-        r#"{"commands":[]}"#
+    let mut trial = Trial::new(alloc);
+    trial.is_written(ExecuteCommandOptions::default(alloc), r#"{"commands":[]}"#);
+    trial.is_written(
+        WorkspaceFileOperationsServerCapabilities::default(),
+        r#"{}"#,
     );
-    assert_eq!(rt;
-        text_of(alloc, &WorkspaceFileOperationsServerCapabilities::default())?.as_str(),
-        r#"{}"#
+    trial.is_written(
+        FileOperationRegistrationOptions::default(alloc),
+        r#"{"filters":[]}"#,
     );
-    assert_eq!(rt;
-        text_of(alloc, &FileOperationRegistrationOptions::default(alloc))?.as_str(),
-        r#"{"filters":[]}"#
+    trial.is_written(
+        FileOperationFilter::default(alloc),
+        r#"{"pattern":{"glob":""},"scheme":null}"#,
     );
-    assert_eq!(rt;
-        text_of(alloc, &FileOperationFilter::default(alloc))?.as_str(),
-        r#"{"pattern":{"glob":""},"scheme":null}"#
-    );
-    assert_eq!(rt;
-        text_of(alloc, &FileOperationPatternOptions::default())?.as_str(),
-        r#"{}"#
-    );
-    assert_eq!(rt;
-        text_of(alloc, &FileOperationPattern::default(alloc))?.as_str(),
-        r#"{"glob":""}"#
-    );
-    assert_eq!(rt;
-        text_of(alloc, &WorkspaceServerCapabilities::default())?.as_str(),
-        r#"{}"#
-    );
-    assert_eq!(rt;
-        text_of(alloc, &WorkspaceFoldersServerCapabilities::default())?.as_str(),
-        r#"{}"#
-    );
-    assert_eq!(rt;
-        text_of(alloc, &ServerInfo::default(alloc))?.as_str(),
-        r#"{"name":""}"#
-    );
-    assert_eq!(rt;
-        text_of(alloc, &InitializeError::default())?.as_str(),
-        r#"{"retry":false}"#
-    );
-    Ok(())
+    trial.is_written(FileOperationPatternOptions::default(), r#"{}"#);
+    trial.is_written(FileOperationPattern::default(alloc), r#"{"glob":""}"#);
+    trial.is_written(WorkspaceServerCapabilities::default(), r#"{}"#);
+    trial.is_written(WorkspaceFoldersServerCapabilities::default(), r#"{}"#);
+    trial.is_written(ServerInfo::default(alloc), r#"{"name":""}"#);
+    trial.is_written(InitializeError::default(), r#"{"retry":false}"#);
+    trial.end()
 }

@@ -9,8 +9,7 @@ use lsp_lang_goto::{
     TypeHierarchyPrepareParams, TypeHierarchySubtypesParams, TypeHierarchySupertypesParams,
     WorkspaceLocation, WorkspaceSymbol, WorkspaceSymbolParams, WorkspaceSymbolResponse,
 };
-use lsp_rows::{holds, text_of};
-use std::test::Fail;
+use lsp_rows::{RowError, Trial};
 
 const GOTO_DEFINITION_PARAMS: &str = r#"
 {"partialResultToken":89,"position":{"character":29,"line":85},"textDocument":{"uri":"file:///uri"},"workDoneToken":71} :: GotoDefinitionParams { text_document_position_params: TextDocumentPositionParams { text_document: TextDocumentIdentifier { uri: Uri { text: "file:///uri" } }, position: Position { line: 85, character: 29 } }, work_done_progress_params: WorkDoneProgressParams { work_done_token: Some(Number(71)) }, partial_result_params: PartialResultParams { partial_result_token: Some(Number(89)) } }
@@ -237,62 +236,60 @@ const GENERIC_PARAMS: &str = r#"
 "#;
 
 #[test]
-fn rows_1(rt: HostRuntime) -> Result<(), Fail> {
-    let alloc = rt.alloc();
-    holds::<GotoDefinitionParams>(alloc, GOTO_DEFINITION_PARAMS)?;
-    holds::<GotoDefinitionResponse>(alloc, GOTO_DEFINITION_RESPONSE)?;
-    holds::<ReferenceParams>(alloc, REFERENCE_PARAMS)?;
-    holds::<ReferenceContext>(alloc, REFERENCE_CONTEXT)?;
-    holds::<DocumentHighlightParams>(alloc, DOCUMENT_HIGHLIGHT_PARAMS)?;
-    holds::<DocumentHighlight>(alloc, DOCUMENT_HIGHLIGHT)?;
-    holds::<CallHierarchyPrepareParams>(alloc, CALL_HIERARCHY_PREPARE_PARAMS)?;
-    holds::<CallHierarchyItem>(alloc, CALL_HIERARCHY_ITEM)?;
-    holds::<CallHierarchyIncomingCallsParams>(alloc, CALL_HIERARCHY_INCOMING_CALLS_PARAMS)?;
-    holds::<CallHierarchyIncomingCall>(alloc, CALL_HIERARCHY_INCOMING_CALL)?;
-    holds::<CallHierarchyOutgoingCallsParams>(alloc, CALL_HIERARCHY_OUTGOING_CALLS_PARAMS)?;
-    holds::<CallHierarchyOutgoingCall>(alloc, CALL_HIERARCHY_OUTGOING_CALL)?;
-    Ok(())
+fn rows_1(rt: HostRuntime) -> Result<(), RowError> {
+    let mut trial = Trial::new(rt.alloc());
+    trial.holds::<GotoDefinitionParams>(GOTO_DEFINITION_PARAMS);
+    trial.holds::<GotoDefinitionResponse>(GOTO_DEFINITION_RESPONSE);
+    trial.holds::<ReferenceParams>(REFERENCE_PARAMS);
+    trial.holds::<ReferenceContext>(REFERENCE_CONTEXT);
+    trial.holds::<DocumentHighlightParams>(DOCUMENT_HIGHLIGHT_PARAMS);
+    trial.holds::<DocumentHighlight>(DOCUMENT_HIGHLIGHT);
+    trial.holds::<CallHierarchyPrepareParams>(CALL_HIERARCHY_PREPARE_PARAMS);
+    trial.holds::<CallHierarchyItem>(CALL_HIERARCHY_ITEM);
+    trial.holds::<CallHierarchyIncomingCallsParams>(CALL_HIERARCHY_INCOMING_CALLS_PARAMS);
+    trial.holds::<CallHierarchyIncomingCall>(CALL_HIERARCHY_INCOMING_CALL);
+    trial.holds::<CallHierarchyOutgoingCallsParams>(CALL_HIERARCHY_OUTGOING_CALLS_PARAMS);
+    trial.holds::<CallHierarchyOutgoingCall>(CALL_HIERARCHY_OUTGOING_CALL);
+    trial.end()
 }
 
 #[test]
-fn rows_2(rt: HostRuntime) -> Result<(), Fail> {
-    let alloc = rt.alloc();
-    holds::<TypeHierarchyPrepareParams>(alloc, TYPE_HIERARCHY_PREPARE_PARAMS)?;
-    holds::<TypeHierarchySupertypesParams>(alloc, TYPE_HIERARCHY_SUPERTYPES_PARAMS)?;
-    holds::<TypeHierarchySubtypesParams>(alloc, TYPE_HIERARCHY_SUBTYPES_PARAMS)?;
-    holds::<TypeHierarchyItem>(alloc, TYPE_HIERARCHY_ITEM)?;
-    holds::<DocumentSymbolParams>(alloc, DOCUMENT_SYMBOL_PARAMS)?;
-    holds::<DocumentSymbolResponse>(alloc, DOCUMENT_SYMBOL_RESPONSE)?;
-    holds::<SymbolInformation>(alloc, SYMBOL_INFORMATION)?;
-    holds::<WorkspaceSymbolParams>(alloc, WORKSPACE_SYMBOL_PARAMS)?;
-    holds::<WorkspaceSymbolResponse>(alloc, WORKSPACE_SYMBOL_RESPONSE)?;
-    holds::<WorkspaceSymbol>(alloc, WORKSPACE_SYMBOL)?;
-    holds::<WorkspaceLocation>(alloc, WORKSPACE_LOCATION)?;
-    holds::<DocumentSymbol>(alloc, DOCUMENT_SYMBOL)?;
-    Ok(())
+fn rows_2(rt: HostRuntime) -> Result<(), RowError> {
+    let mut trial = Trial::new(rt.alloc());
+    trial.holds::<TypeHierarchyPrepareParams>(TYPE_HIERARCHY_PREPARE_PARAMS);
+    trial.holds::<TypeHierarchySupertypesParams>(TYPE_HIERARCHY_SUPERTYPES_PARAMS);
+    trial.holds::<TypeHierarchySubtypesParams>(TYPE_HIERARCHY_SUBTYPES_PARAMS);
+    trial.holds::<TypeHierarchyItem>(TYPE_HIERARCHY_ITEM);
+    trial.holds::<DocumentSymbolParams>(DOCUMENT_SYMBOL_PARAMS);
+    trial.holds::<DocumentSymbolResponse>(DOCUMENT_SYMBOL_RESPONSE);
+    trial.holds::<SymbolInformation>(SYMBOL_INFORMATION);
+    trial.holds::<WorkspaceSymbolParams>(WORKSPACE_SYMBOL_PARAMS);
+    trial.holds::<WorkspaceSymbolResponse>(WORKSPACE_SYMBOL_RESPONSE);
+    trial.holds::<WorkspaceSymbol>(WORKSPACE_SYMBOL);
+    trial.holds::<WorkspaceLocation>(WORKSPACE_LOCATION);
+    trial.holds::<DocumentSymbol>(DOCUMENT_SYMBOL);
+    trial.end()
 }
 
 #[test]
-fn rows_3(rt: HostRuntime) -> Result<(), Fail> {
-    let alloc = rt.alloc();
-    holds::<DocumentLinkParams>(alloc, DOCUMENT_LINK_PARAMS)?;
-    holds::<DocumentLink>(alloc, DOCUMENT_LINK)?;
-    holds::<HoverParams>(alloc, HOVER_PARAMS)?;
-    holds::<Hover>(alloc, HOVER)?;
-    holds::<HoverContents>(alloc, HOVER_CONTENTS)?;
-    holds::<CodeLensParams>(alloc, CODE_LENS_PARAMS)?;
-    holds::<CodeLens>(alloc, CODE_LENS)?;
-    holds::<DocumentColorParams>(alloc, DOCUMENT_COLOR_PARAMS)?;
-    holds::<GenericParams>(alloc, GENERIC_PARAMS)?;
-    Ok(())
+fn rows_3(rt: HostRuntime) -> Result<(), RowError> {
+    let mut trial = Trial::new(rt.alloc());
+    trial.holds::<DocumentLinkParams>(DOCUMENT_LINK_PARAMS);
+    trial.holds::<DocumentLink>(DOCUMENT_LINK);
+    trial.holds::<HoverParams>(HOVER_PARAMS);
+    trial.holds::<Hover>(HOVER);
+    trial.holds::<HoverContents>(HOVER_CONTENTS);
+    trial.holds::<CodeLensParams>(CODE_LENS_PARAMS);
+    trial.holds::<CodeLens>(CODE_LENS);
+    trial.holds::<DocumentColorParams>(DOCUMENT_COLOR_PARAMS);
+    trial.holds::<GenericParams>(GENERIC_PARAMS);
+    trial.end()
 }
 
 #[test]
-fn defaults(rt: HostRuntime) -> Result<(), Fail> {
+fn defaults(rt: HostRuntime) -> Result<(), RowError> {
     let alloc = rt.alloc();
-    assert_eq!(rt;
-        text_of(alloc, &WorkspaceSymbolParams::default(alloc))?.as_str(),
-        r#"{"query":""}"#
-    );
-    Ok(())
+    let mut trial = Trial::new(alloc);
+    trial.is_written(WorkspaceSymbolParams::default(alloc), r#"{"query":""}"#);
+    trial.end()
 }

@@ -7,8 +7,7 @@ use lsp_lang_item::{
     InlineValueContext, InlineValueEvaluatableExpression, InlineValueParams, InlineValueText,
     InlineValueVariableLookup, InsertReplaceEdit, PrepareRenameResponse, RenameParams,
 };
-use lsp_rows::{holds, text_of};
-use std::test::Fail;
+use lsp_rows::{RowError, Trial};
 
 const COMPLETION_PARAMS: &str = r#"
 {"context":{"triggerKind":145},"partialResultToken":89,"position":{"character":29,"line":85},"textDocument":{"uri":"file:///uri"},"workDoneToken":71} :: CompletionParams { text_document_position: TextDocumentPositionParams { text_document: TextDocumentIdentifier { uri: Uri { text: "file:///uri" } }, position: Position { line: 85, character: 29 } }, work_done_progress_params: WorkDoneProgressParams { work_done_token: Some(Number(71)) }, partial_result_params: PartialResultParams { partial_result_token: Some(Number(89)) }, context: Some(CompletionContext { trigger_kind: CompletionTriggerKind(145), trigger_character: None }) }
@@ -186,100 +185,83 @@ const PREPARE_RENAME_RESPONSE: &str = r#"
 "#;
 
 #[test]
-fn rows_1(rt: HostRuntime) -> Result<(), Fail> {
-    let alloc = rt.alloc();
-    holds::<CompletionParams>(alloc, COMPLETION_PARAMS)?;
-    holds::<CompletionContext>(alloc, COMPLETION_CONTEXT)?;
-    holds::<CompletionResponse>(alloc, COMPLETION_RESPONSE)?;
-    holds::<CompletionList>(alloc, COMPLETION_LIST)?;
-    holds::<CompletionItem>(alloc, COMPLETION_ITEM)?;
-    holds::<CompletionItemLabelDetails>(alloc, COMPLETION_ITEM_LABEL_DETAILS)?;
-    holds::<CompletionTextEdit>(alloc, COMPLETION_TEXT_EDIT)?;
-    holds::<InsertReplaceEdit>(alloc, INSERT_REPLACE_EDIT)?;
-    holds::<CodeActionParams>(alloc, CODE_ACTION_PARAMS)?;
-    holds::<CodeActionContext>(alloc, CODE_ACTION_CONTEXT)?;
-    holds::<CodeActionOrCommand>(alloc, CODE_ACTION_OR_COMMAND)?;
-    holds::<CodeAction>(alloc, CODE_ACTION)?;
-    Ok(())
+fn rows_1(rt: HostRuntime) -> Result<(), RowError> {
+    let mut trial = Trial::new(rt.alloc());
+    trial.holds::<CompletionParams>(COMPLETION_PARAMS);
+    trial.holds::<CompletionContext>(COMPLETION_CONTEXT);
+    trial.holds::<CompletionResponse>(COMPLETION_RESPONSE);
+    trial.holds::<CompletionList>(COMPLETION_LIST);
+    trial.holds::<CompletionItem>(COMPLETION_ITEM);
+    trial.holds::<CompletionItemLabelDetails>(COMPLETION_ITEM_LABEL_DETAILS);
+    trial.holds::<CompletionTextEdit>(COMPLETION_TEXT_EDIT);
+    trial.holds::<InsertReplaceEdit>(INSERT_REPLACE_EDIT);
+    trial.holds::<CodeActionParams>(CODE_ACTION_PARAMS);
+    trial.holds::<CodeActionContext>(CODE_ACTION_CONTEXT);
+    trial.holds::<CodeActionOrCommand>(CODE_ACTION_OR_COMMAND);
+    trial.holds::<CodeAction>(CODE_ACTION);
+    trial.end()
 }
 
 #[test]
-fn rows_2(rt: HostRuntime) -> Result<(), Fail> {
-    let alloc = rt.alloc();
-    holds::<CodeActionDisabled>(alloc, CODE_ACTION_DISABLED)?;
-    holds::<InlayHintParams>(alloc, INLAY_HINT_PARAMS)?;
-    holds::<InlayHint>(alloc, INLAY_HINT)?;
-    holds::<InlayHintLabel>(alloc, INLAY_HINT_LABEL)?;
-    holds::<InlayHintTooltip>(alloc, INLAY_HINT_TOOLTIP)?;
-    holds::<InlayHintLabelPart>(alloc, INLAY_HINT_LABEL_PART)?;
-    holds::<InlayHintLabelPartTooltip>(alloc, INLAY_HINT_LABEL_PART_TOOLTIP)?;
-    holds::<InlineValueParams>(alloc, INLINE_VALUE_PARAMS)?;
-    holds::<InlineValueContext>(alloc, INLINE_VALUE_CONTEXT)?;
-    holds::<InlineValue>(alloc, INLINE_VALUE)?;
-    holds::<InlineValueText>(alloc, INLINE_VALUE_TEXT)?;
-    holds::<InlineValueVariableLookup>(alloc, INLINE_VALUE_VARIABLE_LOOKUP)?;
-    Ok(())
+fn rows_2(rt: HostRuntime) -> Result<(), RowError> {
+    let mut trial = Trial::new(rt.alloc());
+    trial.holds::<CodeActionDisabled>(CODE_ACTION_DISABLED);
+    trial.holds::<InlayHintParams>(INLAY_HINT_PARAMS);
+    trial.holds::<InlayHint>(INLAY_HINT);
+    trial.holds::<InlayHintLabel>(INLAY_HINT_LABEL);
+    trial.holds::<InlayHintTooltip>(INLAY_HINT_TOOLTIP);
+    trial.holds::<InlayHintLabelPart>(INLAY_HINT_LABEL_PART);
+    trial.holds::<InlayHintLabelPartTooltip>(INLAY_HINT_LABEL_PART_TOOLTIP);
+    trial.holds::<InlineValueParams>(INLINE_VALUE_PARAMS);
+    trial.holds::<InlineValueContext>(INLINE_VALUE_CONTEXT);
+    trial.holds::<InlineValue>(INLINE_VALUE);
+    trial.holds::<InlineValueText>(INLINE_VALUE_TEXT);
+    trial.holds::<InlineValueVariableLookup>(INLINE_VALUE_VARIABLE_LOOKUP);
+    trial.end()
 }
 
 #[test]
-fn rows_3(rt: HostRuntime) -> Result<(), Fail> {
-    let alloc = rt.alloc();
-    holds::<InlineValueEvaluatableExpression>(alloc, INLINE_VALUE_EVALUATABLE_EXPRESSION)?;
-    holds::<RenameParams>(alloc, RENAME_PARAMS)?;
-    holds::<PrepareRenameResponse>(alloc, PREPARE_RENAME_RESPONSE)?;
-    Ok(())
+fn rows_3(rt: HostRuntime) -> Result<(), RowError> {
+    let mut trial = Trial::new(rt.alloc());
+    trial.holds::<InlineValueEvaluatableExpression>(INLINE_VALUE_EVALUATABLE_EXPRESSION);
+    trial.holds::<RenameParams>(RENAME_PARAMS);
+    trial.holds::<PrepareRenameResponse>(PREPARE_RENAME_RESPONSE);
+    trial.end()
 }
 
 #[test]
-fn defaults(rt: HostRuntime) -> Result<(), Fail> {
+fn defaults(rt: HostRuntime) -> Result<(), RowError> {
     let alloc = rt.alloc();
-    assert_eq!(rt;
-        text_of(alloc, &CompletionList::default(alloc))?.as_str(),
-        r#"{"isIncomplete":false,"items":[]}"#
+    let mut trial = Trial::new(alloc);
+    trial.is_written(
+        CompletionList::default(alloc),
+        r#"{"isIncomplete":false,"items":[]}"#,
     );
-    assert_eq!(rt;
-        text_of(alloc, &CompletionItem::default(alloc))?.as_str(),
-        r#"{"label":""}"#
+    trial.is_written(CompletionItem::default(alloc), r#"{"label":""}"#);
+    trial.is_written(CompletionItemLabelDetails::default(), r#"{}"#);
+    trial.is_written(
+        InsertReplaceEdit::default(alloc),
+        r#"{"insert":{"end":{"character":0,"line":0},"start":{"character":0,"line":0}},"newText":"","replace":{"end":{"character":0,"line":0},"start":{"character":0,"line":0}}}"#,
     );
-    assert_eq!(rt;
-        text_of(alloc, &CompletionItemLabelDetails::default())?.as_str(),
-        r#"{}"#
+    trial.is_written(CodeActionContext::default(alloc), r#"{"diagnostics":[]}"#);
+    trial.is_written(CodeAction::default(alloc), r#"{"title":""}"#);
+    trial.is_written(CodeActionDisabled::default(alloc), r#"{"reason":""}"#);
+    trial.is_written(InlayHintLabelPart::default(alloc), r#"{"value":""}"#);
+    trial.is_written(
+        InlineValueContext::default(),
+        r#"{"frameId":0,"stoppedLocation":{"end":{"character":0,"line":0},"start":{"character":0,"line":0}}}"#,
     );
-    assert_eq!(rt;
-        text_of(alloc, &InsertReplaceEdit::default(alloc))?.as_str(),
-        r#"{"insert":{"end":{"character":0,"line":0},"start":{"character":0,"line":0}},"newText":"","replace":{"end":{"character":0,"line":0},"start":{"character":0,"line":0}}}"#
+    trial.is_written(
+        InlineValueText::default(alloc),
+        r#"{"range":{"end":{"character":0,"line":0},"start":{"character":0,"line":0}},"text":""}"#,
     );
-    assert_eq!(rt;
-        text_of(alloc, &CodeActionContext::default(alloc))?.as_str(),
-        r#"{"diagnostics":[]}"#
+    trial.is_written(
+        InlineValueVariableLookup::default(),
+        r#"{"caseSensitiveLookup":false,"range":{"end":{"character":0,"line":0},"start":{"character":0,"line":0}}}"#,
     );
-    assert_eq!(rt;
-        text_of(alloc, &CodeAction::default(alloc))?.as_str(),
-        r#"{"title":""}"#
+    trial.is_written(
+        InlineValueEvaluatableExpression::default(),
+        r#"{"range":{"end":{"character":0,"line":0},"start":{"character":0,"line":0}}}"#,
     );
-    assert_eq!(rt;
-        text_of(alloc, &CodeActionDisabled::default(alloc))?.as_str(),
-        r#"{"reason":""}"#
-    );
-    assert_eq!(rt;
-        text_of(alloc, &InlayHintLabelPart::default(alloc))?.as_str(),
-        r#"{"value":""}"#
-    );
-    assert_eq!(rt;
-        text_of(alloc, &InlineValueContext::default())?.as_str(),
-        r#"{"frameId":0,"stoppedLocation":{"end":{"character":0,"line":0},"start":{"character":0,"line":0}}}"#
-    );
-    assert_eq!(rt;
-        text_of(alloc, &InlineValueText::default(alloc))?.as_str(),
-        r#"{"range":{"end":{"character":0,"line":0},"start":{"character":0,"line":0}},"text":""}"#
-    );
-    assert_eq!(rt;
-        text_of(alloc, &InlineValueVariableLookup::default())?.as_str(),
-        r#"{"caseSensitiveLookup":false,"range":{"end":{"character":0,"line":0},"start":{"character":0,"line":0}}}"#
-    );
-    assert_eq!(rt;
-        text_of(alloc, &InlineValueEvaluatableExpression::default())?.as_str(),
-        r#"{"range":{"end":{"character":0,"line":0},"start":{"character":0,"line":0}}}"#
-    );
-    Ok(())
+    trial.end()
 }

@@ -13,8 +13,7 @@ use lsp_report::{
     WorkspaceDiagnosticReportResult, WorkspaceDocumentDiagnosticReport,
     WorkspaceFullDocumentDiagnosticReport, WorkspaceUnchangedDocumentDiagnosticReport,
 };
-use lsp_rows::{holds, text_of};
-use std::test::Fail;
+use lsp_rows::{RowError, Trial};
 
 const DOCUMENT_DIAGNOSTIC_PARAMS: &str = r#"
 {"identifier":"identifier","partialResultToken":89,"previousResultId":"previousResultId","textDocument":{"uri":"file:///uri"},"workDoneToken":71} :: DocumentDiagnosticParams { text_document: TextDocumentIdentifier { uri: Uri { text: "file:///uri" } }, identifier: Some("identifier"), previous_result_id: Some("previousResultId"), work_done_progress_params: WorkDoneProgressParams { work_done_token: Some(Number(71)) }, partial_result_params: PartialResultParams { partial_result_token: Some(Number(89)) } }
@@ -186,96 +185,78 @@ const DID_CLOSE_NOTEBOOK_DOCUMENT_PARAMS: &str = r#"
 "#;
 
 #[test]
-fn rows_1(rt: HostRuntime) -> Result<(), Fail> {
-    let alloc = rt.alloc();
-    holds::<DocumentDiagnosticParams>(alloc, DOCUMENT_DIAGNOSTIC_PARAMS)?;
-    holds::<DocumentDiagnosticReportResult>(alloc, DOCUMENT_DIAGNOSTIC_REPORT_RESULT)?;
-    holds::<DocumentDiagnosticReport>(alloc, DOCUMENT_DIAGNOSTIC_REPORT)?;
-    holds::<DocumentDiagnosticReportKind>(alloc, DOCUMENT_DIAGNOSTIC_REPORT_KIND)?;
-    holds::<RelatedFullDocumentDiagnosticReport>(alloc, RELATED_FULL_DOCUMENT_DIAGNOSTIC_REPORT)?;
-    holds::<RelatedUnchangedDocumentDiagnosticReport>(
-        alloc,
+fn rows_1(rt: HostRuntime) -> Result<(), RowError> {
+    let mut trial = Trial::new(rt.alloc());
+    trial.holds::<DocumentDiagnosticParams>(DOCUMENT_DIAGNOSTIC_PARAMS);
+    trial.holds::<DocumentDiagnosticReportResult>(DOCUMENT_DIAGNOSTIC_REPORT_RESULT);
+    trial.holds::<DocumentDiagnosticReport>(DOCUMENT_DIAGNOSTIC_REPORT);
+    trial.holds::<DocumentDiagnosticReportKind>(DOCUMENT_DIAGNOSTIC_REPORT_KIND);
+    trial.holds::<RelatedFullDocumentDiagnosticReport>(RELATED_FULL_DOCUMENT_DIAGNOSTIC_REPORT);
+    trial.holds::<RelatedUnchangedDocumentDiagnosticReport>(
         RELATED_UNCHANGED_DOCUMENT_DIAGNOSTIC_REPORT,
-    )?;
-    holds::<FullDocumentDiagnosticReport>(alloc, FULL_DOCUMENT_DIAGNOSTIC_REPORT)?;
-    holds::<UnchangedDocumentDiagnosticReport>(alloc, UNCHANGED_DOCUMENT_DIAGNOSTIC_REPORT)?;
-    holds::<DocumentDiagnosticReportPartialResult>(
-        alloc,
-        DOCUMENT_DIAGNOSTIC_REPORT_PARTIAL_RESULT,
-    )?;
-    holds::<WorkspaceDiagnosticParams>(alloc, WORKSPACE_DIAGNOSTIC_PARAMS)?;
-    holds::<PreviousResultId>(alloc, PREVIOUS_RESULT_ID)?;
-    holds::<WorkspaceDiagnosticReportResult>(alloc, WORKSPACE_DIAGNOSTIC_REPORT_RESULT)?;
-    Ok(())
+    );
+    trial.holds::<FullDocumentDiagnosticReport>(FULL_DOCUMENT_DIAGNOSTIC_REPORT);
+    trial.holds::<UnchangedDocumentDiagnosticReport>(UNCHANGED_DOCUMENT_DIAGNOSTIC_REPORT);
+    trial.holds::<DocumentDiagnosticReportPartialResult>(DOCUMENT_DIAGNOSTIC_REPORT_PARTIAL_RESULT);
+    trial.holds::<WorkspaceDiagnosticParams>(WORKSPACE_DIAGNOSTIC_PARAMS);
+    trial.holds::<PreviousResultId>(PREVIOUS_RESULT_ID);
+    trial.holds::<WorkspaceDiagnosticReportResult>(WORKSPACE_DIAGNOSTIC_REPORT_RESULT);
+    trial.end()
 }
 
 #[test]
-fn rows_2(rt: HostRuntime) -> Result<(), Fail> {
-    let alloc = rt.alloc();
-    holds::<WorkspaceDiagnosticReport>(alloc, WORKSPACE_DIAGNOSTIC_REPORT)?;
-    holds::<WorkspaceDocumentDiagnosticReport>(alloc, WORKSPACE_DOCUMENT_DIAGNOSTIC_REPORT)?;
-    holds::<WorkspaceFullDocumentDiagnosticReport>(
-        alloc,
-        WORKSPACE_FULL_DOCUMENT_DIAGNOSTIC_REPORT,
-    )?;
-    holds::<WorkspaceUnchangedDocumentDiagnosticReport>(
-        alloc,
+fn rows_2(rt: HostRuntime) -> Result<(), RowError> {
+    let mut trial = Trial::new(rt.alloc());
+    trial.holds::<WorkspaceDiagnosticReport>(WORKSPACE_DIAGNOSTIC_REPORT);
+    trial.holds::<WorkspaceDocumentDiagnosticReport>(WORKSPACE_DOCUMENT_DIAGNOSTIC_REPORT);
+    trial.holds::<WorkspaceFullDocumentDiagnosticReport>(WORKSPACE_FULL_DOCUMENT_DIAGNOSTIC_REPORT);
+    trial.holds::<WorkspaceUnchangedDocumentDiagnosticReport>(
         WORKSPACE_UNCHANGED_DOCUMENT_DIAGNOSTIC_REPORT,
-    )?;
-    holds::<WorkspaceDiagnosticReportPartialResult>(
-        alloc,
+    );
+    trial.holds::<WorkspaceDiagnosticReportPartialResult>(
         WORKSPACE_DIAGNOSTIC_REPORT_PARTIAL_RESULT,
-    )?;
-    holds::<DiagnosticServerCancellationData>(alloc, DIAGNOSTIC_SERVER_CANCELLATION_DATA)?;
-    holds::<NotebookDocument>(alloc, NOTEBOOK_DOCUMENT)?;
-    holds::<NotebookCell>(alloc, NOTEBOOK_CELL)?;
-    holds::<ExecutionSummary>(alloc, EXECUTION_SUMMARY)?;
-    holds::<DidOpenNotebookDocumentParams>(alloc, DID_OPEN_NOTEBOOK_DOCUMENT_PARAMS)?;
-    holds::<DidChangeNotebookDocumentParams>(alloc, DID_CHANGE_NOTEBOOK_DOCUMENT_PARAMS)?;
-    holds::<VersionedNotebookDocumentIdentifier>(alloc, VERSIONED_NOTEBOOK_DOCUMENT_IDENTIFIER)?;
-    Ok(())
+    );
+    trial.holds::<DiagnosticServerCancellationData>(DIAGNOSTIC_SERVER_CANCELLATION_DATA);
+    trial.holds::<NotebookDocument>(NOTEBOOK_DOCUMENT);
+    trial.holds::<NotebookCell>(NOTEBOOK_CELL);
+    trial.holds::<ExecutionSummary>(EXECUTION_SUMMARY);
+    trial.holds::<DidOpenNotebookDocumentParams>(DID_OPEN_NOTEBOOK_DOCUMENT_PARAMS);
+    trial.holds::<DidChangeNotebookDocumentParams>(DID_CHANGE_NOTEBOOK_DOCUMENT_PARAMS);
+    trial.holds::<VersionedNotebookDocumentIdentifier>(VERSIONED_NOTEBOOK_DOCUMENT_IDENTIFIER);
+    trial.end()
 }
 
 #[test]
-fn rows_3(rt: HostRuntime) -> Result<(), Fail> {
-    let alloc = rt.alloc();
-    holds::<NotebookDocumentChangeEvent>(alloc, NOTEBOOK_DOCUMENT_CHANGE_EVENT)?;
-    holds::<NotebookDocumentCellChange>(alloc, NOTEBOOK_DOCUMENT_CELL_CHANGE)?;
-    holds::<NotebookDocumentChangeTextContent>(alloc, NOTEBOOK_DOCUMENT_CHANGE_TEXT_CONTENT)?;
-    holds::<NotebookDocumentCellChangeStructure>(alloc, NOTEBOOK_DOCUMENT_CELL_CHANGE_STRUCTURE)?;
-    holds::<NotebookCellArrayChange>(alloc, NOTEBOOK_CELL_ARRAY_CHANGE)?;
-    holds::<DidSaveNotebookDocumentParams>(alloc, DID_SAVE_NOTEBOOK_DOCUMENT_PARAMS)?;
-    holds::<NotebookDocumentIdentifier>(alloc, NOTEBOOK_DOCUMENT_IDENTIFIER)?;
-    holds::<DidCloseNotebookDocumentParams>(alloc, DID_CLOSE_NOTEBOOK_DOCUMENT_PARAMS)?;
-    Ok(())
+fn rows_3(rt: HostRuntime) -> Result<(), RowError> {
+    let mut trial = Trial::new(rt.alloc());
+    trial.holds::<NotebookDocumentChangeEvent>(NOTEBOOK_DOCUMENT_CHANGE_EVENT);
+    trial.holds::<NotebookDocumentCellChange>(NOTEBOOK_DOCUMENT_CELL_CHANGE);
+    trial.holds::<NotebookDocumentChangeTextContent>(NOTEBOOK_DOCUMENT_CHANGE_TEXT_CONTENT);
+    trial.holds::<NotebookDocumentCellChangeStructure>(NOTEBOOK_DOCUMENT_CELL_CHANGE_STRUCTURE);
+    trial.holds::<NotebookCellArrayChange>(NOTEBOOK_CELL_ARRAY_CHANGE);
+    trial.holds::<DidSaveNotebookDocumentParams>(DID_SAVE_NOTEBOOK_DOCUMENT_PARAMS);
+    trial.holds::<NotebookDocumentIdentifier>(NOTEBOOK_DOCUMENT_IDENTIFIER);
+    trial.holds::<DidCloseNotebookDocumentParams>(DID_CLOSE_NOTEBOOK_DOCUMENT_PARAMS);
+    trial.end()
 }
 
 #[test]
-fn defaults(rt: HostRuntime) -> Result<(), Fail> {
+fn defaults(rt: HostRuntime) -> Result<(), RowError> {
     let alloc = rt.alloc();
-    assert_eq!(rt;
-        text_of(alloc, &RelatedFullDocumentDiagnosticReport::default(alloc))?.as_str(),
-        r#"{"items":[]}"#
+    let mut trial = Trial::new(alloc);
+    trial.is_written(
+        RelatedFullDocumentDiagnosticReport::default(alloc),
+        r#"{"items":[]}"#,
     );
-    assert_eq!(rt;
-        text_of(alloc, &FullDocumentDiagnosticReport::default(alloc))?.as_str(),
-        r#"{"items":[]}"#
+    trial.is_written(
+        FullDocumentDiagnosticReport::default(alloc),
+        r#"{"items":[]}"#,
     );
-    assert_eq!(rt;
-        text_of(alloc, &DocumentDiagnosticReportPartialResult::default())?.as_str(),
-        r#"{}"#
+    trial.is_written(DocumentDiagnosticReportPartialResult::default(), r#"{}"#);
+    trial.is_written(WorkspaceDiagnosticReport::default(alloc), r#"{"items":[]}"#);
+    trial.is_written(
+        WorkspaceDiagnosticReportPartialResult::default(alloc),
+        r#"{"items":[]}"#,
     );
-    assert_eq!(rt;
-        text_of(alloc, &WorkspaceDiagnosticReport::default(alloc))?.as_str(),
-        r#"{"items":[]}"#
-    );
-    assert_eq!(rt;
-        text_of(
-            alloc,
-            &WorkspaceDiagnosticReportPartialResult::default(alloc)
-        )?
-        .as_str(),
-        r#"{"items":[]}"#
-    );
-    Ok(())
+    trial.end()
 }

@@ -1,5 +1,5 @@
 // The rows of lsp_tokens.
-use lsp_rows::{holds, text_of};
+use lsp_rows::{RowError, Trial};
 use lsp_tokens::{
     DocumentFormattingParams, DocumentOnTypeFormattingParams, DocumentRangeFormattingParams,
     FoldingRange, FoldingRangeParams, FormattingOptions, FormattingProperty,
@@ -10,7 +10,6 @@ use lsp_tokens::{
     SemanticTokensRangeParams, SemanticTokensRangeResult, SemanticTokensResult, SignatureHelp,
     SignatureHelpContext, SignatureHelpParams, SignatureInformation, UniquenessLevel,
 };
-use std::test::Fail;
 
 const SEMANTIC_TOKENS: &str = r#"
 {"data":[1,0,3,2,0]} :: SemanticTokens { result_id: None, payload: [SemanticToken { delta_line: 1, delta_start: 0, length: 3, token_type: 2, token_modifiers_bitset: 0 }] }
@@ -230,84 +229,76 @@ const DOCUMENT_ON_TYPE_FORMATTING_PARAMS: &str = r#"
 "#;
 
 #[test]
-fn rows_1(rt: HostRuntime) -> Result<(), Fail> {
-    let alloc = rt.alloc();
-    holds::<SemanticTokens>(alloc, SEMANTIC_TOKENS)?;
-    holds::<SemanticTokensPartialResult>(alloc, SEMANTIC_TOKENS_PARTIAL_RESULT)?;
-    holds::<SemanticTokensEdit>(alloc, SEMANTIC_TOKENS_EDIT)?;
-    holds::<SemanticTokensParams>(alloc, SEMANTIC_TOKENS_PARAMS)?;
-    holds::<SemanticTokensDeltaParams>(alloc, SEMANTIC_TOKENS_DELTA_PARAMS)?;
-    holds::<SemanticTokensRangeParams>(alloc, SEMANTIC_TOKENS_RANGE_PARAMS)?;
-    holds::<SemanticTokensResult>(alloc, SEMANTIC_TOKENS_RESULT)?;
-    holds::<SemanticTokensFullDeltaResult>(alloc, SEMANTIC_TOKENS_FULL_DELTA_RESULT)?;
-    holds::<SemanticTokensDelta>(alloc, SEMANTIC_TOKENS_DELTA)?;
-    holds::<SemanticTokensRangeResult>(alloc, SEMANTIC_TOKENS_RANGE_RESULT)?;
-    holds::<FoldingRangeParams>(alloc, FOLDING_RANGE_PARAMS)?;
-    holds::<FoldingRange>(alloc, FOLDING_RANGE)?;
-    Ok(())
+fn rows_1(rt: HostRuntime) -> Result<(), RowError> {
+    let mut trial = Trial::new(rt.alloc());
+    trial.holds::<SemanticTokens>(SEMANTIC_TOKENS);
+    trial.holds::<SemanticTokensPartialResult>(SEMANTIC_TOKENS_PARTIAL_RESULT);
+    trial.holds::<SemanticTokensEdit>(SEMANTIC_TOKENS_EDIT);
+    trial.holds::<SemanticTokensParams>(SEMANTIC_TOKENS_PARAMS);
+    trial.holds::<SemanticTokensDeltaParams>(SEMANTIC_TOKENS_DELTA_PARAMS);
+    trial.holds::<SemanticTokensRangeParams>(SEMANTIC_TOKENS_RANGE_PARAMS);
+    trial.holds::<SemanticTokensResult>(SEMANTIC_TOKENS_RESULT);
+    trial.holds::<SemanticTokensFullDeltaResult>(SEMANTIC_TOKENS_FULL_DELTA_RESULT);
+    trial.holds::<SemanticTokensDelta>(SEMANTIC_TOKENS_DELTA);
+    trial.holds::<SemanticTokensRangeResult>(SEMANTIC_TOKENS_RANGE_RESULT);
+    trial.holds::<FoldingRangeParams>(FOLDING_RANGE_PARAMS);
+    trial.holds::<FoldingRange>(FOLDING_RANGE);
+    trial.end()
 }
 
 #[test]
-fn rows_2(rt: HostRuntime) -> Result<(), Fail> {
-    let alloc = rt.alloc();
-    holds::<SelectionRangeParams>(alloc, SELECTION_RANGE_PARAMS)?;
-    holds::<LinkedEditingRangeParams>(alloc, LINKED_EDITING_RANGE_PARAMS)?;
-    holds::<LinkedEditingRanges>(alloc, LINKED_EDITING_RANGES)?;
-    holds::<SelectionRange>(alloc, SELECTION_RANGE)?;
-    holds::<SignatureHelpParams>(alloc, SIGNATURE_HELP_PARAMS)?;
-    holds::<SignatureHelpContext>(alloc, SIGNATURE_HELP_CONTEXT)?;
-    holds::<SignatureHelp>(alloc, SIGNATURE_HELP)?;
-    holds::<SignatureInformation>(alloc, SIGNATURE_INFORMATION)?;
-    holds::<ParameterInformation>(alloc, PARAMETER_INFORMATION)?;
-    holds::<ParameterLabel>(alloc, PARAMETER_LABEL)?;
-    holds::<MonikerParams>(alloc, MONIKER_PARAMS)?;
-    holds::<Moniker>(alloc, MONIKER)?;
-    Ok(())
+fn rows_2(rt: HostRuntime) -> Result<(), RowError> {
+    let mut trial = Trial::new(rt.alloc());
+    trial.holds::<SelectionRangeParams>(SELECTION_RANGE_PARAMS);
+    trial.holds::<LinkedEditingRangeParams>(LINKED_EDITING_RANGE_PARAMS);
+    trial.holds::<LinkedEditingRanges>(LINKED_EDITING_RANGES);
+    trial.holds::<SelectionRange>(SELECTION_RANGE);
+    trial.holds::<SignatureHelpParams>(SIGNATURE_HELP_PARAMS);
+    trial.holds::<SignatureHelpContext>(SIGNATURE_HELP_CONTEXT);
+    trial.holds::<SignatureHelp>(SIGNATURE_HELP);
+    trial.holds::<SignatureInformation>(SIGNATURE_INFORMATION);
+    trial.holds::<ParameterInformation>(PARAMETER_INFORMATION);
+    trial.holds::<ParameterLabel>(PARAMETER_LABEL);
+    trial.holds::<MonikerParams>(MONIKER_PARAMS);
+    trial.holds::<Moniker>(MONIKER);
+    trial.end()
 }
 
 #[test]
-fn rows_3(rt: HostRuntime) -> Result<(), Fail> {
-    let alloc = rt.alloc();
-    holds::<UniquenessLevel>(alloc, UNIQUENESS_LEVEL)?;
-    holds::<MonikerKind>(alloc, MONIKER_KIND)?;
-    holds::<DocumentFormattingParams>(alloc, DOCUMENT_FORMATTING_PARAMS)?;
-    holds::<FormattingOptions>(alloc, FORMATTING_OPTIONS)?;
-    holds::<FormattingProperty>(alloc, FORMATTING_PROPERTY)?;
-    holds::<DocumentRangeFormattingParams>(alloc, DOCUMENT_RANGE_FORMATTING_PARAMS)?;
-    holds::<DocumentOnTypeFormattingParams>(alloc, DOCUMENT_ON_TYPE_FORMATTING_PARAMS)?;
-    Ok(())
+fn rows_3(rt: HostRuntime) -> Result<(), RowError> {
+    let mut trial = Trial::new(rt.alloc());
+    trial.holds::<UniquenessLevel>(UNIQUENESS_LEVEL);
+    trial.holds::<MonikerKind>(MONIKER_KIND);
+    trial.holds::<DocumentFormattingParams>(DOCUMENT_FORMATTING_PARAMS);
+    trial.holds::<FormattingOptions>(FORMATTING_OPTIONS);
+    trial.holds::<FormattingProperty>(FORMATTING_PROPERTY);
+    trial.holds::<DocumentRangeFormattingParams>(DOCUMENT_RANGE_FORMATTING_PARAMS);
+    trial.holds::<DocumentOnTypeFormattingParams>(DOCUMENT_ON_TYPE_FORMATTING_PARAMS);
+    trial.end()
 }
 
 #[test]
-fn defaults(rt: HostRuntime) -> Result<(), Fail> {
+fn defaults(rt: HostRuntime) -> Result<(), RowError> {
     let alloc = rt.alloc();
-    assert_eq!(rt;
-        text_of(alloc, &SemanticTokens::default(alloc))?.as_str(),
-        r#"{"data":[]}"#
+    let mut trial = Trial::new(alloc);
+    trial.is_written(SemanticTokens::default(alloc), r#"{"data":[]}"#);
+    trial.is_written(
+        SemanticTokensPartialResult::default(alloc),
+        r#"{"data":[]}"#,
     );
-    assert_eq!(rt;
-        text_of(alloc, &SemanticTokensPartialResult::default(alloc))?.as_str(),
-        r#"{"data":[]}"#
+    trial.is_written(
+        SemanticTokensEdit::default(),
+        r#"{"deleteCount":0,"start":0}"#,
     );
-    assert_eq!(rt;
-        text_of(alloc, &SemanticTokensEdit::default())?.as_str(),
-        r#"{"deleteCount":0,"start":0}"#
+    trial.is_written(SemanticTokensDelta::default(alloc), r#"{"edits":[]}"#);
+    trial.is_written(FoldingRange::default(), r#"{"endLine":0,"startLine":0}"#);
+    trial.is_written(
+        SelectionRange::default(),
+        r#"{"range":{"end":{"character":0,"line":0},"start":{"character":0,"line":0}}}"#,
     );
-    assert_eq!(rt;
-        text_of(alloc, &SemanticTokensDelta::default(alloc))?.as_str(),
-        r#"{"edits":[]}"#
+    trial.is_written(
+        FormattingOptions::default(alloc),
+        r#"{"insertSpaces":false,"tabSize":0}"#,
     );
-    assert_eq!(rt;
-        text_of(alloc, &FoldingRange::default())?.as_str(),
-        r#"{"endLine":0,"startLine":0}"#
-    );
-    assert_eq!(rt;
-        text_of(alloc, &SelectionRange::default())?.as_str(),
-        r#"{"range":{"end":{"character":0,"line":0},"start":{"character":0,"line":0}}}"#
-    );
-    assert_eq!(rt;
-        text_of(alloc, &FormattingOptions::default(alloc))?.as_str(),
-        r#"{"insertSpaces":false,"tabSize":0}"#
-    );
-    Ok(())
+    trial.end()
 }

@@ -1,5 +1,5 @@
 // The rows of lsp_work.
-use lsp_rows::{holds, text_of};
+use lsp_rows::{RowError, Trial};
 use lsp_work::{
     ApplyWorkspaceEditParams, ApplyWorkspaceEditResponse, ConfigurationItem, ConfigurationParams,
     CreateFilesParams, DeleteFilesParams, DidChangeConfigurationParams,
@@ -13,7 +13,6 @@ use lsp_work::{
     WorkDoneProgressCancelParams, WorkDoneProgressCreateParams, WorkDoneProgressEnd,
     WorkDoneProgressReport, WorkspaceFoldersChangeEvent,
 };
-use std::test::Fail;
 
 const DID_OPEN_TEXT_DOCUMENT_PARAMS: &str = r#"
 {"textDocument":{"languageId":"languageId","text":"text","uri":"file:///uri","version":79}} :: DidOpenTextDocumentParams { text_document: TextDocumentItem { uri: Uri { text: "file:///uri" }, language_id: "languageId", version: 79, text: "text" } }
@@ -248,126 +247,94 @@ const WORK_DONE_PROGRESS_CANCEL_PARAMS: &str = r#"
 "#;
 
 #[test]
-fn rows_1(rt: HostRuntime) -> Result<(), Fail> {
-    let alloc = rt.alloc();
-    holds::<DidOpenTextDocumentParams>(alloc, DID_OPEN_TEXT_DOCUMENT_PARAMS)?;
-    holds::<DidChangeTextDocumentParams>(alloc, DID_CHANGE_TEXT_DOCUMENT_PARAMS)?;
-    holds::<WillSaveTextDocumentParams>(alloc, WILL_SAVE_TEXT_DOCUMENT_PARAMS)?;
-    holds::<DidSaveTextDocumentParams>(alloc, DID_SAVE_TEXT_DOCUMENT_PARAMS)?;
-    holds::<DidCloseTextDocumentParams>(alloc, DID_CLOSE_TEXT_DOCUMENT_PARAMS)?;
-    holds::<PublishDiagnosticsParams>(alloc, PUBLISH_DIAGNOSTICS_PARAMS)?;
-    holds::<DidChangeConfigurationParams>(alloc, DID_CHANGE_CONFIGURATION_PARAMS)?;
-    holds::<ConfigurationParams>(alloc, CONFIGURATION_PARAMS)?;
-    holds::<ConfigurationItem>(alloc, CONFIGURATION_ITEM)?;
-    holds::<DidChangeWatchedFilesParams>(alloc, DID_CHANGE_WATCHED_FILES_PARAMS)?;
-    holds::<FileEvent>(alloc, FILE_EVENT)?;
-    holds::<DidChangeWorkspaceFoldersParams>(alloc, DID_CHANGE_WORKSPACE_FOLDERS_PARAMS)?;
-    Ok(())
+fn rows_1(rt: HostRuntime) -> Result<(), RowError> {
+    let mut trial = Trial::new(rt.alloc());
+    trial.holds::<DidOpenTextDocumentParams>(DID_OPEN_TEXT_DOCUMENT_PARAMS);
+    trial.holds::<DidChangeTextDocumentParams>(DID_CHANGE_TEXT_DOCUMENT_PARAMS);
+    trial.holds::<WillSaveTextDocumentParams>(WILL_SAVE_TEXT_DOCUMENT_PARAMS);
+    trial.holds::<DidSaveTextDocumentParams>(DID_SAVE_TEXT_DOCUMENT_PARAMS);
+    trial.holds::<DidCloseTextDocumentParams>(DID_CLOSE_TEXT_DOCUMENT_PARAMS);
+    trial.holds::<PublishDiagnosticsParams>(PUBLISH_DIAGNOSTICS_PARAMS);
+    trial.holds::<DidChangeConfigurationParams>(DID_CHANGE_CONFIGURATION_PARAMS);
+    trial.holds::<ConfigurationParams>(CONFIGURATION_PARAMS);
+    trial.holds::<ConfigurationItem>(CONFIGURATION_ITEM);
+    trial.holds::<DidChangeWatchedFilesParams>(DID_CHANGE_WATCHED_FILES_PARAMS);
+    trial.holds::<FileEvent>(FILE_EVENT);
+    trial.holds::<DidChangeWorkspaceFoldersParams>(DID_CHANGE_WORKSPACE_FOLDERS_PARAMS);
+    trial.end()
 }
 
 #[test]
-fn rows_2(rt: HostRuntime) -> Result<(), Fail> {
-    let alloc = rt.alloc();
-    holds::<WorkspaceFoldersChangeEvent>(alloc, WORKSPACE_FOLDERS_CHANGE_EVENT)?;
-    holds::<ExecuteCommandParams>(alloc, EXECUTE_COMMAND_PARAMS)?;
-    holds::<ApplyWorkspaceEditParams>(alloc, APPLY_WORKSPACE_EDIT_PARAMS)?;
-    holds::<ApplyWorkspaceEditResponse>(alloc, APPLY_WORKSPACE_EDIT_RESPONSE)?;
-    holds::<CreateFilesParams>(alloc, CREATE_FILES_PARAMS)?;
-    holds::<FileCreate>(alloc, FILE_CREATE)?;
-    holds::<RenameFilesParams>(alloc, RENAME_FILES_PARAMS)?;
-    holds::<FileRename>(alloc, FILE_RENAME)?;
-    holds::<DeleteFilesParams>(alloc, DELETE_FILES_PARAMS)?;
-    holds::<FileDelete>(alloc, FILE_DELETE)?;
-    holds::<ShowMessageParams>(alloc, SHOW_MESSAGE_PARAMS)?;
-    holds::<ShowMessageRequestParams>(alloc, SHOW_MESSAGE_REQUEST_PARAMS)?;
-    Ok(())
+fn rows_2(rt: HostRuntime) -> Result<(), RowError> {
+    let mut trial = Trial::new(rt.alloc());
+    trial.holds::<WorkspaceFoldersChangeEvent>(WORKSPACE_FOLDERS_CHANGE_EVENT);
+    trial.holds::<ExecuteCommandParams>(EXECUTE_COMMAND_PARAMS);
+    trial.holds::<ApplyWorkspaceEditParams>(APPLY_WORKSPACE_EDIT_PARAMS);
+    trial.holds::<ApplyWorkspaceEditResponse>(APPLY_WORKSPACE_EDIT_RESPONSE);
+    trial.holds::<CreateFilesParams>(CREATE_FILES_PARAMS);
+    trial.holds::<FileCreate>(FILE_CREATE);
+    trial.holds::<RenameFilesParams>(RENAME_FILES_PARAMS);
+    trial.holds::<FileRename>(FILE_RENAME);
+    trial.holds::<DeleteFilesParams>(DELETE_FILES_PARAMS);
+    trial.holds::<FileDelete>(FILE_DELETE);
+    trial.holds::<ShowMessageParams>(SHOW_MESSAGE_PARAMS);
+    trial.holds::<ShowMessageRequestParams>(SHOW_MESSAGE_REQUEST_PARAMS);
+    trial.end()
 }
 
 #[test]
-fn rows_3(rt: HostRuntime) -> Result<(), Fail> {
-    let alloc = rt.alloc();
-    holds::<MessageActionItem>(alloc, MESSAGE_ACTION_ITEM)?;
-    holds::<MessageActionItemProperty>(alloc, MESSAGE_ACTION_ITEM_PROPERTY)?;
-    holds::<LogMessageParams>(alloc, LOG_MESSAGE_PARAMS)?;
-    holds::<ShowDocumentParams>(alloc, SHOW_DOCUMENT_PARAMS)?;
-    holds::<ShowDocumentResult>(alloc, SHOW_DOCUMENT_RESULT)?;
-    holds::<SetTraceParams>(alloc, SET_TRACE_PARAMS)?;
-    holds::<LogTraceParams>(alloc, LOG_TRACE_PARAMS)?;
-    holds::<ProgressParams>(alloc, PROGRESS_PARAMS)?;
-    holds::<ProgressParamsValue>(alloc, PROGRESS_PARAMS_VALUE)?;
-    holds::<WorkDoneProgress>(alloc, WORK_DONE_PROGRESS)?;
-    holds::<WorkDoneProgressBegin>(alloc, WORK_DONE_PROGRESS_BEGIN)?;
-    holds::<WorkDoneProgressReport>(alloc, WORK_DONE_PROGRESS_REPORT)?;
-    Ok(())
+fn rows_3(rt: HostRuntime) -> Result<(), RowError> {
+    let mut trial = Trial::new(rt.alloc());
+    trial.holds::<MessageActionItem>(MESSAGE_ACTION_ITEM);
+    trial.holds::<MessageActionItemProperty>(MESSAGE_ACTION_ITEM_PROPERTY);
+    trial.holds::<LogMessageParams>(LOG_MESSAGE_PARAMS);
+    trial.holds::<ShowDocumentParams>(SHOW_DOCUMENT_PARAMS);
+    trial.holds::<ShowDocumentResult>(SHOW_DOCUMENT_RESULT);
+    trial.holds::<SetTraceParams>(SET_TRACE_PARAMS);
+    trial.holds::<LogTraceParams>(LOG_TRACE_PARAMS);
+    trial.holds::<ProgressParams>(PROGRESS_PARAMS);
+    trial.holds::<ProgressParamsValue>(PROGRESS_PARAMS_VALUE);
+    trial.holds::<WorkDoneProgress>(WORK_DONE_PROGRESS);
+    trial.holds::<WorkDoneProgressBegin>(WORK_DONE_PROGRESS_BEGIN);
+    trial.holds::<WorkDoneProgressReport>(WORK_DONE_PROGRESS_REPORT);
+    trial.end()
 }
 
 #[test]
-fn rows_4(rt: HostRuntime) -> Result<(), Fail> {
-    let alloc = rt.alloc();
-    holds::<WorkDoneProgressEnd>(alloc, WORK_DONE_PROGRESS_END)?;
-    holds::<WorkDoneProgressCreateParams>(alloc, WORK_DONE_PROGRESS_CREATE_PARAMS)?;
-    holds::<WorkDoneProgressCancelParams>(alloc, WORK_DONE_PROGRESS_CANCEL_PARAMS)?;
-    Ok(())
+fn rows_4(rt: HostRuntime) -> Result<(), RowError> {
+    let mut trial = Trial::new(rt.alloc());
+    trial.holds::<WorkDoneProgressEnd>(WORK_DONE_PROGRESS_END);
+    trial.holds::<WorkDoneProgressCreateParams>(WORK_DONE_PROGRESS_CREATE_PARAMS);
+    trial.holds::<WorkDoneProgressCancelParams>(WORK_DONE_PROGRESS_CANCEL_PARAMS);
+    trial.end()
 }
 
 #[test]
-fn defaults(rt: HostRuntime) -> Result<(), Fail> {
+fn defaults(rt: HostRuntime) -> Result<(), RowError> {
     let alloc = rt.alloc();
-    assert_eq!(rt;
-        text_of(alloc, &ConfigurationParams::default(alloc))?.as_str(),
-        r#"{"items":[]}"#
+    let mut trial = Trial::new(alloc);
+    trial.is_written(ConfigurationParams::default(alloc), r#"{"items":[]}"#);
+    trial.is_written(ConfigurationItem::default(), r#"{}"#);
+    trial.is_written(
+        DidChangeWorkspaceFoldersParams::default(alloc),
+        r#"{"event":{"added":[],"removed":[]}}"#,
     );
-    assert_eq!(rt;
-        text_of(alloc, &ConfigurationItem::default())?.as_str(),
-        r#"{}"#
+    trial.is_written(
+        WorkspaceFoldersChangeEvent::default(alloc),
+        r#"{"added":[],"removed":[]}"#,
     );
-    assert_eq!(rt;
-        text_of(alloc, &DidChangeWorkspaceFoldersParams::default(alloc))?.as_str(),
-        r#"{"event":{"added":[],"removed":[]}}"#
+    trial.is_written(
+        ExecuteCommandParams::default(alloc),
+        r#"{"arguments":[],"command":""}"#,
     );
-    assert_eq!(rt;
-        text_of(alloc, &WorkspaceFoldersChangeEvent::default(alloc))?.as_str(),
-        r#"{"added":[],"removed":[]}"#
-    );
-    assert_eq!(rt;
-        text_of(alloc, &ExecuteCommandParams::default(alloc))?.as_str(),
-        r#"{"arguments":[],"command":""}"#
-    );
-    assert_eq!(rt;
-        text_of(alloc, &CreateFilesParams::default(alloc))?.as_str(),
-        r#"{"files":[]}"#
-    );
-    assert_eq!(rt;
-        text_of(alloc, &FileCreate::default(alloc))?.as_str(),
-        r#"{"uri":""}"#
-    );
-    assert_eq!(rt;
-        text_of(alloc, &RenameFilesParams::default(alloc))?.as_str(),
-        r#"{"files":[]}"#
-    );
-    assert_eq!(rt;
-        text_of(alloc, &FileRename::default(alloc))?.as_str(),
-        r#"{"newUri":"","oldUri":""}"#
-    );
-    assert_eq!(rt;
-        text_of(alloc, &DeleteFilesParams::default(alloc))?.as_str(),
-        r#"{"files":[]}"#
-    );
-    assert_eq!(rt;
-        text_of(alloc, &FileDelete::default(alloc))?.as_str(),
-        r#"{"uri":""}"#
-    );
-    assert_eq!(rt;
-        text_of(alloc, &WorkDoneProgressBegin::default(alloc))?.as_str(),
-        r#"{"title":""}"#
-    );
-    assert_eq!(rt;
-        text_of(alloc, &WorkDoneProgressReport::default())?.as_str(),
-        r#"{}"#
-    );
-    assert_eq!(rt;
-        text_of(alloc, &WorkDoneProgressEnd::default())?.as_str(),
-        r#"{}"#
-    );
-    Ok(())
+    trial.is_written(CreateFilesParams::default(alloc), r#"{"files":[]}"#);
+    trial.is_written(FileCreate::default(alloc), r#"{"uri":""}"#);
+    trial.is_written(RenameFilesParams::default(alloc), r#"{"files":[]}"#);
+    trial.is_written(FileRename::default(alloc), r#"{"newUri":"","oldUri":""}"#);
+    trial.is_written(DeleteFilesParams::default(alloc), r#"{"files":[]}"#);
+    trial.is_written(FileDelete::default(alloc), r#"{"uri":""}"#);
+    trial.is_written(WorkDoneProgressBegin::default(alloc), r#"{"title":""}"#);
+    trial.is_written(WorkDoneProgressReport::default(), r#"{}"#);
+    trial.is_written(WorkDoneProgressEnd::default(), r#"{}"#);
+    trial.end()
 }

@@ -2,8 +2,7 @@
 use lsp_lsif::{
     DefinitionResultType, Edge, EdgeData, EdgeDataMultiIn, Item, ItemKind, LocationOrRangeId,
 };
-use lsp_rows::holds;
-use std::test::Fail;
+use lsp_rows::{RowError, Trial};
 
 const EDGE: &str = r#"
 {"inVs":[76],"label":"contains","outV":70} :: Contains(EdgeDataMultiIn { in_vs: [Number(76)], out_v: Number(70) })
@@ -95,14 +94,14 @@ const LOCATION_OR_RANGE_ID: &str = r#"
 "#;
 
 #[test]
-fn rows(rt: HostRuntime) -> Result<(), Fail> {
-    let alloc = rt.alloc();
-    holds::<Edge>(alloc, EDGE)?;
-    holds::<EdgeData>(alloc, EDGE_DATA)?;
-    holds::<EdgeDataMultiIn>(alloc, EDGE_DATA_MULTI_IN)?;
-    holds::<Item>(alloc, ITEM)?;
-    holds::<ItemKind>(alloc, ITEM_KIND)?;
-    holds::<DefinitionResultType>(alloc, DEFINITION_RESULT_TYPE)?;
-    holds::<LocationOrRangeId>(alloc, LOCATION_OR_RANGE_ID)?;
-    Ok(())
+fn rows(rt: HostRuntime) -> Result<(), RowError> {
+    let mut trial = Trial::new(rt.alloc());
+    trial.holds::<Edge>(EDGE);
+    trial.holds::<EdgeData>(EDGE_DATA);
+    trial.holds::<EdgeDataMultiIn>(EDGE_DATA_MULTI_IN);
+    trial.holds::<Item>(ITEM);
+    trial.holds::<ItemKind>(ITEM_KIND);
+    trial.holds::<DefinitionResultType>(DEFINITION_RESULT_TYPE);
+    trial.holds::<LocationOrRangeId>(LOCATION_OR_RANGE_ID);
+    trial.end()
 }

@@ -1,7 +1,6 @@
 // The rows of an entry of a dump.
 use lsp_lsif::{Element, Entry};
-use lsp_rows::holds;
-use std::test::Fail;
+use lsp_rows::{RowError, Trial};
 
 const ENTRY: &str = r#"
 {"id":17,"label":"metaData","positionEncoding":"utf-16","projectRoot":"file:///projectRoot","type":"vertex","version":"version"} :: Entry { id: Number(17), payload: Vertex(MetaData(MetaData { version: "version", project_root: Uri { text: "file:///projectRoot" }, position_encoding: Utf16, tool_info: None })) }
@@ -64,9 +63,9 @@ const ELEMENT: &str = r#"
 "#;
 
 #[test]
-fn rows(rt: HostRuntime) -> Result<(), Fail> {
-    let alloc = rt.alloc();
-    holds::<Entry>(alloc, ENTRY)?;
-    holds::<Element>(alloc, ELEMENT)?;
-    Ok(())
+fn rows(rt: HostRuntime) -> Result<(), RowError> {
+    let mut trial = Trial::new(rt.alloc());
+    trial.holds::<Entry>(ENTRY);
+    trial.holds::<Element>(ELEMENT);
+    trial.end()
 }

@@ -1,6 +1,6 @@
 // The rows of symbols by the ids of their ranges, and trees of them as deep as a JSON text may be.
 use lsp_lsif::RangeBasedDocumentSymbol;
-use lsp_rows::{holds, text_of};
+use lsp_rows::{RowError, Trial, text_of};
 use lsp_shape::Wire;
 use serde_json::Value;
 use std::alloc::Global;
@@ -35,10 +35,10 @@ fn nested(alloc: Global, depth: usize) -> Result<String, Fail> {
 }
 
 #[test]
-fn rows(rt: HostRuntime) -> Result<(), Fail> {
-    let alloc = rt.alloc();
-    holds::<RangeBasedDocumentSymbol>(alloc, RANGE_BASED_DOCUMENT_SYMBOL)?;
-    Ok(())
+fn rows(rt: HostRuntime) -> Result<(), RowError> {
+    let mut trial = Trial::new(rt.alloc());
+    trial.holds::<RangeBasedDocumentSymbol>(RANGE_BASED_DOCUMENT_SYMBOL);
+    trial.end()
 }
 
 // A text nests 127 deep at most.

@@ -1,8 +1,7 @@
 // The rows of the tags of ranges, whose fields are private: a tag is told by its text, and by what
 // Debug shows.
 use lsp_lsif::{DeclarationTag, DefinitionTag, RangeTag, ReferenceTag, UnknownTag};
-use lsp_rows::holds;
-use std::test::Fail;
+use lsp_rows::{RowError, Trial};
 
 const RANGE_TAG: &str = r#"
 {"fullRange":{"end":{"character":4,"line":3},"start":{"character":2,"line":1}},"kind":130,"text":"text","type":"definition"} :: Definition(DefinitionTag { text: "text", kind: SymbolKind(130), deprecated: false, full_range: Range { start: Position { line: 1, character: 2 }, end: Position { line: 3, character: 4 } }, detail: None })
@@ -56,12 +55,12 @@ const UNKNOWN_TAG: &str = r#"
 "#;
 
 #[test]
-fn rows(rt: HostRuntime) -> Result<(), Fail> {
-    let alloc = rt.alloc();
-    holds::<RangeTag>(alloc, RANGE_TAG)?;
-    holds::<DefinitionTag>(alloc, DEFINITION_TAG)?;
-    holds::<DeclarationTag>(alloc, DECLARATION_TAG)?;
-    holds::<ReferenceTag>(alloc, REFERENCE_TAG)?;
-    holds::<UnknownTag>(alloc, UNKNOWN_TAG)?;
-    Ok(())
+fn rows(rt: HostRuntime) -> Result<(), RowError> {
+    let mut trial = Trial::new(rt.alloc());
+    trial.holds::<RangeTag>(RANGE_TAG);
+    trial.holds::<DefinitionTag>(DEFINITION_TAG);
+    trial.holds::<DeclarationTag>(DECLARATION_TAG);
+    trial.holds::<ReferenceTag>(REFERENCE_TAG);
+    trial.holds::<UnknownTag>(UNKNOWN_TAG);
+    trial.end()
 }

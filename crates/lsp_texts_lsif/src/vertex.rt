@@ -3,8 +3,7 @@ use lsp_lsif::{
     Document, DocumentSymbolOrRangeBasedVec, Encoding, Event, EventKind, EventScope, MetaData,
     PackageInformation, Project, Repository, ResultSet, ToolInfo, Vertex,
 };
-use lsp_rows::holds;
-use std::test::Fail;
+use lsp_rows::{RowError, Trial, holds};
 
 const VERTEX: &str = r#"
 {"label":"metaData","positionEncoding":"utf-16","projectRoot":"file:///projectRoot","version":"version"} :: MetaData(MetaData { version: "version", project_root: Uri { text: "file:///projectRoot" }, position_encoding: Utf16, tool_info: None })
@@ -162,26 +161,26 @@ const DOCUMENT_SYMBOL_OR_RANGE_BASED_VEC: &str = r#"
 "#;
 
 #[test]
-fn rows_1(rt: HostRuntime) -> Result<(), Fail> {
-    let alloc = rt.alloc();
-    holds::<Vertex>(alloc, VERTEX)?;
-    holds::<MetaData>(alloc, META_DATA)?;
-    holds::<Encoding>(alloc, ENCODING)?;
-    holds::<ToolInfo>(alloc, TOOL_INFO)?;
-    holds::<Project>(alloc, PROJECT)?;
-    holds::<Repository>(alloc, REPOSITORY)?;
-    holds::<Document>(alloc, DOCUMENT)?;
-    Ok(())
+fn rows_1(rt: HostRuntime) -> Result<(), RowError> {
+    let mut trial = Trial::new(rt.alloc());
+    trial.holds::<Vertex>(VERTEX);
+    trial.holds::<MetaData>(META_DATA);
+    trial.holds::<Encoding>(ENCODING);
+    trial.holds::<ToolInfo>(TOOL_INFO);
+    trial.holds::<Project>(PROJECT);
+    trial.holds::<Repository>(REPOSITORY);
+    trial.holds::<Document>(DOCUMENT);
+    trial.end()
 }
 
 #[test]
-fn rows_2(rt: HostRuntime) -> Result<(), Fail> {
-    let alloc = rt.alloc();
-    holds::<ResultSet>(alloc, RESULT_SET)?;
-    holds::<PackageInformation>(alloc, PACKAGE_INFORMATION)?;
-    holds::<Event>(alloc, EVENT)?;
-    holds::<EventKind>(alloc, EVENT_KIND)?;
-    holds::<EventScope>(alloc, EVENT_SCOPE)?;
-    holds::<DocumentSymbolOrRangeBasedVec>(alloc, DOCUMENT_SYMBOL_OR_RANGE_BASED_VEC)?;
-    Ok(())
+fn rows_2(rt: HostRuntime) -> Result<(), RowError> {
+    let mut trial = Trial::new(rt.alloc());
+    trial.holds::<ResultSet>(RESULT_SET);
+    trial.holds::<PackageInformation>(PACKAGE_INFORMATION);
+    trial.holds::<Event>(EVENT);
+    trial.holds::<EventKind>(EVENT_KIND);
+    trial.holds::<EventScope>(EVENT_SCOPE);
+    trial.holds::<DocumentSymbolOrRangeBasedVec>(DOCUMENT_SYMBOL_OR_RANGE_BASED_VEC);
+    trial.end()
 }
