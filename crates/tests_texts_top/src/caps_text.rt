@@ -12,11 +12,7 @@ use lsp_caps_text::{
     SignatureInformationSettings, TextDocumentClientCapabilities,
     TextDocumentSyncClientCapabilities,
 };
-use lsp_rows::{RowError, Trial, holds, text_of};
-use lsp_shape::Wire;
-use std::alloc::Global;
-use std::process::Abort;
-use std::test::Fail;
+use lsp_rows::{RowError, Trial};
 
 const TEXT_DOCUMENT_SYNC_CLIENT_CAPABILITIES: &str = r#"
 {"didSave":false,"dynamicRegistration":true,"willSave":true,"willSaveWaitUntil":true} :: TextDocumentSyncClientCapabilities { dynamic_registration: Some(true), will_save: Some(true), will_save_wait_until: Some(true), did_save: Some(false) }
@@ -307,52 +303,49 @@ fn rows_2(rt: HostRuntime) -> Result<(), RowError> {
 }
 
 #[test]
-fn rows_3(rt: HostRuntime) -> Result<(), Fail> {
-    let rt = &rt;
-    let alloc = rt.alloc();
-    holds::<SemanticTokensClientCapabilities>(alloc, SEMANTIC_TOKENS_CLIENT_CAPABILITIES)?;
-    holds::<SemanticTokensClientCapabilitiesRequests>(
-        alloc,
+fn rows_3(rt: HostRuntime) -> Result<(), RowError> {
+    let mut trial = Trial::new(rt.alloc());
+    trial.holds::<SemanticTokensClientCapabilities>(SEMANTIC_TOKENS_CLIENT_CAPABILITIES);
+    trial.holds::<SemanticTokensClientCapabilitiesRequests>(
         SEMANTIC_TOKENS_CLIENT_CAPABILITIES_REQUESTS,
-    )?;
-    holds::<InlayHintClientCapabilities>(alloc, INLAY_HINT_CLIENT_CAPABILITIES)?;
-    holds::<InlayHintResolveClientCapabilities>(alloc, INLAY_HINT_RESOLVE_CLIENT_CAPABILITIES)?;
-    holds::<TextDocumentClientCapabilities>(alloc, TEXT_DOCUMENT_CLIENT_CAPABILITIES)?;
-    Ok(())
-}
-
-// The default is written without members.
-fn writes_nothing<T: Wire + Default>(rt: &impl Abort, alloc: Global) -> Result<(), Fail> {
-    assert_eq!(rt; text_of(alloc, &T::default())?.as_str(), "{}");
-    Ok(())
+    );
+    trial.holds::<InlayHintClientCapabilities>(INLAY_HINT_CLIENT_CAPABILITIES);
+    trial.holds::<InlayHintResolveClientCapabilities>(INLAY_HINT_RESOLVE_CLIENT_CAPABILITIES);
+    trial.holds::<TextDocumentClientCapabilities>(TEXT_DOCUMENT_CLIENT_CAPABILITIES);
+    trial.end()
 }
 
 #[test]
-fn empty_defaults(rt: HostRuntime) -> Result<(), Fail> {
-    let rt = &rt;
-    let alloc = rt.alloc();
-    writes_nothing::<TextDocumentSyncClientCapabilities>(rt, alloc)?;
-    writes_nothing::<CompletionClientCapabilities>(rt, alloc)?;
-    writes_nothing::<CompletionItemCapability>(rt, alloc)?;
-    writes_nothing::<CompletionItemKindCapability>(rt, alloc)?;
-    writes_nothing::<CompletionListCapability>(rt, alloc)?;
-    writes_nothing::<HoverClientCapabilities>(rt, alloc)?;
-    writes_nothing::<SignatureHelpClientCapabilities>(rt, alloc)?;
-    writes_nothing::<SignatureInformationSettings>(rt, alloc)?;
-    writes_nothing::<ParameterInformationSettings>(rt, alloc)?;
-    writes_nothing::<DocumentSymbolClientCapabilities>(rt, alloc)?;
-    writes_nothing::<CodeActionClientCapabilities>(rt, alloc)?;
-    writes_nothing::<RenameClientCapabilities>(rt, alloc)?;
-    writes_nothing::<PublishDiagnosticsClientCapabilities>(rt, alloc)?;
-    writes_nothing::<DiagnosticClientCapabilities>(rt, alloc)?;
-    writes_nothing::<FoldingRangeClientCapabilities>(rt, alloc)?;
-    writes_nothing::<FoldingRangeKindCapability>(rt, alloc)?;
-    writes_nothing::<FoldingRangeCapability>(rt, alloc)?;
-    writes_nothing::<SelectionRangeClientCapabilities>(rt, alloc)?;
-    writes_nothing::<SemanticTokensClientCapabilitiesRequests>(rt, alloc)?;
-    writes_nothing::<InlayHintClientCapabilities>(rt, alloc)?;
-    writes_nothing::<TextDocumentClientCapabilities>(rt, alloc)?;
-    Ok(())
+fn defaults_without_members_1(rt: HostRuntime) -> Result<(), RowError> {
+    let mut trial = Trial::new(rt.alloc());
+    trial.is_written(TextDocumentSyncClientCapabilities::default(), "{}");
+    trial.is_written(CompletionClientCapabilities::default(), "{}");
+    trial.is_written(CompletionItemCapability::default(), "{}");
+    trial.is_written(CompletionItemKindCapability::default(), "{}");
+    trial.is_written(CompletionListCapability::default(), "{}");
+    trial.is_written(HoverClientCapabilities::default(), "{}");
+    trial.is_written(SignatureHelpClientCapabilities::default(), "{}");
+    trial.is_written(SignatureInformationSettings::default(), "{}");
+    trial.is_written(ParameterInformationSettings::default(), "{}");
+    trial.is_written(DocumentSymbolClientCapabilities::default(), "{}");
+    trial.is_written(CodeActionClientCapabilities::default(), "{}");
+    trial.end()
+}
+
+#[test]
+fn defaults_without_members_2(rt: HostRuntime) -> Result<(), RowError> {
+    let mut trial = Trial::new(rt.alloc());
+    trial.is_written(RenameClientCapabilities::default(), "{}");
+    trial.is_written(PublishDiagnosticsClientCapabilities::default(), "{}");
+    trial.is_written(DiagnosticClientCapabilities::default(), "{}");
+    trial.is_written(FoldingRangeClientCapabilities::default(), "{}");
+    trial.is_written(FoldingRangeKindCapability::default(), "{}");
+    trial.is_written(FoldingRangeCapability::default(), "{}");
+    trial.is_written(SelectionRangeClientCapabilities::default(), "{}");
+    trial.is_written(SemanticTokensClientCapabilitiesRequests::default(), "{}");
+    trial.is_written(InlayHintClientCapabilities::default(), "{}");
+    trial.is_written(TextDocumentClientCapabilities::default(), "{}");
+    trial.end()
 }
 
 #[test]

@@ -1,4 +1,4 @@
-//! Tries every type of the protocol on texts.
+//! Tries the types of `initialize`, of registrations and of an index on texts.
 //!
 //! No clause compares a type with its declaration: a member that is paired with another field, in
 //! the row, the reader and the writer alike, is proved. So each type is read from texts in which
@@ -7,16 +7,10 @@
 #![tactic(auto)]
 
 #[cfg(test)]
-mod base;
+mod caps_text;
 #[cfg(test)]
-mod base_texts;
+mod lsif;
 #[cfg(test)]
-mod caps_work;
+mod methods;
 #[cfg(test)]
-mod names;
-#[cfg(test)]
-mod names_texts;
-#[cfg(test)]
-mod offer_lang;
-#[cfg(test)]
-mod offer_text;
+mod offer_work;

@@ -3,7 +3,7 @@ use lsp_lsif::{
     Document, DocumentSymbolOrRangeBasedVec, Encoding, Event, EventKind, EventScope, MetaData,
     PackageInformation, Project, Repository, ResultSet, ToolInfo, Vertex,
 };
-use lsp_rows::{RowError, Trial, holds};
+use lsp_rows::{RowError, Trial};
 
 const VERTEX: &str = r#"
 {"label":"metaData","positionEncoding":"utf-16","projectRoot":"file:///projectRoot","version":"version"} :: MetaData(MetaData { version: "version", project_root: Uri { text: "file:///projectRoot" }, position_encoding: Utf16, tool_info: None })

@@ -1,10 +1,8 @@
 // The rows of symbols by the ids of their ranges, and trees of them as deep as a JSON text may be.
 use lsp_lsif::RangeBasedDocumentSymbol;
-use lsp_rows::{RowError, Trial, text_of};
-use lsp_shape::Wire;
+use lsp_rows::{RowError, Trial};
 use serde_json::Value;
-use std::alloc::Global;
-use std::test::Fail;
+use std::alloc::{AllocError, Global};
 
 const RANGE_BASED_DOCUMENT_SYMBOL: &str = r#"
 {"id":17} :: RangeBasedDocumentSymbol { id: Number(17), children: [] }
@@ -22,7 +20,7 @@ const RANGE_BASED_DOCUMENT_SYMBOL: &str = r#"
 "#;
 
 // A tree of that many levels below its root, whose texts have two levels each.
-fn nested(alloc: Global, depth: usize) -> Result<String, Fail> {
+fn nested(alloc: Global, depth: usize) -> Result<String, AllocError> {
     let mut text = String::new(alloc);
     for _ in 0..depth {
         text.push_str(r#"{"children":["#)?;
@@ -43,13 +41,13 @@ fn rows(rt: HostRuntime) -> Result<(), RowError> {
 
 // A text nests 127 deep at most.
 #[test]
-fn depth(rt: HostRuntime) -> Result<(), Fail> {
+fn depth(rt: HostRuntime) -> Result<(), RowError> {
     let alloc = rt.alloc();
     let text = nested(alloc, 63)?;
-    let value = Value::from_str(alloc, text.as_str())?;
-    let symbol = RangeBasedDocumentSymbol::from_value(alloc, &value)?;
-    assert_eq!(rt; text_of(alloc, &symbol)?, text);
     let deeper = nested(alloc, 64)?;
-    assert!(rt; Value::from_str(alloc, deeper.as_str()).is_err());
-    Ok(())
+    let mut trial = Trial::new(alloc);
+    trial.holds::<RangeBasedDocumentSymbol>(text.as_str());
+    let error = Value::from_str(alloc, deeper.as_str()).is_err();
+    trial.is_true("deeper is no JSON", error);
+    trial.end()
 }

@@ -14,7 +14,6 @@ use lsp_caps_work::{
     WorkspaceSymbolClientCapabilities, WorkspaceSymbolResolveSupportCapability,
 };
 use lsp_rows::{RowError, Trial};
-use std::test::Fail;
 
 const WORKSPACE_EDIT_CLIENT_CAPABILITIES: &str = r#"
 {"changeAnnotationSupport":{"groupsOnLabel":true},"documentChanges":true,"failureHandling":"abort","normalizesLineEndings":false,"resourceOperations":["create"]} :: WorkspaceEditClientCapabilities { document_changes: Some(true), resource_operations: Some([Create]), failure_handling: Some(Abort), normalizes_line_endings: Some(false), change_annotation_support: Some(ChangeAnnotationWorkspaceEditClientCapabilities { groups_on_label: Some(true) }) }

@@ -1,10 +1,10 @@
 // A dump of a hundred thousand lines, in the form of the examples of LSIF 0.6: each line is read,
 // and written the same.
 use lsp_lsif::{Element, Entry};
+use lsp_rows::{Trial, text_of};
 use lsp_shape::Wire;
 use serde_json::Value;
 use std::alloc::Global;
-use std::process::Abort;
 use std::test::Fail;
 
 // How many documents the dump has, each of 50 lines.
@@ -115,14 +115,13 @@ fn first_id(document: u32) -> u32 {
 }
 
 // The lines of the text are read, and written the same.
-fn holds(rt: &impl Abort, alloc: Global, text: &str, seen: &mut Seen) -> Result<(), Fail> {
+fn try_lines(trial: &mut Trial, alloc: Global, text: &str, seen: &mut Seen) -> Result<(), Fail> {
     for line in text.lines() {
         if line.is_empty() {
             continue;
         }
         let entry = Entry::from_value(alloc, &Value::from_str(alloc, line)?)?;
-        let written = entry.to_value(alloc)?.to_string(alloc)?;
-        assert_eq!(rt; written.as_str(), line);
+        trial.text(line, text_of(alloc, &entry), line);
         match &entry.payload {
             Element::Vertex(_) => seen.vertices = seen.vertices.saturating_add(1),
             Element::Edge(_) => seen.edges = seen.edges.saturating_add(1),
@@ -133,24 +132,23 @@ fn holds(rt: &impl Abort, alloc: Global, text: &str, seen: &mut Seen) -> Result<
 
 #[test]
 fn dump(rt: HostRuntime) -> Result<(), Fail> {
-    let rt = &rt;
     let alloc = rt.alloc();
+    let mut trial = Trial::new(alloc);
     let mut seen = Seen {
         vertices: 0,
         edges: 0,
     };
-    holds(rt, alloc, part(alloc, HEAD, 1)?.as_str(), &mut seen)?;
+    try_lines(&mut trial, alloc, part(alloc, HEAD, 1)?.as_str(), &mut seen)?;
     for k in 0..DOCUMENTS {
         let lines = part(alloc, DOCUMENT, first_id(k))?;
-        holds(rt, alloc, lines.as_str(), &mut seen)?;
+        try_lines(&mut trial, alloc, lines.as_str(), &mut seen)?;
     }
     let end = tail(alloc, first_id(DOCUMENTS))?;
-    holds(rt, alloc, end.as_str(), &mut seen)?;
+    try_lines(&mut trial, alloc, end.as_str(), &mut seen)?;
     // Of a document 24 are vertices.
-    assert_eq!(rt;
-        seen.vertices,
-        DOCUMENTS.saturating_mul(24).saturating_add(4)
-    );
-    assert_eq!(rt; seen.edges, DOCUMENTS.saturating_mul(26).saturating_add(1));
-    Ok(())
+    let vertices = DOCUMENTS.saturating_mul(24).saturating_add(4);
+    let edges = DOCUMENTS.saturating_mul(26).saturating_add(1);
+    trial.same("vertices", seen.vertices, vertices);
+    trial.same("edges", seen.edges, edges);
+    Ok(trial.end()?)
 }
