@@ -1,7 +1,7 @@
 #!/usr/bin/env python3
 """Measures the entries of an index on dumps of 1,000, 10,000 and 100,000 lines.
 
-The dumps are those of the test in lsp_texts_lsif, by its text: a project, and documents of 50 lines each.
+The dumps are those of the test in tests_texts_top, by its text: a project, and documents of 50 lines each.
 The program that reading.py builds reads each line as an entry, and prints what is written of it. What it
 prints has to be the dump.
 
@@ -20,7 +20,7 @@ import reading
 
 CRATES = ["lsp_lang_goto", "lsp_tokens", "lsp_lsif"]
 TYPES = {"entry": "lsp_lsif::Entry"}
-DUMP = os.path.join(reading.ROOT, "crates", "lsp_texts_lsif", "src", "dump.rt")
+DUMP = os.path.join(reading.ROOT, "crates", "tests_texts_top", "src", "lsif", "dump.rt")
 
 
 def constant(name):

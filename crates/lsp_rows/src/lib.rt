@@ -1,5 +1,5 @@
-//! Tables of texts that tell what a type of the protocol is read from and what is written of it,
-//! for tests.
+//! What tests are written with: tables of texts that tell what a type of the protocol is read from
+//! and what is written of it, and `Trial`, which tries tables and values in turn.
 //!
 //! A table has a line for each text:
 //!
@@ -11,6 +11,7 @@
 #![tactic(auto)]
 
 mod error;
+mod trial;
 
 ghost use Rattle.std.specs.Prelude.{◌≡◌, Some, None, false, IfOk, OnOk, string_bytes};
 ghost use Rattle.serde_json.specs.Data.{Data};
@@ -26,6 +27,7 @@ use lsp_shape::{NoMemory, Wire, attempt};
 use serde_json::Value;
 use std::alloc::Global;
 use std::fmt;
+pub use trial::Trial;
 
 /// What is written for the value.
 pub fn text_of<T: Wire>(alloc: Global, value: &T) -> Result<String, NoMemory>

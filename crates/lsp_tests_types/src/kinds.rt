@@ -6,12 +6,10 @@ use lsp_kinds::{
     InsertTextFormat, InsertTextMode, MessageType, PrepareSupportDefaultBehavior,
     SignatureHelpTriggerKind, SymbolKind, SymbolTag, TextDocumentSaveReason, TextDocumentSyncKind,
 };
+use lsp_rows::{RowError, Trial};
 use lsp_shape::{Misfit, Wire};
-use serde_json::Value;
 use std::alloc::Global;
 use std::fmt::Debug;
-use std::process::Abort;
-use std::test::Fail;
 
 const DIAGNOSTIC_SEVERITIES: [(DiagnosticSeverity, &str, &str); 4] = [
     (DiagnosticSeverity::ERROR, "1", "Error"),
@@ -181,12 +179,13 @@ fn is_named<K>(
     kind: &K,
     number: &'static str,
     name: &'static str,
-) -> Result<bool, Fail>
+) -> Result<bool, Misfit>
 where
     K: Wire + Debug + PartialEq + TryFrom<&'static str, Error = &'static str>,
 {
-    let read = K::from_value(alloc, &Value::from_str(alloc, number)?)?;
-    let written = kind.to_value(alloc)?.to_string(alloc)?;
+    let value = kind.to_value(alloc)?;
+    let read = K::from_value(alloc, &value)?;
+    let written = value.to_string(alloc)?;
     let shown = format!(in alloc; "{kind:?}")?;
     let named = match K::try_from(name) {
         Ok(named) => named == *kind,
@@ -195,137 +194,119 @@ where
     Ok(read == *kind && written.as_str() == number && shown.as_str() == name && named)
 }
 
-fn assert_named<K>(
-    rt: &impl Abort,
-    alloc: Global,
-    table: &[(K, &'static str, &'static str)],
-) -> Result<(), Fail>
+fn try_named<K>(trial: &mut Trial, alloc: Global, table: &[(K, &'static str, &'static str)])
 where
     K: Wire + Debug + PartialEq + TryFrom<&'static str, Error = &'static str>,
 {
     for row in table {
-        let name = row.2;
-        assert!(rt; is_named(alloc, &row.0, row.1, name)?, "{name}");
+        trial.same(row.2, is_named(alloc, &row.0, row.1, row.2), Ok(true));
     }
-    Ok(())
 }
 
 #[test]
-fn kinds_of_diagnostics(rt: HostRuntime) -> Result<(), Fail> {
+fn kinds_of_diagnostics(rt: HostRuntime) -> Result<(), RowError> {
     let alloc = rt.alloc();
-    assert_named(&rt, alloc, &DIAGNOSTIC_SEVERITIES)?;
-    assert_named(&rt, alloc, &DIAGNOSTIC_TAGS)?;
-    Ok(())
+    let mut trial = Trial::new(alloc);
+    try_named(&mut trial, alloc, &DIAGNOSTIC_SEVERITIES);
+    try_named(&mut trial, alloc, &DIAGNOSTIC_TAGS);
+    trial.end()
 }
 
 #[test]
-fn kinds_of_symbols(rt: HostRuntime) -> Result<(), Fail> {
+fn kinds_of_symbols(rt: HostRuntime) -> Result<(), RowError> {
     let alloc = rt.alloc();
-    assert_named(&rt, alloc, &SYMBOL_KINDS)?;
-    assert_named(&rt, alloc, &SYMBOL_TAGS)?;
-    Ok(())
+    let mut trial = Trial::new(alloc);
+    try_named(&mut trial, alloc, &SYMBOL_KINDS);
+    try_named(&mut trial, alloc, &SYMBOL_TAGS);
+    trial.end()
 }
 
 #[test]
-fn kinds_of_completions(rt: HostRuntime) -> Result<(), Fail> {
+fn kinds_of_completions(rt: HostRuntime) -> Result<(), RowError> {
     let alloc = rt.alloc();
-    assert_named(&rt, alloc, &COMPLETION_ITEM_KINDS)?;
-    assert_named(&rt, alloc, &COMPLETION_ITEM_TAGS)?;
-    assert_named(&rt, alloc, &COMPLETION_TRIGGER_KINDS)?;
-    assert_named(&rt, alloc, &INSERT_TEXT_FORMATS)?;
-    assert_named(&rt, alloc, &INSERT_TEXT_MODES)?;
-    Ok(())
+    let mut trial = Trial::new(alloc);
+    try_named(&mut trial, alloc, &COMPLETION_ITEM_KINDS);
+    try_named(&mut trial, alloc, &COMPLETION_ITEM_TAGS);
+    try_named(&mut trial, alloc, &COMPLETION_TRIGGER_KINDS);
+    try_named(&mut trial, alloc, &INSERT_TEXT_FORMATS);
+    try_named(&mut trial, alloc, &INSERT_TEXT_MODES);
+    trial.end()
 }
 
 #[test]
-fn kinds_of_synchronization(rt: HostRuntime) -> Result<(), Fail> {
+fn kinds_of_synchronization(rt: HostRuntime) -> Result<(), RowError> {
     let alloc = rt.alloc();
-    assert_named(&rt, alloc, &TEXT_DOCUMENT_SYNC_KINDS)?;
-    assert_named(&rt, alloc, &TEXT_DOCUMENT_SAVE_REASONS)?;
-    Ok(())
+    let mut trial = Trial::new(alloc);
+    try_named(&mut trial, alloc, &TEXT_DOCUMENT_SYNC_KINDS);
+    try_named(&mut trial, alloc, &TEXT_DOCUMENT_SAVE_REASONS);
+    trial.end()
 }
 
 #[test]
-fn kinds_of_the_workspace(rt: HostRuntime) -> Result<(), Fail> {
+fn kinds_of_the_workspace(rt: HostRuntime) -> Result<(), RowError> {
     let alloc = rt.alloc();
-    assert_named(&rt, alloc, &FILE_CHANGE_TYPES)?;
-    assert_named(&rt, alloc, &MESSAGE_TYPES)?;
-    Ok(())
+    let mut trial = Trial::new(alloc);
+    try_named(&mut trial, alloc, &FILE_CHANGE_TYPES);
+    try_named(&mut trial, alloc, &MESSAGE_TYPES);
+    trial.end()
 }
 
 #[test]
-fn kinds_of_language_features(rt: HostRuntime) -> Result<(), Fail> {
+fn kinds_of_language_features(rt: HostRuntime) -> Result<(), RowError> {
     let alloc = rt.alloc();
-    assert_named(&rt, alloc, &CODE_ACTION_TRIGGER_KINDS)?;
-    assert_named(&rt, alloc, &DOCUMENT_HIGHLIGHT_KINDS)?;
-    assert_named(&rt, alloc, &INLAY_HINT_KINDS)?;
-    assert_named(&rt, alloc, &PREPARE_SUPPORT_DEFAULT_BEHAVIORS)?;
-    assert_named(&rt, alloc, &SIGNATURE_HELP_TRIGGER_KINDS)?;
-    Ok(())
+    let mut trial = Trial::new(alloc);
+    try_named(&mut trial, alloc, &CODE_ACTION_TRIGGER_KINDS);
+    try_named(&mut trial, alloc, &DOCUMENT_HIGHLIGHT_KINDS);
+    try_named(&mut trial, alloc, &INLAY_HINT_KINDS);
+    try_named(&mut trial, alloc, &PREPARE_SUPPORT_DEFAULT_BEHAVIORS);
+    try_named(&mut trial, alloc, &SIGNATURE_HELP_TRIGGER_KINDS);
+    trial.end()
 }
+
+const UNKNOWN: &str = "unknown enum variant";
 
 // No constant has the name, nor the number.
-fn is_unnamed<K>(alloc: Global, name: &'static str, number: &str, shown: &str) -> Result<bool, Fail>
-where
-    K: Wire + Debug + TryFrom<&'static str, Error = &'static str>,
-{
-    let refused = match K::try_from(name) {
-        Ok(_) => false,
-        Err(error) => error == "unknown enum variant",
-    };
-    let kind = K::from_value(alloc, &Value::from_str(alloc, number)?)?;
-    let text = format!(in alloc; "{kind:?}")?;
-    Ok(refused && text.as_str() == shown)
+#[test]
+fn names_and_numbers_of_no_constant(rt: HostRuntime) -> Result<(), RowError> {
+    let mut trial = Trial::new(rt.alloc());
+    trial.same("x", CompletionItemKind::try_from("x").err(), Some(UNKNOWN));
+    trial.holds::<CompletionItemKind>("99 :: CompletionItemKind(99)");
+    let error = DiagnosticTag::try_from("deprecated").err();
+    trial.same("deprecated", error, Some(UNKNOWN));
+    trial.holds::<DiagnosticTag>("-1 :: DiagnosticTag(-1)");
+    let error = MessageType::try_from("Information").err();
+    trial.same("Information", error, Some(UNKNOWN));
+    trial.holds::<MessageType>("-2147483648 :: MessageType(-2147483648)");
+    trial.end()
+}
+
+const NO_KINDS: &str = r#"
+! "Error"
+! 1.0
+! 1e0
+! 2147483648
+! -2147483649
+! null
+! true
+! [1]
+! {}
+"#;
+
+#[test]
+fn what_is_not_a_number_of_32_bits(rt: HostRuntime) -> Result<(), RowError> {
+    let mut trial = Trial::new(rt.alloc());
+    trial.holds::<MessageType>(NO_KINDS);
+    trial.end()
 }
 
 #[test]
-fn names_and_numbers_of_no_constant(rt: HostRuntime) -> Result<(), Fail> {
-    let alloc = rt.alloc();
-    assert!(rt; is_unnamed::<CompletionItemKind>(alloc, "x", "99", "CompletionItemKind(99)")?);
-    assert!(rt; is_unnamed::<DiagnosticTag>(alloc, "deprecated", "-1", "DiagnosticTag(-1)")?);
-    assert!(rt;
-        is_unnamed::<MessageType>(
-            alloc,
-            "Information",
-            "-2147483648",
-            "MessageType(-2147483648)"
-        )?
-    );
-    Ok(())
-}
-
-const NO_KINDS: [&str; 9] = [
-    "\"Error\"",
-    "1.0",
-    "1e0",
-    "2147483648",
-    "-2147483649",
-    "null",
-    "true",
-    "[1]",
-    "{}",
-];
-
-#[test]
-fn what_is_not_a_number_of_32_bits(rt: HostRuntime) -> Result<(), Fail> {
-    let alloc = rt.alloc();
-    for text in NO_KINDS {
-        let refused = match MessageType::from_value(alloc, &Value::from_str(alloc, text)?) {
-            Ok(_) => false,
-            Err(misfit) => misfit == Misfit::Unfit,
-        };
-        assert!(rt; refused, "{text}");
-    }
-    Ok(())
-}
-
-#[test]
-fn severities_in_order(rt: HostRuntime) -> Result<(), Fail> {
+fn severities_in_order(rt: HostRuntime) -> Result<(), RowError> {
     let severities = DiagnosticSeverity::constants();
-    assert_eq!(rt; severities.len(), 4);
+    let mut trial = Trial::new(rt.alloc());
+    trial.same("severities", severities.len(), 4);
     for pair in severities.windows(2) {
-        assert!(rt; pair[0] < pair[1], "{pair:?}");
+        trial.is_true(format_args!("{pair:?}"), pair[0] < pair[1]);
     }
-    assert_eq!(rt; DiagnosticSeverity::HINT.name(), Some("Hint"));
-    Ok(())
+    trial.same("HINT", DiagnosticSeverity::HINT.name(), Some("Hint"));
+    trial.end()
 }

@@ -1,6 +1,7 @@
 // What no clause says: which texts RFC 3986 gives as URI references and which parts they have, and
 // that the calls succeed.
-use lsp_shape::{Key, Misfit, Wire};
+use lsp_rows::{RowError, Trial};
+use lsp_shape::{Key, Wire};
 use lsp_uri::{Uri, UriError};
 use serde_json::Value;
 use std::alloc::Global;
@@ -169,7 +170,7 @@ fn shown(part: Option<&str>) -> &str {
 }
 
 // The row of the text that the row begins with.
-fn row_of(alloc: Global, row: &str) -> Result<String, Fail> {
+fn row_of(alloc: Global, row: &str) -> Result<String, UriError> {
     let Some((text, _)) = row.split_once('|') else {
         return Ok(String::new(alloc));
     };
@@ -184,24 +185,22 @@ fn row_of(alloc: Global, row: &str) -> Result<String, Fail> {
 }
 
 #[test]
-fn parts_of_references(rt: HostRuntime) -> Result<(), Fail> {
+fn parts_of_references(rt: HostRuntime) -> Result<(), RowError> {
+    let mut trial = Trial::new(rt.alloc());
     for row in REFERENCES.lines() {
-        let found = row_of(rt.alloc(), row)?;
-        assert_eq!(rt; found.as_str(), row);
+        trial.text(row, row_of(rt.alloc(), row), row);
     }
-    Ok(())
+    trial.end()
 }
 
 #[test]
-fn other_texts_are_refused(rt: HostRuntime) -> Result<(), Fail> {
+fn other_texts_are_refused(rt: HostRuntime) -> Result<(), RowError> {
+    let mut trial = Trial::new(rt.alloc());
     for text in NOT_REFERENCES.lines() {
-        let is_refused = match Uri::parse(rt.alloc(), text) {
-            Ok(_) => false,
-            Err(error) => error == UriError::NotUri,
-        };
-        assert!(rt; is_refused, "{text}");
+        let error = Uri::parse(rt.alloc(), text).err();
+        trial.same(text, error, Some(UriError::NotUri));
     }
-    Ok(())
+    trial.end()
 }
 
 #[test]
@@ -209,41 +208,40 @@ fn compared_and_printed_by_the_text(rt: HostRuntime) -> Result<(), Fail> {
     let alloc = rt.alloc();
     let upper = Uri::parse(alloc, "HTTP://a/")?;
     let lower = Uri::parse(alloc, "http://a/")?;
-    assert!(rt; upper != lower);
-    assert!(rt; upper < lower);
-    assert!(rt; lower == lower.clone()?);
-    assert_eq!(rt; format!(in alloc; "{lower}")?.as_str(), "http://a/");
-    assert_eq!(rt;
-        format!(in alloc; "{lower:?}")?.as_str(),
-        "Uri { text: \"http://a/\" }"
+    let copy = lower.clone()?;
+    let mut trial = Trial::new(alloc);
+    trial.is_true("two cases are two URIs", upper != lower);
+    trial.is_true("upper case comes first", upper < lower);
+    trial.is_true("a copy is equal", lower == copy);
+    trial.text("displayed", format!(in alloc; "{lower}"), "http://a/");
+    trial.shows("shown", lower, "Uri { text: \"http://a/\" }");
+    trial.text(
+        "the error",
+        format!(in alloc; "{}", UriError::NotUri),
+        "not a URI reference",
     );
-    assert_eq!(rt;
-        format!(in alloc; "{}", UriError::NotUri)?.as_str(),
-        "not a URI reference"
-    );
-    Ok(())
+    Ok(trial.end()?)
 }
+
+const URIS: &str = r#"
+"file:///a"
+! "a b"
+! 1
+! null
+! []
+"#;
 
 #[test]
 fn read_and_written(rt: HostRuntime) -> Result<(), Fail> {
     let alloc = rt.alloc();
     let text = "{\"file:///a\":[1],\"untitled:Untitled-1\":[]}";
     let map: HashMap<Uri, Vec<u32>> = HashMap::from_value(alloc, &Value::from_str(alloc, text)?)?;
-    assert_eq!(rt; map.len(), 2);
-    assert_eq!(rt; map.to_value(alloc)?.to_string(alloc)?.as_str(), text);
     let uri = Uri::from_value(alloc, &Value::from_str(alloc, "\"file:///a\"")?)?;
-    assert!(rt; map.contains_key(&uri));
-    assert_eq!(rt; uri.as_text(), "file:///a");
-    assert_eq!(rt;
-        uri.to_value(alloc)?.to_string(alloc)?.as_str(),
-        "\"file:///a\""
-    );
-    for other in ["\"a b\"", "1", "null", "[]"] {
-        let is_unfit = match Uri::from_value(alloc, &Value::from_str(alloc, other)?) {
-            Ok(_) => false,
-            Err(misfit) => misfit == Misfit::Unfit,
-        };
-        assert!(rt; is_unfit, "{other}");
-    }
-    Ok(())
+    let mut trial = Trial::new(alloc);
+    trial.same("entries", map.len(), 2);
+    trial.is_true("the URI is a key", map.contains_key(&uri));
+    trial.same("as a key", uri.as_text(), "file:///a");
+    trial.is_written(map, text);
+    trial.holds::<Uri>(URIS);
+    Ok(trial.end()?)
 }
