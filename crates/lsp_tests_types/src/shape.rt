@@ -310,38 +310,55 @@ fn an_object_is_read(rt: HostRuntime) -> Result<(), Fail> {
         alloc,
         "{\"a\":1,\"b\":null,\"c\":true,\"d\":[2],\"e\":{\"valueSet\":[3]}}",
     )?;
-    let object = Reader::new(alloc, &value)?;
+    let mut object = Reader::new(alloc, &value)?;
     let mut trial = Trial::new(alloc);
     trial.same("a", object.field::<u32>("a"), Ok(1));
-    trial.same("optional a", object.optional::<u32>("a"), Ok(Some(1)));
-    trial.same("optional b", object.optional::<u32>("b"), Ok(None));
-    trial.same("c", object.truth_or_false("c"), Ok(true));
-    trial.shows("d", object.list_or_empty::<u32>("d"), "Ok([2])");
-    let set = object.supported::<Value>("e")?.ok_or("absent")?;
+    trial.same("optional a", object.optional::<u32>("a"), Some(1));
+    trial.same("optional b", object.optional::<u32>("b"), None);
+    trial.same("c", object.truth_or_false("c"), true);
+    trial.shows("d", object.list_or_empty::<u32>("d"), "[2]");
+    let set = object.supported::<Value>("e").ok_or("absent")?;
     trial.is_written(set, "{\"valueSet\":[3]}");
     let others: HashMap<String, i32> = object.rest(&["b", "c", "d", "e"])?;
     trial.is_written(others, "{\"a\":1}");
+    trial.same("end", object.end(5u32), Ok(5));
     trial.same("null", Reader::new(alloc, &Value::Null).is_err(), true);
+    Ok(trial.end()?)
+}
+
+// After a misfit nothing more is read, and the end tells it.
+#[test]
+fn a_misfit_is_told_at_the_end(rt: HostRuntime) -> Result<(), Fail> {
+    let alloc = rt.alloc();
+    let value = json(alloc, "{\"a\":1,\"b\":true,\"d\":[2],\"e\":{}}")?;
+    let mut object = Reader::new(alloc, &value)?;
+    let mut trial = Trial::new(alloc);
+    trial.same("before", object.optional::<u32>("a"), Some(1));
+    trial.same("a", object.optional::<bool>("a"), None);
+    trial.same("b", object.truth_or_false("b"), false);
+    trial.shows("d", object.list_or_empty::<u32>("d"), "[]");
+    trial.shows("e", object.supported::<Value>("e"), "None");
+    trial.same("end", object.end(5u32), Err(Misfit::Unfit));
     Ok(trial.end()?)
 }
 
 #[test]
 fn an_object_is_written(rt: HostRuntime) -> Result<(), Fail> {
     let alloc = rt.alloc();
-    let mut object = Writer::with_rest(alloc, &self::object(alloc, "{\"x\":0}")?)?;
-    object.field("a", &1u32)?;
-    object.optional("b", &Some(2u32))?;
-    object.nullable::<u32>("c", &None)?;
-    object.unless_empty("d", &vec![in alloc; 3u32]?)?;
-    object.unless_false("e", true)?;
-    object.flat(&self::object(alloc, "{\"f\":4}")?)?;
-    object.tag("kind", "g")?;
+    let mut object = Writer::with_rest(alloc, &self::object(alloc, "{\"x\":0}")?);
+    object.field("a", &1u32);
+    object.optional("b", &Some(2u32));
+    object.nullable::<u32>("c", &None);
+    object.unless_empty("d", &vec![in alloc; 3u32]?);
+    object.unless_false("e", true);
+    object.flat(&self::object(alloc, "{\"f\":4}")?);
+    object.tag("kind", "g");
     let mut trial = Trial::new(alloc);
     trial.is_written(
-        object.end(),
+        object.end()?,
         "{\"a\":1,\"b\":2,\"c\":null,\"d\":[3],\"e\":true,\"f\":4,\"kind\":\"g\",\"x\":0}",
     );
-    trial.is_written(Writer::new(alloc).end(), "{}");
+    trial.is_written(Writer::new(alloc).end()?, "{}");
     Ok(trial.end()?)
 }
 
