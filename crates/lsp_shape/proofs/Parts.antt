@@ -4,10 +4,10 @@ use Rattle.std.specs.Prelude.{Result, Ok, Err, IfOk, OnOk}
 use Rattle.serde_json.specs.Data.{Data, object, Members, no_members}
 use Rattle.serde_json.specs.Find.{get_member}
 use Rattle.lsp_shape.specs.Plain.{Plain, Parts, part, parts, no_parts}
-use Rattle.lsp_shape.specs.Shape.{Rule, required, Shape, Fields, no_fields, field, supported, fields, are_distinct}
+use Rattle.lsp_shape.specs.Shape.{Rule, required, omitted, Shape, Fields, no_fields, field, supported, fields, are_distinct}
 use Rattle.lsp_shape.specs.Read.{and_part, read, read_fields, read_member, read_supported, reads_none}
 use Rattle.lsp_shape.specs.Write.{write, write_fields, write_member, writes_null}
-use Rattle.lsp_shape.specs.Values.{is_of, are_fields, by_rule, is_none}
+use Rattle.lsp_shape.specs.Values.{is_of, are_fields, by_rule, is_none, is_maybe}
 use Rattle.lsp_shape.specs.Object.{read_from, misfit_of, Takes, written_to, is_whole, Puts}
 use Rattle.lsp_shape.specs.declared.object.Reader.{Reader}
 use Rattle.lsp_shape.specs.declared.object.Writer.{Writer}
@@ -130,6 +130,13 @@ writes_member {final} {old} {name} {r} {s} {p} {fs} {ps} new t a = record {
   whole = t.0 a.whole;
   put = a.put ∙ ap (write_fields fs writes_null ps) (t.1 a.whole);
   of_shape = both {a = by_rule r (is_of s) p} (t.2 a.whole) a.of_shape;
+}
+
+pub writes_supported : {final : Members} {old : Writer} {name : List ℕ} {s : Shape} {p : Plain} {fs : Fields} {ps : Parts} (new : Writer) → Puts old new (write_member name omitted (write s) p (written_to old)) (is_maybe (is_of s) p) → Writes final new fs ps → Writes final old (supported name s fs) (part p ps)
+writes_supported {final} {old} {name} {s} {p} {fs} {ps} new t a = record {
+  whole = t.0 a.whole;
+  put = a.put ∙ ap (write_fields fs writes_null ps) (t.1 a.whole);
+  of_shape = both {a = is_maybe (is_of s) p} (t.2 a.whole) a.of_shape;
 }
 
 pub record_written : {fs : Fields} {ps : Parts} (final : Members) (now : Writer) (d : Data) → d ≡ object final → written_to now ≡ no_members → Writes final now fs ps → d ≡ write (fields fs) (parts ps)

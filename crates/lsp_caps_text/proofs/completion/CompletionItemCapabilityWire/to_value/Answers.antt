@@ -3,7 +3,7 @@ use Rattle.serde_json.specs.View.{view}
 use Rattle.lsp_shape.specs.Object.{is_whole, written_to}
 use Rattle.lsp_shape.specs.Plain.{no_parts}
 use Rattle.lsp_shape.specs.Shape.{no_fields}
-use Rattle.lsp_shape.proofs.Parts.{Writes, both_ok, record_written, record_of_shape, writes_member, writes_end}
+use Rattle.lsp_shape.proofs.Parts.{Writes, both_ok, record_written, record_of_shape, writes_member, writes_supported, writes_end}
 use Rattle.lsp_caps_text.specs.Completion.{completion_item_capability_row, completion_item_capability_fields}
 use Rattle.lsp_caps_text.proofs.completion.CompletionItemCapabilityWire.to_value.Goals as goal
 
@@ -16,7 +16,7 @@ lines c whole =
     writes_member c.optional-3.new.self c.optional-3.ensures (
     writes_member c.optional-4.new.self c.optional-4.ensures (
     writes_member c.optional-5.new.self c.optional-5.ensures (
-    writes_member c.optional-6.new.self c.optional-6.ensures (
+    writes_supported c.optional-6.new.self c.optional-6.ensures (
     writes_member c.optional-7.new.self c.optional-7.ensures (
     writes_member c.optional-8.new.self c.optional-8.ensures (
     writes_member c.optional-9.new.self c.optional-9.ensures (
