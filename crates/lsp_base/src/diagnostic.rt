@@ -5,10 +5,10 @@ ghost use Rattle.lsp_base.specs.Position.{first_range};
 
 use crate::position::{Location, NumberOrString, Position, Range};
 use lsp_kinds::{DiagnosticSeverity, DiagnosticTag};
-use lsp_shape::{Misfit, NoMemory, Reader, Wire, Writer};
+use lsp_shape::{Copies, Misfit, NoMemory, Reader, Wire, Writer};
 use lsp_uri::Uri;
 use serde_json::Value;
-use std::alloc::Global;
+use std::alloc::{AllocError, Global};
 
 /// Where a diagnostic's code is explained. Since 3.16 (LSP 3.17, "Diagnostic").
 #[derive(Debug, PartialEq, Eq, Clone, Drop)]
@@ -69,7 +69,7 @@ impl Wire for DiagnosticRelatedInformation {
 }
 
 /// What is found in a range of a document, such as an error of a compiler (LSP 3.17, "Diagnostic").
-#[derive(Debug, Clone, Drop)]
+#[derive(Debug, Drop)]
 pub struct Diagnostic {
     /// The range in which it is found.
     pub range: Range,
@@ -92,6 +92,35 @@ pub struct Diagnostic {
     /// Any JSON value, which a client with `dataSupport` returns unchanged in
     /// `textDocument/codeAction`. In JSON the name is `data`. Since 3.16.
     pub payload: Option<Value>,
+}
+
+impl Clone for Diagnostic {
+    ghost is_clone = { λ x y. ⟦<Range as Clone>⟧.is_clone x.range y.range
+        × ⟦<Option<DiagnosticSeverity> as Clone>⟧.is_clone x.severity y.severity
+        × ⟦<Option<NumberOrString> as Clone>⟧.is_clone x.code y.code
+        × ⟦<Option<CodeDescription> as Clone>⟧.is_clone x.code_description y.code_description
+        × ⟦<Option<String> as Clone>⟧.is_clone x.source y.source
+        × ⟦<String as Clone>⟧.is_clone x.message y.message
+        × ⟦<Option<Vec<DiagnosticRelatedInformation>> as Clone>⟧.is_clone
+        x.related_information y.related_information
+        × ⟦<Option<Vec<DiagnosticTag>> as Clone>⟧.is_clone x.tags y.tags
+        × ⟦<Option<Value> as Clone>⟧.is_clone x.payload y.payload };
+
+    fn clone(&self) -> Result<Diagnostic, AllocError> {
+        let mut copies = Copies::new();
+        let copy = Diagnostic {
+            range: self.range,
+            severity: copies.optional(&self.severity),
+            code: copies.optional(&self.code),
+            code_description: copies.optional(&self.code_description),
+            source: copies.optional(&self.source),
+            message: self.message.clone()?,
+            related_information: copies.optional(&self.related_information),
+            tags: copies.optional(&self.tags),
+            payload: copies.optional(&self.payload),
+        };
+        copies.end(copy)
+    }
 }
 
 impl Diagnostic {

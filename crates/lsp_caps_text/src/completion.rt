@@ -5,9 +5,9 @@ ghost use Rattle.lsp_caps_text.specs.Completion.{completion_client_capabilities_
 use lsp_base::TagSupport;
 use lsp_kinds::{CompletionItemKind, CompletionItemTag, InsertTextMode};
 use lsp_names::MarkupKind;
-use lsp_shape::{Misfit, NoMemory, Reader, Wire, Writer};
+use lsp_shape::{Copies, Misfit, NoMemory, Reader, Wire, Writer};
 use serde_json::Value;
-use std::alloc::Global;
+use std::alloc::{AllocError, Global};
 
 /// What a client supports for `textDocument/completion`, as the capability
 /// `textDocument.completion` (LSP 3.17, "Completion Request").
@@ -62,7 +62,7 @@ impl Wire for CompletionClientCapabilities {
 
 /// What a client supports in a completion item, as the capability
 /// `textDocument.completion.completionItem` (LSP 3.17, "Completion Request").
-#[derive(Debug, PartialEq, Eq, Default, Clone, Drop)]
+#[derive(Debug, PartialEq, Eq, Default, Drop)]
 pub struct CompletionItemCapability {
     /// Whether the inserted text may be a snippet with tab stops and placeholders, such as
     /// `${1:name}`. Absent: it must be plain text.
@@ -90,6 +90,39 @@ pub struct CompletionItemCapability {
     pub insert_text_mode_support: Option<InsertTextModeSupport>,
     /// Whether an item may carry `labelDetails`. Since 3.17.
     pub label_details_support: Option<bool>,
+}
+
+impl Clone for CompletionItemCapability {
+    ghost is_clone = { λ x y. ⟦<Option<bool> as Clone>⟧.is_clone x.snippet_support y.snippet_support
+        × ⟦<Option<bool> as Clone>⟧.is_clone x.commit_characters_support y.commit_characters_support
+        × ⟦<Option<Vec<MarkupKind>> as Clone>⟧.is_clone
+        x.documentation_format y.documentation_format
+        × ⟦<Option<bool> as Clone>⟧.is_clone x.deprecated_support y.deprecated_support
+        × ⟦<Option<bool> as Clone>⟧.is_clone x.preselect_support y.preselect_support
+        × ⟦<Option<TagSupport<CompletionItemTag>> as Clone>⟧.is_clone x.tag_support y.tag_support
+        × ⟦<Option<bool> as Clone>⟧.is_clone x.insert_replace_support y.insert_replace_support
+        × ⟦<Option<CompletionItemCapabilityResolveSupport> as Clone>⟧.is_clone
+        x.resolve_support y.resolve_support
+        × ⟦<Option<InsertTextModeSupport> as Clone>⟧.is_clone
+        x.insert_text_mode_support y.insert_text_mode_support
+        × ⟦<Option<bool> as Clone>⟧.is_clone x.label_details_support y.label_details_support };
+
+    fn clone(&self) -> Result<CompletionItemCapability, AllocError> {
+        let mut copies = Copies::new();
+        let copy = CompletionItemCapability {
+            snippet_support: copies.optional(&self.snippet_support),
+            commit_characters_support: copies.optional(&self.commit_characters_support),
+            documentation_format: copies.optional(&self.documentation_format),
+            deprecated_support: copies.optional(&self.deprecated_support),
+            preselect_support: copies.optional(&self.preselect_support),
+            tag_support: copies.optional(&self.tag_support),
+            insert_replace_support: copies.optional(&self.insert_replace_support),
+            resolve_support: copies.optional(&self.resolve_support),
+            insert_text_mode_support: copies.optional(&self.insert_text_mode_support),
+            label_details_support: copies.optional(&self.label_details_support),
+        };
+        copies.end(copy)
+    }
 }
 
 #[tactic(auto, unfolding(crate::specs::Completion::completion_item_capability_row, crate::specs::Completion::completion_item_capability_fields))]

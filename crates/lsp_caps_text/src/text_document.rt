@@ -24,14 +24,14 @@ use crate::symbols::DocumentSymbolClientCapabilities;
 use crate::sync::TextDocumentSyncClientCapabilities;
 use crate::tokens::SemanticTokensClientCapabilities;
 use lsp_base::GotoCapability;
-use lsp_shape::{Misfit, NoMemory, Reader, Wire, Writer};
+use lsp_shape::{Copies, Misfit, NoMemory, Reader, Wire, Writer};
 use serde_json::Value;
-use std::alloc::Global;
+use std::alloc::{AllocError, Global};
 
 /// What a client supports for each feature of text documents, as `textDocument` in its capabilities
 /// in `initialize`. An absent field means that the feature isn't supported (LSP 3.17, "Initialize
 /// Request").
-#[derive(Debug, PartialEq, Eq, Default, Clone, Drop)]
+#[derive(Debug, PartialEq, Eq, Default, Drop)]
 pub struct TextDocumentClientCapabilities {
     /// Notifications and requests around saving, such as `textDocument/didSave`. Every client sends
     /// those of opening, changing and closing.
@@ -94,6 +94,92 @@ pub struct TextDocumentClientCapabilities {
     pub inlay_hint: Option<InlayHintClientCapabilities>,
     /// `textDocument/diagnostic`, by which the client asks for diagnostics. Since 3.17.
     pub diagnostic: Option<DiagnosticClientCapabilities>,
+}
+
+impl Clone for TextDocumentClientCapabilities {
+    ghost is_clone = { λ x y. ⟦<Option<TextDocumentSyncClientCapabilities> as Clone>⟧.is_clone
+        x.synchronization y.synchronization
+        × ⟦<Option<CompletionClientCapabilities> as Clone>⟧.is_clone x.completion y.completion
+        × ⟦<Option<HoverClientCapabilities> as Clone>⟧.is_clone x.hover y.hover
+        × ⟦<Option<SignatureHelpClientCapabilities> as Clone>⟧.is_clone
+        x.signature_help y.signature_help
+        × ⟦<Option<ReferenceClientCapabilities> as Clone>⟧.is_clone x.references y.references
+        × ⟦<Option<DocumentHighlightClientCapabilities> as Clone>⟧.is_clone
+        x.document_highlight y.document_highlight
+        × ⟦<Option<DocumentSymbolClientCapabilities> as Clone>⟧.is_clone
+        x.document_symbol y.document_symbol
+        × ⟦<Option<DocumentFormattingClientCapabilities> as Clone>⟧.is_clone
+        x.formatting y.formatting
+        × ⟦<Option<DocumentRangeFormattingClientCapabilities> as Clone>⟧.is_clone
+        x.range_formatting y.range_formatting
+        × ⟦<Option<DocumentOnTypeFormattingClientCapabilities> as Clone>⟧.is_clone
+        x.on_type_formatting y.on_type_formatting
+        × ⟦<Option<GotoCapability> as Clone>⟧.is_clone x.declaration y.declaration
+        × ⟦<Option<GotoCapability> as Clone>⟧.is_clone x.definition y.definition
+        × ⟦<Option<GotoCapability> as Clone>⟧.is_clone x.type_definition y.type_definition
+        × ⟦<Option<GotoCapability> as Clone>⟧.is_clone x.implementation y.implementation
+        × ⟦<Option<CodeActionClientCapabilities> as Clone>⟧.is_clone x.code_action y.code_action
+        × ⟦<Option<CodeLensClientCapabilities> as Clone>⟧.is_clone x.code_lens y.code_lens
+        × ⟦<Option<DocumentLinkClientCapabilities> as Clone>⟧.is_clone
+        x.document_link y.document_link
+        × ⟦<Option<DocumentColorClientCapabilities> as Clone>⟧.is_clone
+        x.color_provider y.color_provider
+        × ⟦<Option<RenameClientCapabilities> as Clone>⟧.is_clone x.rename y.rename
+        × ⟦<Option<PublishDiagnosticsClientCapabilities> as Clone>⟧.is_clone
+        x.publish_diagnostics y.publish_diagnostics
+        × ⟦<Option<FoldingRangeClientCapabilities> as Clone>⟧.is_clone
+        x.folding_range y.folding_range
+        × ⟦<Option<SelectionRangeClientCapabilities> as Clone>⟧.is_clone
+        x.selection_range y.selection_range
+        × ⟦<Option<LinkedEditingRangeClientCapabilities> as Clone>⟧.is_clone
+        x.linked_editing_range y.linked_editing_range
+        × ⟦<Option<CallHierarchyClientCapabilities> as Clone>⟧.is_clone
+        x.call_hierarchy y.call_hierarchy
+        × ⟦<Option<SemanticTokensClientCapabilities> as Clone>⟧.is_clone
+        x.semantic_tokens y.semantic_tokens
+        × ⟦<Option<MonikerClientCapabilities> as Clone>⟧.is_clone x.moniker y.moniker
+        × ⟦<Option<TypeHierarchyClientCapabilities> as Clone>⟧.is_clone
+        x.type_hierarchy y.type_hierarchy
+        × ⟦<Option<InlineValueClientCapabilities> as Clone>⟧.is_clone x.inline_value y.inline_value
+        × ⟦<Option<InlayHintClientCapabilities> as Clone>⟧.is_clone x.inlay_hint y.inlay_hint
+        × ⟦<Option<DiagnosticClientCapabilities> as Clone>⟧.is_clone x.diagnostic y.diagnostic };
+
+    fn clone(&self) -> Result<TextDocumentClientCapabilities, AllocError> {
+        let mut copies = Copies::new();
+        let copy = TextDocumentClientCapabilities {
+            synchronization: copies.optional(&self.synchronization),
+            completion: copies.optional(&self.completion),
+            hover: copies.optional(&self.hover),
+            signature_help: copies.optional(&self.signature_help),
+            references: copies.optional(&self.references),
+            document_highlight: copies.optional(&self.document_highlight),
+            document_symbol: copies.optional(&self.document_symbol),
+            formatting: copies.optional(&self.formatting),
+            range_formatting: copies.optional(&self.range_formatting),
+            on_type_formatting: copies.optional(&self.on_type_formatting),
+            declaration: copies.optional(&self.declaration),
+            definition: copies.optional(&self.definition),
+            type_definition: copies.optional(&self.type_definition),
+            implementation: copies.optional(&self.implementation),
+            code_action: copies.optional(&self.code_action),
+            code_lens: copies.optional(&self.code_lens),
+            document_link: copies.optional(&self.document_link),
+            color_provider: copies.optional(&self.color_provider),
+            rename: copies.optional(&self.rename),
+            publish_diagnostics: copies.optional(&self.publish_diagnostics),
+            folding_range: copies.optional(&self.folding_range),
+            selection_range: copies.optional(&self.selection_range),
+            linked_editing_range: copies.optional(&self.linked_editing_range),
+            call_hierarchy: copies.optional(&self.call_hierarchy),
+            semantic_tokens: copies.optional(&self.semantic_tokens),
+            moniker: copies.optional(&self.moniker),
+            type_hierarchy: copies.optional(&self.type_hierarchy),
+            inline_value: copies.optional(&self.inline_value),
+            inlay_hint: copies.optional(&self.inlay_hint),
+            diagnostic: copies.optional(&self.diagnostic),
+        };
+        copies.end(copy)
+    }
 }
 
 #[tactic(auto, unfolding(crate::specs::TextDocument::text_document_client_capabilities_row, crate::specs::TextDocument::text_document_client_capabilities_fields))]

@@ -3,13 +3,13 @@ ghost use Rattle.std.specs.Prelude.{◌≡◌, None, []};
 ghost use Rattle.lsp_caps_text.specs.Tokens.{semantic_tokens_client_capabilities_row, semantic_tokens_client_capabilities_requests_row};
 
 use lsp_names::{SemanticTokenModifier, SemanticTokenType, SemanticTokensFullOptions, TokenFormat};
-use lsp_shape::{Misfit, NoMemory, Reader, Wire, Writer};
+use lsp_shape::{Copies, Misfit, NoMemory, Reader, Wire, Writer};
 use serde_json::Value;
-use std::alloc::Global;
+use std::alloc::{AllocError, Global};
 
 /// What a client supports for the `textDocument/semanticTokens` requests, as the capability
 /// `textDocument.semanticTokens`. Since 3.16 (LSP 3.17, "Semantic Tokens").
-#[derive(Debug, PartialEq, Eq, Clone, Drop)]
+#[derive(Debug, PartialEq, Eq, Drop)]
 pub struct SemanticTokensClientCapabilities {
     /// Whether the server may register the feature after initialization, with
     /// `client/registerCapability`.
@@ -32,6 +32,35 @@ pub struct SemanticTokensClientCapabilities {
     /// Whether the client colors with these tokens in addition to its own syntax tokens; if
     /// `false`, with these alone. Absent: unspecified. Since 3.17.
     pub augments_syntax_tokens: Option<bool>,
+}
+
+impl Clone for SemanticTokensClientCapabilities {
+    ghost is_clone = { λ x y. ⟦<Option<bool> as Clone>⟧.is_clone
+        x.dynamic_registration y.dynamic_registration
+        × ⟦<SemanticTokensClientCapabilitiesRequests as Clone>⟧.is_clone x.requests y.requests
+        × ⟦<Vec<SemanticTokenType> as Clone>⟧.is_clone x.token_types y.token_types
+        × ⟦<Vec<SemanticTokenModifier> as Clone>⟧.is_clone x.token_modifiers y.token_modifiers
+        × ⟦<Vec<TokenFormat> as Clone>⟧.is_clone x.formats y.formats
+        × ⟦<Option<bool> as Clone>⟧.is_clone x.overlapping_token_support y.overlapping_token_support
+        × ⟦<Option<bool> as Clone>⟧.is_clone x.multiline_token_support y.multiline_token_support
+        × ⟦<Option<bool> as Clone>⟧.is_clone x.server_cancel_support y.server_cancel_support
+        × ⟦<Option<bool> as Clone>⟧.is_clone x.augments_syntax_tokens y.augments_syntax_tokens };
+
+    fn clone(&self) -> Result<SemanticTokensClientCapabilities, AllocError> {
+        let mut copies = Copies::new();
+        let copy = SemanticTokensClientCapabilities {
+            dynamic_registration: copies.optional(&self.dynamic_registration),
+            requests: self.requests.clone()?,
+            token_types: self.token_types.clone()?,
+            token_modifiers: self.token_modifiers.clone()?,
+            formats: self.formats.clone()?,
+            overlapping_token_support: copies.optional(&self.overlapping_token_support),
+            multiline_token_support: copies.optional(&self.multiline_token_support),
+            server_cancel_support: copies.optional(&self.server_cancel_support),
+            augments_syntax_tokens: copies.optional(&self.augments_syntax_tokens),
+        };
+        copies.end(copy)
+    }
 }
 
 impl SemanticTokensClientCapabilities {

@@ -13,14 +13,14 @@ use crate::refresh::{
     SemanticTokensWorkspaceClientCapabilities,
 };
 use crate::symbols::WorkspaceSymbolClientCapabilities;
-use lsp_shape::{Misfit, NoMemory, Reader, Wire, Writer};
+use lsp_shape::{Copies, Misfit, NoMemory, Reader, Wire, Writer};
 use serde_json::Value;
-use std::alloc::Global;
+use std::alloc::{AllocError, Global};
 
 /// What a client supports for each feature of the workspace, as `workspace` in its capabilities in
 /// `initialize`. An absent field means that the feature isn't supported (LSP 3.17, "Initialize
 /// Request").
-#[derive(Debug, PartialEq, Eq, Default, Clone, Drop)]
+#[derive(Debug, PartialEq, Eq, Default, Drop)]
 pub struct WorkspaceClientCapabilities {
     /// Whether the server may send `workspace/applyEdit`.
     pub apply_edit: Option<bool>,
@@ -53,6 +53,53 @@ pub struct WorkspaceClientCapabilities {
     /// `workspace/diagnostic/refresh`. LSP 3.17 calls this member `diagnostics`, but it is read and
     /// written as `diagnostic` here: what a client sends as `diagnostics` is ignored. Since 3.17.
     pub diagnostic: Option<DiagnosticWorkspaceClientCapabilities>,
+}
+
+impl Clone for WorkspaceClientCapabilities {
+    ghost is_clone = { λ x y. ⟦<Option<bool> as Clone>⟧.is_clone x.apply_edit y.apply_edit
+        × ⟦<Option<WorkspaceEditClientCapabilities> as Clone>⟧.is_clone
+        x.workspace_edit y.workspace_edit
+        × ⟦<Option<DidChangeConfigurationClientCapabilities> as Clone>⟧.is_clone
+        x.did_change_configuration y.did_change_configuration
+        × ⟦<Option<DidChangeWatchedFilesClientCapabilities> as Clone>⟧.is_clone
+        x.did_change_watched_files y.did_change_watched_files
+        × ⟦<Option<WorkspaceSymbolClientCapabilities> as Clone>⟧.is_clone x.symbol y.symbol
+        × ⟦<Option<ExecuteCommandClientCapabilities> as Clone>⟧.is_clone
+        x.execute_command y.execute_command
+        × ⟦<Option<bool> as Clone>⟧.is_clone x.workspace_folders y.workspace_folders
+        × ⟦<Option<bool> as Clone>⟧.is_clone x.configuration y.configuration
+        × ⟦<Option<SemanticTokensWorkspaceClientCapabilities> as Clone>⟧.is_clone
+        x.semantic_tokens y.semantic_tokens
+        × ⟦<Option<CodeLensWorkspaceClientCapabilities> as Clone>⟧.is_clone x.code_lens y.code_lens
+        × ⟦<Option<WorkspaceFileOperationsClientCapabilities> as Clone>⟧.is_clone
+        x.file_operations y.file_operations
+        × ⟦<Option<InlineValueWorkspaceClientCapabilities> as Clone>⟧.is_clone
+        x.inline_value y.inline_value
+        × ⟦<Option<InlayHintWorkspaceClientCapabilities> as Clone>⟧.is_clone
+        x.inlay_hint y.inlay_hint
+        × ⟦<Option<DiagnosticWorkspaceClientCapabilities> as Clone>⟧.is_clone
+        x.diagnostic y.diagnostic };
+
+    fn clone(&self) -> Result<WorkspaceClientCapabilities, AllocError> {
+        let mut copies = Copies::new();
+        let copy = WorkspaceClientCapabilities {
+            apply_edit: copies.optional(&self.apply_edit),
+            workspace_edit: copies.optional(&self.workspace_edit),
+            did_change_configuration: copies.optional(&self.did_change_configuration),
+            did_change_watched_files: copies.optional(&self.did_change_watched_files),
+            symbol: copies.optional(&self.symbol),
+            execute_command: copies.optional(&self.execute_command),
+            workspace_folders: copies.optional(&self.workspace_folders),
+            configuration: copies.optional(&self.configuration),
+            semantic_tokens: copies.optional(&self.semantic_tokens),
+            code_lens: copies.optional(&self.code_lens),
+            file_operations: copies.optional(&self.file_operations),
+            inline_value: copies.optional(&self.inline_value),
+            inlay_hint: copies.optional(&self.inlay_hint),
+            diagnostic: copies.optional(&self.diagnostic),
+        };
+        copies.end(copy)
+    }
 }
 
 #[tactic(auto, unfolding(crate::specs::Workspace::workspace_client_capabilities_row, crate::specs::Workspace::workspace_client_capabilities_fields))]

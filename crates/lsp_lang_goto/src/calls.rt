@@ -3,10 +3,10 @@ ghost use Rattle.lsp_lang_goto.specs.Calls.{call_hierarchy_prepare_params_row, c
 
 use lsp_base::{PartialResultParams, Range, TextDocumentPositionParams, WorkDoneProgressParams};
 use lsp_kinds::{SymbolKind, SymbolTag};
-use lsp_shape::{Misfit, NoMemory, Reader, Wire, Writer};
+use lsp_shape::{Copies, Misfit, NoMemory, Reader, Wire, Writer};
 use lsp_uri::Uri;
 use serde_json::Value;
-use std::alloc::Global;
+use std::alloc::{AllocError, Global};
 
 /// Parameters of `textDocument/prepareCallHierarchy`: the symbol whose callers or callees the user
 /// wants to explore, since 3.16 (LSP 3.17, "Prepare Call Hierarchy Request").
@@ -42,7 +42,7 @@ impl Wire for CallHierarchyPrepareParams {
 /// A function or another symbol in a hierarchy of calls. The server returns it for
 /// `textDocument/prepareCallHierarchy`, and the client sends it back to ask for its callers or
 /// callees; since 3.16 (LSP 3.17, "Prepare Call Hierarchy Request").
-#[derive(Debug, Clone, Drop)]
+#[derive(Debug, Drop)]
 pub struct CallHierarchyItem {
     /// What the client shows for the symbol, usually its identifier.
     pub name: String,
@@ -63,6 +63,32 @@ pub struct CallHierarchyItem {
     /// Any value, sent as the member `data`. The client returns it unchanged in
     /// `callHierarchy/incomingCalls` and `callHierarchy/outgoingCalls`.
     pub payload: Option<Value>,
+}
+
+impl Clone for CallHierarchyItem {
+    ghost is_clone = { λ x y. ⟦<String as Clone>⟧.is_clone x.name y.name
+        × ⟦<SymbolKind as Clone>⟧.is_clone x.kind y.kind
+        × ⟦<Option<Vec<SymbolTag>> as Clone>⟧.is_clone x.tags y.tags
+        × ⟦<Option<String> as Clone>⟧.is_clone x.detail y.detail
+        × ⟦<Uri as Clone>⟧.is_clone x.uri y.uri
+        × ⟦<Range as Clone>⟧.is_clone x.range y.range
+        × ⟦<Range as Clone>⟧.is_clone x.selection_range y.selection_range
+        × ⟦<Option<Value> as Clone>⟧.is_clone x.payload y.payload };
+
+    fn clone(&self) -> Result<CallHierarchyItem, AllocError> {
+        let mut copies = Copies::new();
+        let copy = CallHierarchyItem {
+            name: self.name.clone()?,
+            kind: self.kind,
+            tags: copies.optional(&self.tags),
+            detail: copies.optional(&self.detail),
+            uri: self.uri.clone()?,
+            range: self.range,
+            selection_range: self.selection_range,
+            payload: copies.optional(&self.payload),
+        };
+        copies.end(copy)
+    }
 }
 
 #[tactic(auto, unfolding(crate::specs::Calls::call_hierarchy_item_row))]

@@ -5,10 +5,10 @@ use lsp_base::{
     LSPAny, PartialResultParams, Range, TextDocumentPositionParams, WorkDoneProgressParams,
 };
 use lsp_kinds::{SymbolKind, SymbolTag};
-use lsp_shape::{Misfit, NoMemory, Reader, Wire, Writer};
+use lsp_shape::{Copies, Misfit, NoMemory, Reader, Wire, Writer};
 use lsp_uri::Uri;
 use serde_json::Value;
-use std::alloc::Global;
+use std::alloc::{AllocError, Global};
 
 /// Parameters of `textDocument/prepareTypeHierarchy`: the type whose supertypes or subtypes the
 /// user wants to explore, since 3.17 (LSP 3.17, "Prepare Type Hierarchy Request").
@@ -118,7 +118,7 @@ impl Wire for TypeHierarchySubtypesParams {
 /// A type in a hierarchy of types. The server returns it for `textDocument/prepareTypeHierarchy`,
 /// and the client sends it back to ask for its supertypes or subtypes; since 3.17 (LSP 3.17,
 /// "Prepare Type Hierarchy Request").
-#[derive(Debug, Clone, Drop)]
+#[derive(Debug, Drop)]
 pub struct TypeHierarchyItem {
     /// What the client shows for the type, usually its identifier.
     pub name: String,
@@ -138,6 +138,32 @@ pub struct TypeHierarchyItem {
     /// Any value, sent as the member `data`. The client returns it unchanged in
     /// `typeHierarchy/supertypes` and `typeHierarchy/subtypes`.
     pub payload: Option<LSPAny>,
+}
+
+impl Clone for TypeHierarchyItem {
+    ghost is_clone = { λ x y. ⟦<String as Clone>⟧.is_clone x.name y.name
+        × ⟦<SymbolKind as Clone>⟧.is_clone x.kind y.kind
+        × ⟦<Option<Vec<SymbolTag>> as Clone>⟧.is_clone x.tags y.tags
+        × ⟦<Option<String> as Clone>⟧.is_clone x.detail y.detail
+        × ⟦<Uri as Clone>⟧.is_clone x.uri y.uri
+        × ⟦<Range as Clone>⟧.is_clone x.range y.range
+        × ⟦<Range as Clone>⟧.is_clone x.selection_range y.selection_range
+        × ⟦<Option<LSPAny> as Clone>⟧.is_clone x.payload y.payload };
+
+    fn clone(&self) -> Result<TypeHierarchyItem, AllocError> {
+        let mut copies = Copies::new();
+        let copy = TypeHierarchyItem {
+            name: self.name.clone()?,
+            kind: self.kind,
+            tags: copies.optional(&self.tags),
+            detail: copies.optional(&self.detail),
+            uri: self.uri.clone()?,
+            range: self.range,
+            selection_range: self.selection_range,
+            payload: copies.optional(&self.payload),
+        };
+        copies.end(copy)
+    }
 }
 
 #[tactic(auto, unfolding(crate::specs::Types::type_hierarchy_item_row))]

@@ -9,9 +9,9 @@ use lsp_base::{
 };
 use lsp_kinds::CodeActionTriggerKind;
 use lsp_names::CodeActionKind;
-use lsp_shape::{Misfit, NoMemory, Reader, Wire, Writer, attempt};
+use lsp_shape::{Copies, Misfit, NoMemory, Reader, Wire, Writer, attempt};
 use serde_json::Value;
-use std::alloc::Global;
+use std::alloc::{AllocError, Global};
 
 /// Parameters of `textDocument/codeAction`: the code for which quick fixes, refactorings and the
 /// like are wanted (LSP 3.17, "Code Action Request").
@@ -167,7 +167,7 @@ impl From<CodeAction> for CodeActionOrCommand {
 /// An action that the user can choose, such as a quick fix: an entry of the result of
 /// `textDocument/codeAction`, since 3.8. The client may ask for a missing edit by
 /// `codeAction/resolve`, since 3.16 (LSP 3.17, "Code Action Request").
-#[derive(Debug, Clone, Drop)]
+#[derive(Debug, Drop)]
 pub struct CodeAction {
     /// The short text by which the user recognizes the action.
     pub title: String,
@@ -189,6 +189,32 @@ pub struct CodeAction {
     /// Any value, sent as the member `data`. A client with `textDocument.codeAction.dataSupport`
     /// returns it unchanged in `codeAction/resolve`; since 3.16.
     pub payload: Option<Value>,
+}
+
+impl Clone for CodeAction {
+    ghost is_clone = { λ x y. ⟦<String as Clone>⟧.is_clone x.title y.title
+        × ⟦<Option<CodeActionKind> as Clone>⟧.is_clone x.kind y.kind
+        × ⟦<Option<Vec<Diagnostic>> as Clone>⟧.is_clone x.diagnostics y.diagnostics
+        × ⟦<Option<WorkspaceEdit> as Clone>⟧.is_clone x.edit y.edit
+        × ⟦<Option<Command> as Clone>⟧.is_clone x.command y.command
+        × ⟦<Option<bool> as Clone>⟧.is_clone x.is_preferred y.is_preferred
+        × ⟦<Option<CodeActionDisabled> as Clone>⟧.is_clone x.disabled y.disabled
+        × ⟦<Option<Value> as Clone>⟧.is_clone x.payload y.payload };
+
+    fn clone(&self) -> Result<CodeAction, AllocError> {
+        let mut copies = Copies::new();
+        let copy = CodeAction {
+            title: self.title.clone()?,
+            kind: copies.optional(&self.kind),
+            diagnostics: copies.optional(&self.diagnostics),
+            edit: copies.optional(&self.edit),
+            command: copies.optional(&self.command),
+            is_preferred: copies.optional(&self.is_preferred),
+            disabled: copies.optional(&self.disabled),
+            payload: copies.optional(&self.payload),
+        };
+        copies.end(copy)
+    }
 }
 
 impl CodeAction {

@@ -12,9 +12,9 @@ use lsp_kinds::{
     CompletionItemKind, CompletionItemTag, CompletionTriggerKind, InsertTextFormat, InsertTextMode,
 };
 use lsp_names::Documentation;
-use lsp_shape::{Misfit, NoMemory, Reader, Wire, Writer, attempt};
+use lsp_shape::{Copies, Misfit, NoMemory, Reader, Wire, Writer, attempt};
 use serde_json::Value;
-use std::alloc::Global;
+use std::alloc::{AllocError, Global};
 
 /// Parameters of `textDocument/completion`: where the user wants suggestions, and what made the
 /// client ask (LSP 3.17, "Completion Request").
@@ -189,7 +189,7 @@ impl Wire for CompletionList {
 
 /// A suggestion in the result of `textDocument/completion`. The client may ask for parts that are
 /// missing by `completionItem/resolve` (LSP 3.17, "Completion Request").
-#[derive(Debug, Clone, Drop)]
+#[derive(Debug, Drop)]
 pub struct CompletionItem {
     /// The text that the user sees in the list. It is also used for sorting, filtering and
     /// inserting where the fields for these are absent.
@@ -240,6 +240,53 @@ pub struct CompletionItem {
     pub payload: Option<Value>,
     /// Marks on the item, such as `CompletionItemTag::DEPRECATED`; since 3.15.
     pub tags: Option<Vec<CompletionItemTag>>,
+}
+
+impl Clone for CompletionItem {
+    ghost is_clone = { λ x y. ⟦<String as Clone>⟧.is_clone x.label y.label
+        × ⟦<Option<CompletionItemLabelDetails> as Clone>⟧.is_clone x.label_details y.label_details
+        × ⟦<Option<CompletionItemKind> as Clone>⟧.is_clone x.kind y.kind
+        × ⟦<Option<String> as Clone>⟧.is_clone x.detail y.detail
+        × ⟦<Option<Documentation> as Clone>⟧.is_clone x.documentation y.documentation
+        × ⟦<Option<bool> as Clone>⟧.is_clone x.deprecated y.deprecated
+        × ⟦<Option<bool> as Clone>⟧.is_clone x.preselect y.preselect
+        × ⟦<Option<String> as Clone>⟧.is_clone x.sort_text y.sort_text
+        × ⟦<Option<String> as Clone>⟧.is_clone x.filter_text y.filter_text
+        × ⟦<Option<String> as Clone>⟧.is_clone x.insert_text y.insert_text
+        × ⟦<Option<InsertTextFormat> as Clone>⟧.is_clone x.insert_text_format y.insert_text_format
+        × ⟦<Option<InsertTextMode> as Clone>⟧.is_clone x.insert_text_mode y.insert_text_mode
+        × ⟦<Option<CompletionTextEdit> as Clone>⟧.is_clone x.text_edit y.text_edit
+        × ⟦<Option<Vec<TextEdit>> as Clone>⟧.is_clone
+        x.additional_text_edits y.additional_text_edits
+        × ⟦<Option<Command> as Clone>⟧.is_clone x.command y.command
+        × ⟦<Option<Vec<String>> as Clone>⟧.is_clone x.commit_characters y.commit_characters
+        × ⟦<Option<Value> as Clone>⟧.is_clone x.payload y.payload
+        × ⟦<Option<Vec<CompletionItemTag>> as Clone>⟧.is_clone x.tags y.tags };
+
+    fn clone(&self) -> Result<CompletionItem, AllocError> {
+        let mut copies = Copies::new();
+        let copy = CompletionItem {
+            label: self.label.clone()?,
+            label_details: copies.optional(&self.label_details),
+            kind: copies.optional(&self.kind),
+            detail: copies.optional(&self.detail),
+            documentation: copies.optional(&self.documentation),
+            deprecated: copies.optional(&self.deprecated),
+            preselect: copies.optional(&self.preselect),
+            sort_text: copies.optional(&self.sort_text),
+            filter_text: copies.optional(&self.filter_text),
+            insert_text: copies.optional(&self.insert_text),
+            insert_text_format: copies.optional(&self.insert_text_format),
+            insert_text_mode: copies.optional(&self.insert_text_mode),
+            text_edit: copies.optional(&self.text_edit),
+            additional_text_edits: copies.optional(&self.additional_text_edits),
+            command: copies.optional(&self.command),
+            commit_characters: copies.optional(&self.commit_characters),
+            payload: copies.optional(&self.payload),
+            tags: copies.optional(&self.tags),
+        };
+        copies.end(copy)
+    }
 }
 
 impl CompletionItem {

@@ -11,9 +11,9 @@ use lsp_base::{
 };
 use lsp_kinds::InlayHintKind;
 use lsp_names::MarkupContent;
-use lsp_shape::{Misfit, NoMemory, Reader, Wire, Writer, attempt};
+use lsp_shape::{Copies, Misfit, NoMemory, Reader, Wire, Writer, attempt};
 use serde_json::Value;
-use std::alloc::Global;
+use std::alloc::{AllocError, Global};
 
 /// Parameters of `textDocument/inlayHint`: the part of a document for which hints are wanted, since
 /// 3.17 (LSP 3.17, "Inlay Hint Request").
@@ -55,7 +55,7 @@ impl Wire for InlayHintParams {
 /// entry of the result of `textDocument/inlayHint`, since 3.17. What a client lists in
 /// `textDocument.inlayHint.resolveSupport` may be left to `inlayHint/resolve` (LSP 3.17, "Inlay
 /// Hint Request").
-#[derive(Debug, Clone, Drop)]
+#[derive(Debug, Drop)]
 pub struct InlayHint {
     /// Where in the document the hint is drawn.
     pub position: Position,
@@ -76,6 +76,32 @@ pub struct InlayHint {
     /// Any value, sent as the member `data`. The client returns it unchanged in
     /// `inlayHint/resolve`.
     pub payload: Option<LSPAny>,
+}
+
+impl Clone for InlayHint {
+    ghost is_clone = { λ x y. ⟦<Position as Clone>⟧.is_clone x.position y.position
+        × ⟦<InlayHintLabel as Clone>⟧.is_clone x.label y.label
+        × ⟦<Option<InlayHintKind> as Clone>⟧.is_clone x.kind y.kind
+        × ⟦<Option<Vec<TextEdit>> as Clone>⟧.is_clone x.text_edits y.text_edits
+        × ⟦<Option<InlayHintTooltip> as Clone>⟧.is_clone x.tooltip y.tooltip
+        × ⟦<Option<bool> as Clone>⟧.is_clone x.padding_left y.padding_left
+        × ⟦<Option<bool> as Clone>⟧.is_clone x.padding_right y.padding_right
+        × ⟦<Option<LSPAny> as Clone>⟧.is_clone x.payload y.payload };
+
+    fn clone(&self) -> Result<InlayHint, AllocError> {
+        let mut copies = Copies::new();
+        let copy = InlayHint {
+            position: self.position,
+            label: self.label.clone()?,
+            kind: copies.optional(&self.kind),
+            text_edits: copies.optional(&self.text_edits),
+            tooltip: copies.optional(&self.tooltip),
+            padding_left: copies.optional(&self.padding_left),
+            padding_right: copies.optional(&self.padding_right),
+            payload: copies.optional(&self.payload),
+        };
+        copies.end(copy)
+    }
 }
 
 #[tactic(auto, unfolding(crate::specs::InlayHint::inlay_hint_row))]

@@ -8,10 +8,10 @@ use lsp_caps_work::{
     WindowClientCapabilities, WorkspaceClientCapabilities,
 };
 use lsp_names::TraceValue;
-use lsp_shape::{Misfit, NoMemory, Reader, Wire, Writer};
+use lsp_shape::{Copies, Misfit, NoMemory, Reader, Wire, Writer};
 use lsp_uri::Uri;
 use serde_json::Value;
-use std::alloc::Global;
+use std::alloc::{AllocError, Global};
 
 /// The features that a client supports, as part of `InitializeParams`. An absent field means that
 /// it supports none of that group (LSP 3.17, "Initialize Request").
@@ -64,7 +64,7 @@ impl Wire for ClientCapabilities {
 
 /// Parameters of `initialize`, the first request of a session, sent by the client (LSP 3.17,
 /// "Initialize Request").
-#[derive(Debug, Default, Clone, Drop)]
+#[derive(Debug, Default, Drop)]
 pub struct InitializeParams {
     /// The id of the process that started the server. Once that process is gone, the server should
     /// exit. `None`, sent as `null`, if no process started it.
@@ -92,6 +92,37 @@ pub struct InitializeParams {
     pub locale: Option<String>,
     /// The token for reports on the progress of the initialization. Absent: the client wants none.
     pub work_done_progress_params: WorkDoneProgressParams,
+}
+
+impl Clone for InitializeParams {
+    ghost is_clone = { λ x y. ⟦<Option<u32> as Clone>⟧.is_clone x.process_id y.process_id
+        × ⟦<Option<String> as Clone>⟧.is_clone x.root_path y.root_path
+        × ⟦<Option<Uri> as Clone>⟧.is_clone x.root_uri y.root_uri
+        × ⟦<Option<Value> as Clone>⟧.is_clone x.initialization_options y.initialization_options
+        × ⟦<ClientCapabilities as Clone>⟧.is_clone x.capabilities y.capabilities
+        × ⟦<Option<TraceValue> as Clone>⟧.is_clone x.trace y.trace
+        × ⟦<Option<Vec<WorkspaceFolder>> as Clone>⟧.is_clone x.workspace_folders y.workspace_folders
+        × ⟦<Option<ClientInfo> as Clone>⟧.is_clone x.client_info y.client_info
+        × ⟦<Option<String> as Clone>⟧.is_clone x.locale y.locale
+        × ⟦<WorkDoneProgressParams as Clone>⟧.is_clone
+        x.work_done_progress_params y.work_done_progress_params };
+
+    fn clone(&self) -> Result<InitializeParams, AllocError> {
+        let mut copies = Copies::new();
+        let copy = InitializeParams {
+            process_id: copies.optional(&self.process_id),
+            root_path: copies.optional(&self.root_path),
+            root_uri: copies.optional(&self.root_uri),
+            initialization_options: copies.optional(&self.initialization_options),
+            capabilities: self.capabilities.clone()?,
+            trace: copies.optional(&self.trace),
+            workspace_folders: copies.optional(&self.workspace_folders),
+            client_info: copies.optional(&self.client_info),
+            locale: copies.optional(&self.locale),
+            work_done_progress_params: self.work_done_progress_params.clone()?,
+        };
+        copies.end(copy)
+    }
 }
 
 #[tactic(auto, unfolding(crate::specs::Client::initialize_params_row, lsp_base::specs::Progress::work_done_progress_params_row))]

@@ -21,16 +21,16 @@ use lsp_offer_work::{
     ExecuteCommandOptions, NotebookDocumentSyncOptions, NotebookDocumentSyncRegistrationOptions,
     ServerInfo, WorkspaceServerCapabilities,
 };
-use lsp_shape::{Misfit, NoMemory, Reader, Wire, Writer};
+use lsp_shape::{Copies, Misfit, NoMemory, Reader, Wire, Writer};
 use serde_json::Value;
-use std::alloc::Global;
+use std::alloc::{AllocError, Global};
 
 /// The features that a server offers from the start, as part of `InitializeResult`. An absent field
 /// means that it doesn't offer that feature. It can register others later with
 /// `client/registerCapability`, where the client has `dynamic_registration` for them. Type
 /// hierarchies have no field here, so they can only be registered later (LSP 3.17, "Initialize
 /// Request").
-#[derive(Debug, Default, Clone, Drop)]
+#[derive(Debug, Default, Drop)]
 pub struct ServerCapabilities {
     /// The unit of `character` in positions, one of those that the client offers as
     /// `general.positionEncodings`, since 3.17. Absent: UTF-16 code units.
@@ -107,6 +107,117 @@ pub struct ServerCapabilities {
     pub diagnostic_provider: Option<DiagnosticServerCapabilities>,
     /// Features that aren't part of the standard, in a form that client and server agree on.
     pub experimental: Option<Value>,
+}
+
+impl Clone for ServerCapabilities {
+    ghost is_clone = { λ x y. ⟦<Option<PositionEncodingKind> as Clone>⟧.is_clone
+        x.position_encoding y.position_encoding
+        × ⟦<Option<TextDocumentSyncCapability> as Clone>⟧.is_clone
+        x.text_document_sync y.text_document_sync
+        × ⟦<Option<OneOf<NotebookDocumentSyncOptions, NotebookDocumentSyncRegistrationOptions>> as Clone>⟧.is_clone
+        x.notebook_document_sync y.notebook_document_sync
+        × ⟦<Option<SelectionRangeProviderCapability> as Clone>⟧.is_clone
+        x.selection_range_provider y.selection_range_provider
+        × ⟦<Option<HoverProviderCapability> as Clone>⟧.is_clone x.hover_provider y.hover_provider
+        × ⟦<Option<CompletionOptions> as Clone>⟧.is_clone
+        x.completion_provider y.completion_provider
+        × ⟦<Option<SignatureHelpOptions> as Clone>⟧.is_clone
+        x.signature_help_provider y.signature_help_provider
+        × ⟦<Option<OneOf<bool, DefinitionOptions>> as Clone>⟧.is_clone
+        x.definition_provider y.definition_provider
+        × ⟦<Option<TypeDefinitionProviderCapability> as Clone>⟧.is_clone
+        x.type_definition_provider y.type_definition_provider
+        × ⟦<Option<ImplementationProviderCapability> as Clone>⟧.is_clone
+        x.implementation_provider y.implementation_provider
+        × ⟦<Option<OneOf<bool, ReferencesOptions>> as Clone>⟧.is_clone
+        x.references_provider y.references_provider
+        × ⟦<Option<OneOf<bool, DocumentHighlightOptions>> as Clone>⟧.is_clone
+        x.document_highlight_provider y.document_highlight_provider
+        × ⟦<Option<OneOf<bool, DocumentSymbolOptions>> as Clone>⟧.is_clone
+        x.document_symbol_provider y.document_symbol_provider
+        × ⟦<Option<OneOf<bool, WorkspaceSymbolOptions>> as Clone>⟧.is_clone
+        x.workspace_symbol_provider y.workspace_symbol_provider
+        × ⟦<Option<CodeActionProviderCapability> as Clone>⟧.is_clone
+        x.code_action_provider y.code_action_provider
+        × ⟦<Option<CodeLensOptions> as Clone>⟧.is_clone x.code_lens_provider y.code_lens_provider
+        × ⟦<Option<OneOf<bool, DocumentFormattingOptions>> as Clone>⟧.is_clone
+        x.document_formatting_provider y.document_formatting_provider
+        × ⟦<Option<OneOf<bool, DocumentRangeFormattingOptions>> as Clone>⟧.is_clone
+        x.document_range_formatting_provider y.document_range_formatting_provider
+        × ⟦<Option<DocumentOnTypeFormattingOptions> as Clone>⟧.is_clone
+        x.document_on_type_formatting_provider y.document_on_type_formatting_provider
+        × ⟦<Option<OneOf<bool, RenameOptions>> as Clone>⟧.is_clone
+        x.rename_provider y.rename_provider
+        × ⟦<Option<DocumentLinkOptions> as Clone>⟧.is_clone
+        x.document_link_provider y.document_link_provider
+        × ⟦<Option<ColorProviderCapability> as Clone>⟧.is_clone x.color_provider y.color_provider
+        × ⟦<Option<FoldingRangeProviderCapability> as Clone>⟧.is_clone
+        x.folding_range_provider y.folding_range_provider
+        × ⟦<Option<DeclarationCapability> as Clone>⟧.is_clone
+        x.declaration_provider y.declaration_provider
+        × ⟦<Option<ExecuteCommandOptions> as Clone>⟧.is_clone
+        x.execute_command_provider y.execute_command_provider
+        × ⟦<Option<WorkspaceServerCapabilities> as Clone>⟧.is_clone x.workspace y.workspace
+        × ⟦<Option<CallHierarchyServerCapability> as Clone>⟧.is_clone
+        x.call_hierarchy_provider y.call_hierarchy_provider
+        × ⟦<Option<SemanticTokensServerCapabilities> as Clone>⟧.is_clone
+        x.semantic_tokens_provider y.semantic_tokens_provider
+        × ⟦<Option<OneOf<bool, MonikerServerCapabilities>> as Clone>⟧.is_clone
+        x.moniker_provider y.moniker_provider
+        × ⟦<Option<LinkedEditingRangeServerCapabilities> as Clone>⟧.is_clone
+        x.linked_editing_range_provider y.linked_editing_range_provider
+        × ⟦<Option<OneOf<bool, InlineValueServerCapabilities>> as Clone>⟧.is_clone
+        x.inline_value_provider y.inline_value_provider
+        × ⟦<Option<OneOf<bool, InlayHintServerCapabilities>> as Clone>⟧.is_clone
+        x.inlay_hint_provider y.inlay_hint_provider
+        × ⟦<Option<DiagnosticServerCapabilities> as Clone>⟧.is_clone
+        x.diagnostic_provider y.diagnostic_provider
+        × ⟦<Option<Value> as Clone>⟧.is_clone x.experimental y.experimental };
+
+    fn clone(&self) -> Result<ServerCapabilities, AllocError> {
+        let mut copies = Copies::new();
+        let copy = ServerCapabilities {
+            position_encoding: copies.optional(&self.position_encoding),
+            text_document_sync: copies.optional(&self.text_document_sync),
+            notebook_document_sync: copies.optional(&self.notebook_document_sync),
+            selection_range_provider: copies.optional(&self.selection_range_provider),
+            hover_provider: copies.optional(&self.hover_provider),
+            completion_provider: copies.optional(&self.completion_provider),
+            signature_help_provider: copies.optional(&self.signature_help_provider),
+            definition_provider: copies.optional(&self.definition_provider),
+            type_definition_provider: copies.optional(&self.type_definition_provider),
+            implementation_provider: copies.optional(&self.implementation_provider),
+            references_provider: copies.optional(&self.references_provider),
+            document_highlight_provider: copies.optional(&self.document_highlight_provider),
+            document_symbol_provider: copies.optional(&self.document_symbol_provider),
+            workspace_symbol_provider: copies.optional(&self.workspace_symbol_provider),
+            code_action_provider: copies.optional(&self.code_action_provider),
+            code_lens_provider: copies.optional(&self.code_lens_provider),
+            document_formatting_provider: copies.optional(&self.document_formatting_provider),
+            document_range_formatting_provider: copies.optional(
+                &self.document_range_formatting_provider,
+            ),
+            document_on_type_formatting_provider: copies.optional(
+                &self.document_on_type_formatting_provider,
+            ),
+            rename_provider: copies.optional(&self.rename_provider),
+            document_link_provider: copies.optional(&self.document_link_provider),
+            color_provider: copies.optional(&self.color_provider),
+            folding_range_provider: copies.optional(&self.folding_range_provider),
+            declaration_provider: copies.optional(&self.declaration_provider),
+            execute_command_provider: copies.optional(&self.execute_command_provider),
+            workspace: copies.optional(&self.workspace),
+            call_hierarchy_provider: copies.optional(&self.call_hierarchy_provider),
+            semantic_tokens_provider: copies.optional(&self.semantic_tokens_provider),
+            moniker_provider: copies.optional(&self.moniker_provider),
+            linked_editing_range_provider: copies.optional(&self.linked_editing_range_provider),
+            inline_value_provider: copies.optional(&self.inline_value_provider),
+            inlay_hint_provider: copies.optional(&self.inlay_hint_provider),
+            diagnostic_provider: copies.optional(&self.diagnostic_provider),
+            experimental: copies.optional(&self.experimental),
+        };
+        copies.end(copy)
+    }
 }
 
 #[tactic(auto, unfolding(crate::specs::Server::server_capabilities_row, crate::specs::Server::server_capabilities_fields))]

@@ -1,3 +1,4 @@
+pub mod Clones
 pub mod Plain
 pub mod Shape
 pub mod Read

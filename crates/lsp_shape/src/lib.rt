@@ -1,6 +1,7 @@
 //! What JSON values a type is read from, and what is written for it.
 #![tactic(auto)]
 
+mod copies;
 mod flatten;
 mod law;
 mod map;
@@ -10,6 +11,7 @@ mod std_types;
 mod tokens;
 mod wire;
 
+pub use copies::Copies;
 pub use flatten::{attempt, members_written, put_flat, put_tag, tag};
 pub use law::{read_value, reads_back, trimmed, write_value};
 pub use map::{Key, rest};

@@ -1,7 +1,4 @@
-use Rattle.std.proofs.Common.{rules, ◌≡◌}
-use Rattle.std.specs.Prelude.{Result, Ok, Err, IfOk, IsOk}
 use Rattle.serde_json.specs.View.{view}
-use Rattle.lsp_shape.specs.Plain.{no_parts}
 use Rattle.lsp_shape.specs.Shape.{no_fields}
 use Rattle.lsp_shape.proofs.Parts.{when_ok, record_read, reads_end, reads_member, reads_supported, record_unread, unread_end, unread_member, unread_supported}
 use Rattle.lsp_caps_text.specs.Completion.{completion_item_capability_row, completion_item_capability_fields}

@@ -1,4 +1,4 @@
-use Rattle.std.proofs.Common.{rules, refl, ◌≡◌, true, Bool}
+use Rattle.std.proofs.Common.{◌≡◌, true, refl}
 use Rattle.serde_json.specs.View.{view}
 use Rattle.lsp_shape.specs.Object.{is_whole, written_to}
 use Rattle.lsp_shape.specs.Plain.{no_parts}

@@ -1,0 +1,42 @@
+use Rattle.lsp_shape.proofs.Clones.{cloned}
+use Rattle.lsp_lang_item.proofs.completion.CompletionItemClone.clone.Goals as goal
+
+pub returns : goal.returns
+returns c = record {
+  cases = cloned _ c.end.result c.end.ensures.copy c.end.ensures.whole (λ whole.
+      let w16 = c.optional-17.ensures.whole whole in
+      let w15 = c.optional-16.ensures.whole w16 in
+      let w14 = c.optional-15.ensures.whole w15 in
+      let w13 = c.optional-14.ensures.whole w14 in
+      let w12 = c.optional-13.ensures.whole w13 in
+      let w11 = c.optional-12.ensures.whole w12 in
+      let w10 = c.optional-11.ensures.whole w11 in
+      let w9 = c.optional-10.ensures.whole w10 in
+      let w8 = c.optional-9.ensures.whole w9 in
+      let w7 = c.optional-8.ensures.whole w8 in
+      let w6 = c.optional-7.ensures.whole w7 in
+      let w5 = c.optional-6.ensures.whole w6 in
+      let w4 = c.optional-5.ensures.whole w5 in
+      let w3 = c.optional-4.ensures.whole w4 in
+      let w2 = c.optional-3.ensures.whole w3 in
+      let w1 = c.optional-2.ensures.whole w2 in (
+        c.in_ok-clone.ensures.cases,
+        c.optional.ensures.copy w1,
+        c.optional-2.ensures.copy w2,
+        c.optional-3.ensures.copy w3,
+        c.optional-4.ensures.copy w4,
+        c.optional-5.ensures.copy w5,
+        c.optional-6.ensures.copy w6,
+        c.optional-7.ensures.copy w7,
+        c.optional-8.ensures.copy w8,
+        c.optional-9.ensures.copy w9,
+        c.optional-10.ensures.copy w10,
+        c.optional-11.ensures.copy w11,
+        c.optional-12.ensures.copy w12,
+        c.optional-13.ensures.copy w13,
+        c.optional-14.ensures.copy w14,
+        c.optional-15.ensures.copy w15,
+        c.optional-16.ensures.copy w16,
+        c.optional-17.ensures.copy whole,
+      ));
+}
