@@ -21,9 +21,9 @@ crate=${root}crates/$program
 built=${root}.built/$name
 set -f
 
-# Whoever reads standard error may have gone, which is no reason to end.
+# Whoever reads standard error may have gone, which ends the echo, and so it stands in a shell of its own.
 say() {
-  (trap '' PIPE && echo "$name: $*" >&2)
+  (echo "$name: $*" >&2)
 }
 
 # ---- The arguments.
