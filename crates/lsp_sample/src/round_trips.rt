@@ -8,7 +8,6 @@ use lsp_frame::{Decoded, LanguageServerCodec};
 use lsp_rpc::{Message, read_message};
 use serde_json::Value;
 use std::alloc::Global;
-use std::process::Abort;
 use std::test::Fail;
 
 /// Texts of messages, as they are written.
@@ -56,48 +55,46 @@ const TEXTS: [&str; 41] = [
     "{\"jsonrpc\":\"2.0\",\"error\":{\"code\":-32800,\"message\":\"Canceled\",\"data\":{\"a\":null}},\"id\":3}",
 ];
 
-fn message(rt: &impl Abort, alloc: Global, text: &str) -> Result<Message, Fail>
+fn message(alloc: Global, text: &str) -> Result<Message, Fail>
     ensures { IfOk result (λ m. message_has_float (show_message m) ≡ false) }
 {
-    let value = match Value::from_str(alloc, text) {
-        Ok(value) => value,
-        Err(_) => rt.panic("no JSON"),
-    };
+    let value = Value::from_str(alloc, text)?;
     match read_message(alloc, value) {
         Ok(message) => Ok(message),
-        Err(_) => rt.panic("no message"),
+        Err(error) => Err(Fail::from(error)),
     }
 }
 
 /// The message of this text is encoded as the frame of the text, and that decodes to it alone.
-fn expect_back(rt: &impl Abort, alloc: Global, text: &str) -> Result<(), Fail> {
+fn expect_back(alloc: Global, text: &str) -> Result<(), Fail> {
     let mut codec = LanguageServerCodec::default(alloc);
     let mut frame = BytesMut::new(alloc);
-    codec.encode(&message(rt, alloc, text)?, &mut frame)?;
+    codec.encode(&message(alloc, text)?, &mut frame)?;
     let length = text.len();
     let head = format!(in alloc; "Content-Length: {length}\r\n\r\n")?;
     let mut want = head;
     want.push_str(text)?;
-    assert!(rt; frame.as_slice() == want.as_str().as_bytes());
+    if frame.as_slice() != want.as_str().as_bytes() {
+        return Err(Fail::new(format_args!("another frame of {text}")));
+    }
     codec.feed(frame.as_slice())?;
-    match codec.decode()? {
-        Decoded::Item(back) => {
-            let written = back.to_text(alloc)?;
-            assert!(rt; written.as_str() == text);
-        }
-        _ => assert!(rt; false, "a message"),
+    let Decoded::Item(back) = codec.decode()? else {
+        return Err(Fail::new(format_args!("no message in the frame of {text}")));
+    };
+    let written = back.to_text(alloc)?;
+    if written.as_str() != text {
+        return Err(Fail::new(format_args!("{text} came back as {written}")));
     }
     match codec.decode()? {
-        Decoded::More => {}
-        _ => assert!(rt; false, "nothing more"),
+        Decoded::More => Ok(()),
+        _ => Err(Fail::new(format_args!("more than {text}"))),
     }
-    Ok(())
 }
 
 #[test]
 fn each_message_comes_back(rt: HostRuntime) -> Result<(), Fail> {
     for text in TEXTS {
-        expect_back(&rt, rt.alloc(), text)?;
+        expect_back(rt.alloc(), text)?;
     }
     Ok(())
 }
@@ -120,11 +117,13 @@ fn deep_messages_come_back(rt: HostRuntime) -> Result<(), Fail> {
     let alloc = rt.alloc();
     for levels in [125, 126] {
         let text = nested(alloc, levels)?;
-        expect_back(&rt, alloc, text.as_str())?;
+        expect_back(alloc, text.as_str())?;
     }
 
     // One level more is no JSON to this reader.
     let text = nested(alloc, 127)?;
-    assert!(rt; Value::from_str(alloc, text.as_str()).is_err());
-    Ok(())
+    match Value::from_str(alloc, text.as_str()) {
+        Ok(_) => Err(Fail::new("127 levels are read")),
+        Err(_) => Ok(()),
+    }
 }

@@ -9,7 +9,7 @@ use lsp_server::{
 };
 use lsp_session::InOrder;
 use std::alloc::{AllocError, Global};
-use std::process::Abort;
+use std::fmt::Debug;
 use std::test::Fail;
 
 const INITIALIZE: &str =
@@ -337,15 +337,20 @@ fn all_framed(alloc: Global, bodies: &[&str]) -> Result<Vec<u8>, AllocError> {
     Ok(frames)
 }
 
+// The two are equal, or what they are is told: the error of an `assert_eq!`, which costs the prover
+// seconds at each place that it stands at.
+fn same<T: PartialEq + Debug + Drop>(name: &str, found: T, expected: T) -> Result<(), Fail> {
+    if found == expected {
+        return Ok(());
+    }
+    Err(Fail::new(format_args!("{name}: expected {expected:?}, found {found:?}")))
+}
+
 // The frames of these bodies, each of which has the length beside it.
-fn answers_framed(
-    rt: &impl Abort,
-    alloc: Global,
-    answers: &[(usize, &str)],
-) -> Result<Vec<u8>, Fail> {
+fn answers_framed(alloc: Global, answers: &[(usize, &str)]) -> Result<Vec<u8>, Fail> {
     let mut frames = Vec::new(alloc);
     for (length, body) in answers {
-        assert_eq!(rt; body.len(), *length, "{body}");
+        same(body, body.len(), *length)?;
         framed(alloc, body, &mut frames)?;
     }
     Ok(frames)
@@ -369,16 +374,12 @@ fn copied(alloc: Global, bytes: &[u8]) -> Result<Vec<u8>, AllocError> {
 fn sessions(rt: HostRuntime) -> Result<(), Fail> {
     let alloc = rt.alloc();
     for (name, arguments, sent, answers, status) in SESSIONS {
-        let want = answers_framed(&rt, alloc, answers)?;
+        let want = answers_framed(alloc, answers)?;
         let arguments = arguments_of(alloc, arguments)?;
         let mut source = NeverSource::new(all_framed(alloc, sent)?, 4096);
         let mut sink = NeverSink::new(alloc);
-        assert_eq!(rt;
-            run(alloc, &arguments, &mut source, &mut sink),
-            status,
-            "{name}"
-        );
-        assert!(rt; sink.bytes() == want.as_slice(), "{name}");
+        same(name, run(alloc, &arguments, &mut source, &mut sink), status)?;
+        same(name, sink.bytes(), want.as_slice())?;
     }
     Ok(())
 }
@@ -391,12 +392,8 @@ fn stretches(rt: HostRuntime) -> Result<(), Fail> {
         for piece in [1, 7, 4096] {
             let mut source = NeverSource::new(copied(alloc, sent)?, piece);
             let mut sink = NeverSink::new(alloc);
-            assert_eq!(rt;
-                run(alloc, &arguments, &mut source, &mut sink),
-                status,
-                "{name}"
-            );
-            assert!(rt; sink.bytes() == want, "{name}");
+            same(name, run(alloc, &arguments, &mut source, &mut sink), status)?;
+            same(name, sink.bytes(), want)?;
         }
     }
     Ok(())
@@ -409,36 +406,55 @@ fn other_arguments(rt: HostRuntime) -> Result<(), Fail> {
         let arguments = arguments_of(alloc, texts)?;
         let mut source = NeverSource::new(all_framed(alloc, &[INITIALIZE])?, 4096);
         let mut sink = NeverSink::new(alloc);
-        assert_eq!(rt; run(alloc, &arguments, &mut source, &mut sink), 2);
-        assert!(rt; sink.bytes().is_empty());
+        let status = run(alloc, &arguments, &mut source, &mut sink);
+        if status != 2 || !sink.bytes().is_empty() {
+            return Err(Fail::new(format_args!("{texts:?}: status {status}")));
+        }
     }
     Ok(())
+}
+
+// Reads, and writes with flushes, are numbered from 1; the ones of these numbers fail.
+fn try_stop(
+    alloc: Global,
+    name: &str,
+    read: u64,
+    call: u64,
+    status: u8,
+    answers: &[&str],
+) -> Result<(), Fail> {
+    if read == u64::MAX || call == u64::MAX {
+        return Err(Fail::new("no such call"));
+    }
+    let want = all_framed(alloc, answers)?;
+    let arguments = Vec::new(alloc);
+    let sent = all_framed(alloc, &[INITIALIZE])?;
+    let mut source = MemorySource::new(sent, 97, vec![in alloc; read]?);
+    let mut sink = MemorySink::new(alloc, vec![in alloc; call]?);
+    same(name, run(alloc, &arguments, &mut source, &mut sink), status)?;
+    same(name, sink.bytes(), want.as_slice())
 }
 
 #[test]
 fn failing_reads_and_writes(rt: HostRuntime) -> Result<(), Fail> {
     let alloc = rt.alloc();
-    let arguments = Vec::new(alloc);
-    let answer = all_framed(alloc, &[INITIALIZED])?;
-
-    // The second read fails, after the whole frame.
-    let mut source = MemorySource::new(all_framed(alloc, &[INITIALIZE])?, 97, vec![in alloc; 2]?);
-    let mut sink = MemorySink::new(alloc, Vec::new(alloc));
-    assert_eq!(rt; run(alloc, &arguments, &mut source, &mut sink), 3);
-    assert!(rt; sink.bytes() == answer.as_slice());
-
-    // The first write fails.
-    let mut source = MemorySource::new(all_framed(alloc, &[INITIALIZE])?, 97, Vec::new(alloc));
-    let mut sink = MemorySink::new(alloc, vec![in alloc; 1]?);
-    assert_eq!(rt; run(alloc, &arguments, &mut source, &mut sink), 4);
-    assert!(rt; sink.bytes().is_empty());
-
-    // The first flush fails, after the first write.
-    let mut source = MemorySource::new(all_framed(alloc, &[INITIALIZE])?, 97, Vec::new(alloc));
-    let mut sink = MemorySink::new(alloc, vec![in alloc; 2]?);
-    assert_eq!(rt; run(alloc, &arguments, &mut source, &mut sink), 4);
-    assert!(rt; sink.bytes() == answer.as_slice());
-    Ok(())
+    try_stop(
+        alloc,
+        "the second read, after the whole frame",
+        2,
+        0,
+        3,
+        &[INITIALIZED],
+    )?;
+    try_stop(alloc, "the first write", 0, 1, 4, &[])?;
+    try_stop(
+        alloc,
+        "the first flush, after the first write",
+        0,
+        2,
+        4,
+        &[INITIALIZED],
+    )
 }
 
 /// A session with limits of its own, and its name: the most calls that are polled, the most that
@@ -569,27 +585,28 @@ fn served_with(
         )
 }
 
+fn try_limited(alloc: Global, row: &Limited) -> Result<(), Fail> {
+    if row.max == 0 || row.rounds == 0 {
+        return Err(Fail::new(row.name));
+    }
+    let want = all_framed(alloc, row.answers)?;
+    let mut source = NeverSource::new(all_framed(alloc, row.sent)?, 50);
+    let mut sink = NeverSink::new(alloc);
+    let left = match served_with(alloc, row, &mut source, &mut sink) {
+        Ok(served) => served.unanswered,
+        Err(stopped) => return Err(Fail::from(stopped.error)),
+    };
+    same(row.name, left.len(), row.unanswered.len())?;
+    for (id, want) in left.iter().zip(row.unanswered) {
+        same(row.name, *id == Id::Number(*want), true)?;
+    }
+    same(row.name, sink.bytes(), want.as_slice())
+}
+
 #[test]
 fn limits(rt: HostRuntime) -> Result<(), Fail> {
-    let alloc = rt.alloc();
-    for row in LIMITED {
-        let name = row.name;
-        let mut source = NeverSource::new(all_framed(alloc, row.sent)?, 50);
-        let mut sink = NeverSink::new(alloc);
-        assert!(rt; row.max > 0 && row.rounds > 0);
-        match served_with(alloc, &row, &mut source, &mut sink) {
-            Ok(served) => {
-                assert_eq!(rt; served.unanswered.len(), row.unanswered.len(), "{name}");
-                for (id, want) in served.unanswered.iter().zip(row.unanswered) {
-                    assert!(rt; *id == Id::Number(*want), "{name}");
-                }
-            }
-            Err(_) => assert!(rt; false, "{name}"),
-        }
-        assert!(rt;
-            sink.bytes() == all_framed(alloc, row.answers)?.as_slice(),
-            "{name}"
-        );
+    for row in &LIMITED {
+        try_limited(rt.alloc(), row)?;
     }
     Ok(())
 }
@@ -603,11 +620,10 @@ fn granted_reads(rt: HostRuntime) -> Result<(), Fail> {
     let mut sink = NeverSink::new(alloc);
     let server = Server::new(ClientSocket::new(PlainDesk::new(alloc)));
     match server.serve(alloc, &mut source, &mut sink, Sample, &mut InOrder, 1, 8) {
-        Err(stopped) => assert!(rt; stopped.error == ServeError::ReadsSpent),
-        Ok(_) => assert!(rt; false, "reads spent"),
+        Err(stopped) => same("the error", stopped.error, ServeError::ReadsSpent)?,
+        Ok(_) => return Err(Fail::new("no reads were spent")),
     }
-    assert!(rt; sink.bytes().is_empty());
-    Ok(())
+    same("the bytes", sink.bytes().len(), 0)
 }
 
 #[test]
@@ -619,30 +635,45 @@ fn texts_of_errors(rt: HostRuntime) -> Result<(), Fail> {
         (ServeError::DeskSpent(u64::MAX), "desk spent"),
         (ServeError::NoMemory, "out of memory"),
     ] {
-        assert!(rt; error.to_string(rt.alloc())?.as_str() == want);
+        same(want, error.to_string(rt.alloc())?.as_str(), want)?;
     }
     Ok(())
 }
 
 // The line that `bulk` writes for these arguments, without a read.
-fn line_of(rt: &impl Abort, alloc: Global, texts: &[&str]) -> Result<Vec<u8>, Fail> {
+fn line_of(alloc: Global, texts: &[&str]) -> Result<Vec<u8>, Fail> {
     let arguments = arguments_of(alloc, texts)?;
     let mut source = MemorySource::new(Vec::new(alloc), 1, vec![in alloc; 1]?);
     let mut sink = NeverSink::new(alloc);
-    assert_eq!(rt; run(alloc, &arguments, &mut source, &mut sink), 0);
+    same(
+        "the status",
+        run(alloc, &arguments, &mut source, &mut sink),
+        0,
+    )?;
     Ok(copied(alloc, sink.bytes())?)
 }
 
 #[test]
 fn made_up_sessions(rt: HostRuntime) -> Result<(), Fail> {
     let alloc = rt.alloc();
-    let line = line_of(&rt, alloc, &["bulk", "0", "2"])?;
-    assert!(rt; line.as_slice() == b"replies 4 errors 1 messages 0 bytes 289\n".as_slice());
-    let first = line_of(&rt, alloc, &["bulk", "7", "100000"])?;
-    let second = line_of(&rt, alloc, &["bulk", "7", "100000"])?;
-    assert!(rt;
-        first.as_slice() == b"replies 80110 errors 40083 messages 19892 bytes 9388599\n".as_slice()
-    );
-    assert!(rt; first.as_slice() == second.as_slice());
+    for (name, texts, want) in [
+        (
+            "two items",
+            &["bulk", "0", "2"],
+            b"replies 4 errors 1 messages 0 bytes 289\n".as_slice(),
+        ),
+        (
+            "many items",
+            &["bulk", "7", "100000"],
+            b"replies 80110 errors 40083 messages 19892 bytes 9388599\n".as_slice(),
+        ),
+        (
+            "the same again",
+            &["bulk", "7", "100000"],
+            b"replies 80110 errors 40083 messages 19892 bytes 9388599\n".as_slice(),
+        ),
+    ] {
+        same(name, line_of(alloc, texts)?.as_slice(), want)?;
+    }
     Ok(())
 }

@@ -7,37 +7,64 @@ use lsp_desk::{
     Caller, ClientCall, ClientReply, ClientSocket, Desk, ExitedError, Life, Loopback, PlainDesk,
     ServerCall, ServerReply,
 };
-use lsp_rpc::{Id, Request, Response};
+use lsp_rows::{RowError, Trial};
+use lsp_rpc::{Id, NoMemory, Request, Response};
 use serde_json::Value;
 use std::alloc::Global;
-use std::test::Fail;
 
 const TOLD: &str = "{\"jsonrpc\":\"2.0\",\"method\":\"m\",\"params\":null}";
 
 const ASKED: &str = "{\"jsonrpc\":\"2.0\",\"method\":\"m\",\"params\":null,\"id\":1}";
 
+/// A call of a server.
+#[derive(Clone, Copy)]
+pub(crate) enum Asked {
+    Ask,
+    GatedAsk,
+    Tell,
+    GatedTell,
+    Raw(Option<i64>),
+    Poll(u64),
+    NextId,
+}
+
+/// A call of the session.
+#[derive(Clone, Copy)]
+pub(crate) enum Served {
+    Look,
+    Rise(Life),
+    Fall,
+    /// The answer to id 1 that has this text.
+    Answer(&'static str),
+    /// The answer that an editor writes so.
+    Written(&'static str),
+    Next,
+    Take,
+    Close,
+}
+
 // What a desk replies to a call of a server.
-pub(crate) fn ask<D: Caller>(alloc: Global, desk: &mut D, call: ClientCall) -> Result<String, Fail>
+fn ask<D: Caller>(alloc: Global, desk: &mut D, call: ClientCall) -> Result<String, NoMemory>
     requires { call_has_float (show_client_call call) ≡ false }
 {
     match desk.client(call) {
-        Ok(ClientReply::Answer(response)) => Ok(response.to_text(alloc)?),
+        Ok(ClientReply::Answer(response)) => response.to_text(alloc),
         other => Ok(format!(in alloc; "{other:?}")?),
     }
 }
 
 // What a desk replies to a call of the session.
-pub(crate) fn serve<D: Desk>(alloc: Global, desk: &mut D, call: ServerCall) -> Result<String, Fail>
+fn serve<D: Desk>(alloc: Global, desk: &mut D, call: ServerCall) -> Result<String, NoMemory>
     requires { call_has_float (show_server_call call) ≡ false }
 {
     match desk.server(call) {
-        Ok(ServerReply::First(Some(request))) => Ok(request.to_text(alloc)?),
+        Ok(ServerReply::First(Some(request))) => request.to_text(alloc),
         Ok(ServerReply::Messages(requests)) => Ok(format!(in alloc; "{}", requests.len())?),
         other => Ok(format!(in alloc; "{other:?}")?),
     }
 }
 
-pub(crate) fn asks(alloc: Global, gated: bool) -> Result<ClientCall, Fail>
+fn asks(alloc: Global, gated: bool) -> Result<ClientCall, NoMemory>
     ensures { IfOk result (λ call. call_has_float (show_client_call call) ≡ false) }
 {
     let method = String::from_str(alloc, "m")?;
@@ -48,7 +75,7 @@ pub(crate) fn asks(alloc: Global, gated: bool) -> Result<ClientCall, Fail>
     })
 }
 
-pub(crate) fn tells(alloc: Global, gated: bool) -> Result<ClientCall, Fail>
+fn tells(alloc: Global, gated: bool) -> Result<ClientCall, NoMemory>
     ensures { IfOk result (λ call. call_has_float (show_client_call call) ≡ false) }
 {
     let method = String::from_str(alloc, "m")?;
@@ -59,206 +86,207 @@ pub(crate) fn tells(alloc: Global, gated: bool) -> Result<ClientCall, Fail>
     })
 }
 
-pub(crate) fn raw(alloc: Global) -> Result<ClientCall, Fail>
+fn raw(alloc: Global, id: Option<i64>) -> Result<ClientCall, NoMemory>
     ensures { IfOk result (λ call. call_has_float (show_client_call call) ≡ false) }
 {
-    raw_under(alloc, Id::Number(1))
-}
-
-fn raw_under(alloc: Global, id: Id) -> Result<ClientCall, Fail>
-    ensures { IfOk result (λ call. call_has_float (show_client_call call) ≡ false) }
-{
+    let id = match id {
+        Some(number) => Id::Number(number),
+        None => Id::Null,
+    };
     let method = String::from_str(alloc, "m")?;
     Ok(ClientCall::Raw(Request::build(method).id(id).finish()))
 }
 
-pub(crate) fn answer(alloc: Global, text: &str) -> Result<ServerCall, Fail>
+fn answer(alloc: Global, text: &str) -> Result<ServerCall, NoMemory>
     ensures { IfOk result (λ call. call_has_float (show_server_call call) ≡ false) }
 {
     let text = String::from_str(alloc, text)?;
     Ok(ServerCall::Answer(Response::from_ok(Id::Number(1), Value::String(text))))
 }
 
-// The response that an editor writes so.
-fn written(alloc: Global, text: &str) -> Result<ServerCall, Fail>
-    ensures { IfOk result (λ call. call_has_float (show_server_call call) ≡ false) }
-{
-    Ok(ServerCall::Answer(Response::from_text(alloc, text)?))
-}
-
-fn rise_or_fall(alloc: Global, desk: &mut PlainDesk, rise: Option<Life>) -> Result<String, Fail> {
-    match rise {
-        Some(life) => serve(alloc, desk, ServerCall::Rise(life)),
-        None => serve(alloc, desk, ServerCall::Fall),
+fn serve_written<D: Desk>(alloc: Global, desk: &mut D, text: &str) -> Result<String, NoMemory> {
+    match Response::from_text(alloc, text) {
+        Ok(response) => serve(alloc, desk, ServerCall::Answer(response)),
+        Err(fault) => Ok(format!(in alloc; "{fault:?}")?),
     }
 }
+
+/// What a desk replies to that call of a server.
+pub(crate) fn reply_asked<D: Caller>(
+    alloc: Global,
+    desk: &mut D,
+    call: Asked,
+) -> Result<String, NoMemory> {
+    match call {
+        Asked::Ask => ask(alloc, desk, asks(alloc, false)?),
+        Asked::GatedAsk => ask(alloc, desk, asks(alloc, true)?),
+        Asked::Tell => ask(alloc, desk, tells(alloc, false)?),
+        Asked::GatedTell => ask(alloc, desk, tells(alloc, true)?),
+        Asked::Raw(id) => ask(alloc, desk, raw(alloc, id)?),
+        Asked::Poll(ticket) => ask(alloc, desk, ClientCall::Poll(ticket)),
+        Asked::NextId => ask(alloc, desk, ClientCall::NextId),
+    }
+}
+
+/// What a desk replies to that call of the session.
+pub(crate) fn reply_served<D: Desk>(
+    alloc: Global,
+    desk: &mut D,
+    call: Served,
+) -> Result<String, NoMemory> {
+    match call {
+        Served::Look => serve(alloc, desk, ServerCall::Look),
+        Served::Rise(life) => serve(alloc, desk, ServerCall::Rise(life)),
+        Served::Fall => serve(alloc, desk, ServerCall::Fall),
+        Served::Answer(text) => serve(alloc, desk, answer(alloc, text)?),
+        Served::Written(text) => serve_written(alloc, desk, text),
+        Served::Next => serve(alloc, desk, ServerCall::Next),
+        Served::Take => serve(alloc, desk, ServerCall::Take),
+        Served::Close => serve(alloc, desk, ServerCall::Close),
+    }
+}
+
+#[derive(Clone, Copy)]
+enum Call {
+    Asked(Asked),
+    Served(Served),
+}
+
+// Makes the calls in turn, each of which has the reply beside it.
+fn try_calls<D: Desk>(trial: &mut Trial, alloc: Global, desk: &mut D, rows: &[(Call, &str)]) {
+    for (at, (call, expected)) in rows.iter().enumerate() {
+        let reply = match *call {
+            Call::Asked(call) => reply_asked(alloc, desk, call),
+            Call::Served(call) => reply_served(alloc, desk, call),
+        };
+        trial.text(format_args!("row {at}"), reply, *expected);
+    }
+}
+
+const ANSWERS_IN_ORDER: [(Call, &str); 8] = [
+    (Call::Asked(Asked::Raw(Some(1))), "Ok(Ticket(0, Number(1)))"),
+    (Call::Asked(Asked::Raw(Some(1))), "Ok(Ticket(1, Number(1)))"),
+    (Call::Served(Served::Answer("bar")), "Ok(Given)"),
+    (Call::Served(Served::Answer("foo")), "Ok(Given)"),
+    (Call::Served(Served::Answer("x")), "Ok(Ignored)"),
+    (
+        Call::Asked(Asked::Poll(0)),
+        "{\"jsonrpc\":\"2.0\",\"result\":\"bar\",\"id\":1}",
+    ),
+    (
+        Call::Asked(Asked::Poll(1)),
+        "{\"jsonrpc\":\"2.0\",\"result\":\"foo\",\"id\":1}",
+    ),
+    (Call::Asked(Asked::Poll(1)), "Ok(Gone)"),
+];
 
 #[test]
-fn answers_in_order(rt: HostRuntime) -> Result<(), Fail> {
+fn answers_in_order(rt: HostRuntime) -> Result<(), RowError> {
     let alloc = rt.alloc();
+    let mut trial = Trial::new(alloc);
     let mut desk = PlainDesk::new(alloc);
-    assert_eq!(rt;
-        ask(alloc, &mut desk, raw(alloc)?)?.as_str(),
-        "Ok(Ticket(0, Number(1)))"
-    );
-    assert_eq!(rt;
-        ask(alloc, &mut desk, raw(alloc)?)?.as_str(),
-        "Ok(Ticket(1, Number(1)))"
-    );
-    for (text, reply) in [
-        ("bar", "Ok(Given)"),
-        ("foo", "Ok(Given)"),
-        ("x", "Ok(Ignored)"),
-    ] {
-        assert_eq!(rt;
-            serve(alloc, &mut desk, answer(alloc, text)?)?.as_str(),
-            reply
-        );
-    }
-    let polls = [
-        (0, "{\"jsonrpc\":\"2.0\",\"result\":\"bar\",\"id\":1}"),
-        (1, "{\"jsonrpc\":\"2.0\",\"result\":\"foo\",\"id\":1}"),
-        (1, "Ok(Gone)"),
-    ];
-    for (ticket, reply) in polls {
-        assert_eq!(rt;
-            ask(alloc, &mut desk, ClientCall::Poll(ticket))?.as_str(),
-            reply
-        );
-    }
-    Ok(())
+    try_calls(&mut trial, alloc, &mut desk, &ANSWERS_IN_ORDER);
+    trial.end()
 }
 
-#[test]
-fn answers_that_nobody_awaits(rt: HostRuntime) -> Result<(), Fail> {
-    let alloc = rt.alloc();
-    let mut desk = PlainDesk::new(alloc);
-    assert_eq!(rt;
-        ask(alloc, &mut desk, raw_under(alloc, Id::Null)?)?.as_str(),
-        "Ok(Ticket(0, Null))"
-    );
-    assert_eq!(rt;
-        ask(alloc, &mut desk, raw(alloc)?)?.as_str(),
-        "Ok(Ticket(1, Number(1)))"
-    );
-    let responses = [
-        (
+const ANSWERS_THAT_NOBODY_AWAITS: [(Call, &str); 8] = [
+    (Call::Asked(Asked::Raw(None)), "Ok(Ticket(0, Null))"),
+    (Call::Asked(Asked::Raw(Some(1))), "Ok(Ticket(1, Number(1)))"),
+    (
+        Call::Served(Served::Written(
             "{\"jsonrpc\":\"2.0\",\"error\":{\"code\":-32700,\"message\":\"x\"},\"id\":null}",
-            "Ok(Ignored)",
-        ),
-        (
-            "{\"jsonrpc\":\"2.0\",\"result\":1,\"id\":null}",
-            "Ok(Ignored)",
-        ),
-        (
-            "{\"jsonrpc\":\"2.0\",\"result\":1,\"id\":\"1\"}",
-            "Ok(Ignored)",
-        ),
-        ("{\"jsonrpc\":\"2.0\",\"result\":1,\"id\":0}", "Ok(Ignored)"),
-        ("{\"jsonrpc\":\"2.0\",\"result\":1,\"id\":1}", "Ok(Given)"),
-    ];
-    for (response, reply) in responses {
-        assert_eq!(rt;
-            serve(alloc, &mut desk, written(alloc, response)?)?.as_str(),
-            reply,
-            "{response}"
-        );
-    }
-    assert_eq!(rt;
-        ask(alloc, &mut desk, ClientCall::Poll(0))?.as_str(),
-        "Ok(Awaited)"
-    );
-    Ok(())
-}
+        )),
+        "Ok(Ignored)",
+    ),
+    (
+        Call::Served(Served::Written("{\"jsonrpc\":\"2.0\",\"result\":1,\"id\":null}")),
+        "Ok(Ignored)",
+    ),
+    (
+        Call::Served(Served::Written("{\"jsonrpc\":\"2.0\",\"result\":1,\"id\":\"1\"}")),
+        "Ok(Ignored)",
+    ),
+    (
+        Call::Served(Served::Written("{\"jsonrpc\":\"2.0\",\"result\":1,\"id\":0}")),
+        "Ok(Ignored)",
+    ),
+    (
+        Call::Served(Served::Written("{\"jsonrpc\":\"2.0\",\"result\":1,\"id\":1}")),
+        "Ok(Given)",
+    ),
+    (Call::Asked(Asked::Poll(0)), "Ok(Awaited)"),
+];
 
 #[test]
-fn gate_and_lives(rt: HostRuntime) -> Result<(), Fail> {
+fn answers_that_nobody_awaits(rt: HostRuntime) -> Result<(), RowError> {
     let alloc = rt.alloc();
-    let mut desk = ClientSocket::new(PlainDesk::new(alloc)).into_desk();
-    assert_eq!(rt;
-        ask(alloc, &mut desk, asks(alloc, true)?)?.as_str(),
-        "Ok(NotInitialized)"
-    );
-    assert_eq!(rt;
-        ask(alloc, &mut desk, tells(alloc, true)?)?.as_str(),
-        "Ok(Suppressed)"
-    );
-    assert_eq!(rt;
-        ask(alloc, &mut desk, tells(alloc, false)?)?.as_str(),
-        "Ok(Sent)"
-    );
-    let lives = [
-        (
-            Some(Life::Initializing),
-            "Ok(Life(Initializing))",
-            "Ok(NotInitialized)",
-        ),
-        (None, "Ok(Life(Uninitialized))", "Ok(NotInitialized)"),
-        (
-            Some(Life::Initialized),
-            "Ok(Life(Initialized))",
-            "Ok(Ticket(0, Number(0)))",
-        ),
-        (None, "Ok(Life(Initialized))", "Ok(Ticket(1, Number(1)))"),
-    ];
-    for (rise, life, reply) in lives {
-        assert_eq!(rt; rise_or_fall(alloc, &mut desk, rise)?.as_str(), "Ok(Done)");
-        assert_eq!(rt; serve(alloc, &mut desk, ServerCall::Look)?.as_str(), life);
-        assert_eq!(rt; ask(alloc, &mut desk, asks(alloc, true)?)?.as_str(), reply);
-    }
-    Ok(())
-}
-
-#[test]
-fn messages_and_end(rt: HostRuntime) -> Result<(), Fail> {
-    let alloc = rt.alloc();
+    let mut trial = Trial::new(alloc);
     let mut desk = PlainDesk::new(alloc);
-    assert_eq!(rt;
-        ask(alloc, &mut desk, tells(alloc, false)?)?.as_str(),
-        "Ok(Sent)"
+    try_calls(&mut trial, alloc, &mut desk, &ANSWERS_THAT_NOBODY_AWAITS);
+    trial.end()
+}
+
+const GATE_AND_LIVES: [(Call, &str); 15] = [
+    (Call::Asked(Asked::GatedAsk), "Ok(NotInitialized)"),
+    (Call::Asked(Asked::GatedTell), "Ok(Suppressed)"),
+    (Call::Asked(Asked::Tell), "Ok(Sent)"),
+    (Call::Served(Served::Rise(Life::Initializing)), "Ok(Done)"),
+    (Call::Served(Served::Look), "Ok(Life(Initializing))"),
+    (Call::Asked(Asked::GatedAsk), "Ok(NotInitialized)"),
+    (Call::Served(Served::Fall), "Ok(Done)"),
+    (Call::Served(Served::Look), "Ok(Life(Uninitialized))"),
+    (Call::Asked(Asked::GatedAsk), "Ok(NotInitialized)"),
+    (Call::Served(Served::Rise(Life::Initialized)), "Ok(Done)"),
+    (Call::Served(Served::Look), "Ok(Life(Initialized))"),
+    (Call::Asked(Asked::GatedAsk), "Ok(Ticket(0, Number(0)))"),
+    (Call::Served(Served::Fall), "Ok(Done)"),
+    (Call::Served(Served::Look), "Ok(Life(Initialized))"),
+    (Call::Asked(Asked::GatedAsk), "Ok(Ticket(1, Number(1)))"),
+];
+
+#[test]
+fn gate_and_lives(rt: HostRuntime) -> Result<(), RowError> {
+    let alloc = rt.alloc();
+    let mut trial = Trial::new(alloc);
+    let mut desk = ClientSocket::new(PlainDesk::new(alloc)).into_desk();
+    try_calls(&mut trial, alloc, &mut desk, &GATE_AND_LIVES);
+    trial.end()
+}
+
+const MESSAGES_AND_END: [(Call, &str); 15] = [
+    (Call::Asked(Asked::Tell), "Ok(Sent)"),
+    (Call::Asked(Asked::NextId), "Ok(Number(0))"),
+    (Call::Asked(Asked::Ask), "Ok(Ticket(0, Number(1)))"),
+    (Call::Asked(Asked::Poll(0)), "Ok(Awaited)"),
+    (Call::Asked(Asked::Poll(7)), "Ok(Gone)"),
+    (
+        Call::Served(Served::Next),
+        "{\"jsonrpc\":\"2.0\",\"method\":\"m\",\"params\":null}",
+    ),
+    (Call::Asked(Asked::Tell), "Ok(Sent)"),
+    (
+        Call::Served(Served::Next),
+        "{\"jsonrpc\":\"2.0\",\"method\":\"m\",\"params\":null,\"id\":1}",
+    ),
+    (Call::Served(Served::Take), "1"),
+    (Call::Served(Served::Next), "Ok(First(None))"),
+    (Call::Asked(Asked::Tell), "Ok(Sent)"),
+    (Call::Served(Served::Close), "1"),
+    (Call::Asked(Asked::Ask), "Ok(Exited)"),
+    (Call::Asked(Asked::GatedAsk), "Ok(NotInitialized)"),
+    (Call::Asked(Asked::Raw(Some(1))), "Ok(Exited)"),
+];
+
+#[test]
+fn messages_and_end(rt: HostRuntime) -> Result<(), RowError> {
+    let alloc = rt.alloc();
+    let mut trial = Trial::new(alloc);
+    let mut desk = PlainDesk::new(alloc);
+    try_calls(&mut trial, alloc, &mut desk, &MESSAGES_AND_END);
+    trial.text(
+        "the error",
+        format!(in alloc; "{ExitedError}"),
+        "language server has exited",
     );
-    assert_eq!(rt;
-        ask(alloc, &mut desk, ClientCall::NextId)?.as_str(),
-        "Ok(Number(0))"
-    );
-    assert_eq!(rt;
-        ask(alloc, &mut desk, asks(alloc, false)?)?.as_str(),
-        "Ok(Ticket(0, Number(1)))"
-    );
-    assert_eq!(rt;
-        ask(alloc, &mut desk, ClientCall::Poll(0))?.as_str(),
-        "Ok(Awaited)"
-    );
-    assert_eq!(rt;
-        ask(alloc, &mut desk, ClientCall::Poll(7))?.as_str(),
-        "Ok(Gone)"
-    );
-    assert_eq!(rt; serve(alloc, &mut desk, ServerCall::Next)?.as_str(), TOLD);
-    assert_eq!(rt;
-        ask(alloc, &mut desk, tells(alloc, false)?)?.as_str(),
-        "Ok(Sent)"
-    );
-    assert_eq!(rt; serve(alloc, &mut desk, ServerCall::Next)?.as_str(), ASKED);
-    assert_eq!(rt; serve(alloc, &mut desk, ServerCall::Take)?.as_str(), "1");
-    assert_eq!(rt;
-        serve(alloc, &mut desk, ServerCall::Next)?.as_str(),
-        "Ok(First(None))"
-    );
-    assert_eq!(rt;
-        ask(alloc, &mut desk, tells(alloc, false)?)?.as_str(),
-        "Ok(Sent)"
-    );
-    assert_eq!(rt; serve(alloc, &mut desk, ServerCall::Close)?.as_str(), "1");
-    assert_eq!(rt;
-        ask(alloc, &mut desk, asks(alloc, false)?)?.as_str(),
-        "Ok(Exited)"
-    );
-    assert_eq!(rt;
-        ask(alloc, &mut desk, asks(alloc, true)?)?.as_str(),
-        "Ok(NotInitialized)"
-    );
-    assert_eq!(rt; ask(alloc, &mut desk, raw(alloc)?)?.as_str(), "Ok(Exited)");
-    let ended = format!(in alloc; "{}", ExitedError)?;
-    assert_eq!(rt; ended.as_str(), "language server has exited");
-    Ok(())
+    trial.end()
 }

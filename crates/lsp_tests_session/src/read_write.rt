@@ -1,8 +1,8 @@
 // One call of a reader or a writer of std for each call of a source or a sink.
+use lsp_rows::{RowError, Trial};
 use lsp_server::{Failed, ReadSource, Refused, Sink, Source, WriteSink, write_all};
 use std::io;
 use std::io::{ErrorKind, Read, Write};
-use std::test::Fail;
 
 // A writer that counts its calls. Each write takes so many bytes at most, or each call fails.
 #[derive(Drop)]
@@ -48,7 +48,8 @@ impl Read for CountedReader<'_> {
 }
 
 #[test]
-fn one_call_of_the_reader_for_each_read(rt: HostRuntime) -> Result<(), Fail> {
+fn one_call_of_the_reader_for_each_read(rt: HostRuntime) -> Result<(), RowError> {
+    let mut trial = Trial::new(rt.alloc());
     for (most, read) in [
         (Some(9), Ok(5)),
         (Some(2), Ok(2)),
@@ -61,14 +62,19 @@ fn one_call_of_the_reader_for_each_read(rt: HostRuntime) -> Result<(), Fail> {
             reads: &mut reads,
         });
         let mut piece = [0; 5];
-        assert_eq!(rt; source.read(&mut piece), read, "at most {most:?}");
-        assert_eq!(rt; reads, 1, "at most {most:?}");
+        trial.same(
+            format_args!("at most {most:?}"),
+            source.read(&mut piece),
+            read,
+        );
+        trial.same(format_args!("calls at most {most:?}"), reads, 1);
     }
-    Ok(())
+    trial.end()
 }
 
 #[test]
-fn one_call_of_the_writer_for_each_call(rt: HostRuntime) -> Result<(), Fail> {
+fn one_call_of_the_writer_for_each_call(rt: HostRuntime) -> Result<(), RowError> {
+    let mut trial = Trial::new(rt.alloc());
     let failed = Refused::Failed;
     for (most, written, flushed) in [
         (Some(9), Ok(5), Ok(())),
@@ -83,21 +89,38 @@ fn one_call_of_the_writer_for_each_call(rt: HostRuntime) -> Result<(), Fail> {
             writes: &mut writes,
             flushes: &mut flushes,
         });
-        assert_eq!(rt; sink.write(b"bytes"), written, "at most {most:?}");
-        assert_eq!(rt; (writes, flushes), (1, 0), "at most {most:?}");
+        trial.same(
+            format_args!("write at most {most:?}"),
+            sink.write(b"bytes"),
+            written,
+        );
+        trial.same(
+            format_args!("calls at most {most:?}"),
+            (writes, flushes),
+            (1, 0),
+        );
         let mut sink = WriteSink::new(Counted {
             most,
             writes: &mut writes,
             flushes: &mut flushes,
         });
-        assert_eq!(rt; sink.flush(), flushed, "at most {most:?}");
-        assert_eq!(rt; (writes, flushes), (1, 1), "at most {most:?}");
+        trial.same(
+            format_args!("flush at most {most:?}"),
+            sink.flush(),
+            flushed,
+        );
+        trial.same(
+            format_args!("flushes at most {most:?}"),
+            (writes, flushes),
+            (1, 1),
+        );
     }
-    Ok(())
+    trial.end()
 }
 
 #[test]
-fn all_bytes_in_as_many_writes_as_it_takes(rt: HostRuntime) -> Result<(), Fail> {
+fn all_bytes_in_as_many_writes_as_it_takes(rt: HostRuntime) -> Result<(), RowError> {
+    let mut trial = Trial::new(rt.alloc());
     for (most, answer, expected) in [
         (Some(9), Ok(()), 1),
         (Some(2), Ok(()), 3),
@@ -110,8 +133,16 @@ fn all_bytes_in_as_many_writes_as_it_takes(rt: HostRuntime) -> Result<(), Fail> 
             writes: &mut writes,
             flushes: &mut flushes,
         });
-        assert_eq!(rt; write_all(&mut sink, b"bytes"), answer, "at most {most:?}");
-        assert_eq!(rt; (writes, flushes), (expected, 0), "at most {most:?}");
+        trial.same(
+            format_args!("at most {most:?}"),
+            write_all(&mut sink, b"bytes"),
+            answer,
+        );
+        trial.same(
+            format_args!("calls at most {most:?}"),
+            (writes, flushes),
+            (expected, 0),
+        );
     }
-    Ok(())
+    trial.end()
 }

@@ -1,13 +1,14 @@
 //! What a relay writes, byte for byte.
 use lsp_relay::{Relayed, Status, relay, relay_over, run_proxy};
+use lsp_rows::{RowError, Trial};
 use lsp_server::{
     MemorySink, MemorySource, MemoryTransport, NeverSink, NeverSource, ReadAt, ServeError,
 };
-use std::alloc::Global;
+use std::alloc::{AllocError, Global};
 use std::test::Fail;
 
 // The frames of the texts, one after the other.
-fn framed(alloc: Global, texts: &[&str]) -> Result<Vec<u8>, Fail> {
+fn framed(alloc: Global, texts: &[&str]) -> Result<Vec<u8>, AllocError> {
     let mut bytes = Vec::new(alloc);
     for text in texts {
         let head = format!(in alloc; "Content-Length: {}\r\n\r\n", text.len())?;
@@ -31,7 +32,7 @@ const SENT: &[&str] = &[
     r#"{"jsonrpc":"2.0","method":"proxy/out","params":{"message":{"id":7,"jsonrpc":"2.0","result":"a"},"side":1}}"#,
 ];
 
-fn arguments_of(alloc: Global, arguments: &[&str]) -> Result<Vec<String>, Fail> {
+fn arguments_of(alloc: Global, arguments: &[&str]) -> Result<Vec<String>, AllocError> {
     let mut all = Vec::new(alloc);
     for argument in arguments {
         all.push(String::from_str(alloc, argument)?)?;
@@ -40,19 +41,19 @@ fn arguments_of(alloc: Global, arguments: &[&str]) -> Result<Vec<String>, Fail> 
 }
 
 #[test]
-fn two_editors_with_one_id(rt: HostRuntime) -> Result<(), Fail> {
+fn two_editors_with_one_id(rt: HostRuntime) -> Result<(), RowError> {
     let alloc = rt.alloc();
+    let mut trial = Trial::new(alloc);
     for piece in [1, 50, 4096] {
         let mut source = NeverSource::new(framed(alloc, ASKED)?, piece);
         let mut sink = NeverSink::new(alloc);
         let arguments = arguments_of(alloc, &["2"])?;
-        assert_eq!(rt;
-            run_proxy(alloc, &arguments, &mut source, &mut sink),
-            Status::Done as u8
-        );
-        assert!(rt; sink.bytes() == framed(alloc, SENT)?.as_slice(), "{piece}");
+        let status = run_proxy(alloc, &arguments, &mut source, &mut sink);
+        let wanted = framed(alloc, SENT)?;
+        trial.same(piece, status, Status::Done as u8);
+        trial.same(piece, sink.bytes(), wanted.as_slice());
     }
-    Ok(())
+    trial.end()
 }
 
 // None of these is one number from 1 to 64.
@@ -69,24 +70,25 @@ const NO_NUMBERS: &[&[&str]] = &[
 ];
 
 #[test]
-fn other_arguments(rt: HostRuntime) -> Result<(), Fail> {
+fn other_arguments(rt: HostRuntime) -> Result<(), RowError> {
     let alloc = rt.alloc();
-    for arguments in NO_NUMBERS {
+    let mut trial = Trial::new(alloc);
+    for texts in NO_NUMBERS {
         let mut source = NeverSource::new(framed(alloc, ASKED)?, 4096);
         let mut sink = NeverSink::new(alloc);
-        let arguments = arguments_of(alloc, arguments)?;
+        let arguments = arguments_of(alloc, texts)?;
         let status = run_proxy(alloc, &arguments, &mut source, &mut sink);
-        assert_eq!(rt; status, Status::Usage as u8);
-        assert!(rt; sink.bytes().is_empty());
+        trial.same(format_args!("{texts:?}"), status, Status::Usage as u8);
+        trial.same(format_args!("{texts:?}"), sink.bytes().len(), 0);
     }
     for argument in ["1", "64", "064"] {
         let mut source = NeverSource::new(Vec::new(alloc), 4096);
         let mut sink = NeverSink::new(alloc);
         let arguments = arguments_of(alloc, &[argument])?;
         let status = run_proxy(alloc, &arguments, &mut source, &mut sink);
-        assert_eq!(rt; status, Status::Done as u8, "{argument}");
+        trial.same(argument, status, Status::Done as u8);
     }
-    Ok(())
+    trial.end()
 }
 
 // Each of these tells no message of two editors.
@@ -108,8 +110,9 @@ const OTHERS: &[&str] = &[
 ];
 
 #[test]
-fn other_items(rt: HostRuntime) -> Result<(), Fail> {
+fn other_items(rt: HostRuntime) -> Result<(), RowError> {
     let alloc = rt.alloc();
+    let mut trial = Trial::new(alloc);
     let mut bytes = framed(alloc, OTHERS)?;
     bytes.extend_from_slice(framed(alloc, ASKED)?.as_slice())?;
     // Input ends inside a frame.
@@ -122,15 +125,17 @@ fn other_items(rt: HostRuntime) -> Result<(), Fail> {
         passed: 4,
         dropped: 14,
     };
-    assert!(rt; relayed == Ok(wanted), "{relayed:?}");
-    assert!(rt; sink.bytes() == framed(alloc, SENT)?.as_slice());
-    Ok(())
+    let sent = framed(alloc, SENT)?;
+    trial.same("the items", relayed, Ok(wanted));
+    trial.same("the bytes", sink.bytes(), sent.as_slice());
+    trial.end()
 }
 
 // A notification of the server goes to both editors; params and errors keep their values.
 #[test]
-fn values_pass(rt: HostRuntime) -> Result<(), Fail> {
+fn values_pass(rt: HostRuntime) -> Result<(), RowError> {
     let alloc = rt.alloc();
+    let mut trial = Trial::new(alloc);
     let came = [
         r#"{"jsonrpc":"2.0","method":"proxy/in","params":{"side":1,"message":{"params":{"b":[1,null],"a":"\u00e9"},"method":"m","id":"s","jsonrpc":"2.0"}}}"#,
         r#"{"jsonrpc":"2.0","method":"proxy/in","params":{"side":0,"message":{"id":0,"error":{"message":"no","data":[true],"code":-32601},"jsonrpc":"2.0"}}}"#,
@@ -149,14 +154,16 @@ fn values_pass(rt: HostRuntime) -> Result<(), Fail> {
         passed: 3,
         dropped: 0,
     };
-    assert!(rt; relayed == Ok(wanted), "{relayed:?}");
-    assert!(rt; sink.bytes() == framed(alloc, &went)?.as_slice());
-    Ok(())
+    let sent = framed(alloc, &went)?;
+    trial.same("the items", relayed, Ok(wanted));
+    trial.same("the bytes", sink.bytes(), sent.as_slice());
+    trial.end()
 }
 
 #[test]
 fn failures(rt: HostRuntime) -> Result<(), Fail> {
     let alloc = rt.alloc();
+    let mut trial = Trial::new(alloc);
     // Reads, and writes with flushes, are numbered from 1. A first read of 200 bytes tells one
     // message.
     for (failing_read, failing_call, reads, written, error) in [
@@ -169,12 +176,15 @@ fn failures(rt: HostRuntime) -> Result<(), Fail> {
         let mut source = MemorySource::new(sent, 200, vec![in alloc; failing_read]?);
         let mut sink = MemorySink::new(alloc, vec![in alloc; failing_call]?);
         let answer = relay(alloc, 2, &mut source, &mut sink, reads);
-        assert!(rt; answer == Err(error), "{error:?}");
-        assert!(rt; written <= SENT.len());
-        let wanted = framed(alloc, &SENT[..written])?;
-        assert!(rt; sink.bytes() == wanted.as_slice(), "{error:?}");
+        let wanted = framed(alloc, SENT.get(..written).unwrap_or(&[]))?;
+        trial.same(
+            format_args!("before {error:?}"),
+            sink.bytes(),
+            wanted.as_slice(),
+        );
+        trial.same("the error", answer, Err(error));
     }
-    Ok(())
+    Ok(trial.end()?)
 }
 
 // As each read is made, this many bytes were read before it, and this many taken and flushed.
@@ -202,6 +212,7 @@ const READS: [Reads; 3] = [
 #[test]
 fn messages_are_sent_before_the_next_read(rt: HostRuntime) -> Result<(), Fail> {
     let alloc = rt.alloc();
+    let mut trial = Trial::new(alloc);
     for row in &READS {
         if row.piece == 0 {
             return Err(Fail::new("no piece"));
@@ -212,21 +223,18 @@ fn messages_are_sent_before_the_next_read(rt: HostRuntime) -> Result<(), Fail> {
             passed: 4,
             dropped: 0,
         };
-        assert!(rt; relayed == Ok(wanted), "{relayed:?}");
-        assert!(rt;
-            io.bytes() == framed(alloc, SENT)?.as_slice(),
-            "{}",
-            row.piece
-        );
-        assert_eq!(rt; io.reads().len(), row.made.len(), "{}", row.piece);
+        let sent = framed(alloc, SENT)?;
+        trial.same(row.piece, relayed, Ok(wanted));
+        trial.same(row.piece, io.bytes(), sent.as_slice());
+        trial.same(row.piece, io.reads().len(), row.made.len());
         for (made, (read, taken)) in io.reads().iter().zip(row.made) {
-            let want = ReadAt {
+            let wanted = ReadAt {
                 read: *read,
                 taken: *taken,
                 flushed: *taken,
             };
-            assert_eq!(rt; *made, want, "{}", row.piece);
+            trial.same(row.piece, *made, wanted);
         }
     }
-    Ok(())
+    Ok(trial.end()?)
 }

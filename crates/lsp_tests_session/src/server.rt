@@ -7,6 +7,7 @@ ghost use Rattle.lsp_server.specs.ServerView.{server_desk};
 use crate::small::make_server;
 use lsp_desk::{ClientSocket, PlainDesk};
 use lsp_frame::Limits;
+use lsp_rows::{RowError, Trial};
 use lsp_rpc::{Id, Message, Request};
 use lsp_server::{
     MemorySink, MemorySource, MemoryTransport, NeverSink, NeverSource, ReadAt, ServeError, Server,
@@ -14,7 +15,6 @@ use lsp_server::{
 };
 use lsp_session::{InOrder, Item, Life, Rotate, Session};
 use std::alloc::{AllocError, Global};
-use std::process::Abort;
 use std::test::Fail;
 
 const INITIALIZE: &str = "{\"jsonrpc\":\"2.0\",\"method\":\"initialize\",\"id\":1}";
@@ -114,7 +114,7 @@ const ROWS: [Row; 5] = [
 ];
 
 // Serves the row, by at most `piece` bytes a read.
-fn check_row(rt: &impl Abort, alloc: Global, row: &Row, piece: usize) -> Result<(), Fail>
+fn try_row(trial: &mut Trial, alloc: Global, row: &Row, piece: usize) -> Result<(), Fail>
     requires { 0 < piece }
 {
     if row.body == 0 || row.rounds == 0 {
@@ -140,22 +140,23 @@ fn check_row(rt: &impl Abort, alloc: Global, row: &Row, piece: usize) -> Result<
         row.rounds,
     ) {
         Ok(served) => {
-            assert_eq!(rt; served.exited, row.exited, "{}", row.name);
-            assert_eq!(rt; served.unanswered.len(), row.unanswered, "{}", row.name);
+            trial.same(row.name, served.exited, row.exited);
+            trial.same(row.name, served.unanswered.len(), row.unanswered);
         }
-        Err(_) => assert!(rt; false, "{}", row.name),
+        Err(stopped) => trial.shows(row.name, stopped.error, "no error"),
     }
-    assert!(rt; sink.bytes() == row.answers.as_bytes(), "{}", row.name);
+    trial.same(row.name, sink.bytes(), row.answers.as_bytes());
     Ok(())
 }
 
 #[test]
 fn sessions_to_their_end(rt: HostRuntime) -> Result<(), Fail> {
+    let mut trial = Trial::new(rt.alloc());
     for row in &ROWS {
-        check_row(&rt, rt.alloc(), row, 1)?;
-        check_row(&rt, rt.alloc(), row, 4096)?;
+        try_row(&mut trial, rt.alloc(), row, 1)?;
+        try_row(&mut trial, rt.alloc(), row, 4096)?;
     }
-    Ok(())
+    Ok(trial.end()?)
 }
 
 // What is sent in one piece, the number of a read and that of a call of the sink that fail, how many
@@ -240,6 +241,7 @@ const STOPS: [Stop; 8] = [
 #[test]
 fn sessions_that_stop(rt: HostRuntime) -> Result<(), Fail> {
     let alloc = rt.alloc();
+    let mut trial = Trial::new(alloc);
     for (number, row) in STOPS.iter().enumerate() {
         if row.failing_read == u64::MAX || row.failing_call == u64::MAX {
             return Err(Fail::new("no such call"));
@@ -260,10 +262,11 @@ fn sessions_that_stop(rt: HostRuntime) -> Result<(), Fail> {
             Ok(_) => None,
             Err(stopped) => Some(stopped.error),
         };
-        assert_eq!(rt; error, row.error, "{number}");
-        assert!(rt; sink.bytes() == row.answers.as_bytes(), "{number}");
+        trial.same(format_args!("row {number}"), error, row.error);
+        let wanted = row.answers.as_bytes();
+        trial.same(format_args!("bytes of row {number}"), sink.bytes(), wanted);
     }
-    Ok(())
+    Ok(trial.end()?)
 }
 
 // As each read is made, this many bytes were read before it, and this many taken and flushed.
@@ -300,6 +303,7 @@ const READS: [Reads; 4] = [
 #[test]
 fn answers_come_before_the_next_read(rt: HostRuntime) -> Result<(), Fail> {
     let alloc = rt.alloc();
+    let mut trial = Trial::new(alloc);
     for row in &READS {
         if row.piece == 0 {
             return Err(Fail::new("no piece"));
@@ -308,18 +312,18 @@ fn answers_come_before_the_next_read(rt: HostRuntime) -> Result<(), Fail> {
         let mut session = Session::new(alloc, make_server(alloc)?, PlainDesk::new(alloc), 4);
         let limits = Limits::default();
         let answer = serve_over(alloc, &mut io, &mut session, &mut InOrder, 1000, 1, limits);
-        assert_eq!(rt; answer, Ok(()), "{}", row.piece);
-        assert_eq!(rt; io.reads().len(), row.made.len(), "{}", row.piece);
+        trial.same(row.piece, answer, Ok(()));
+        trial.same(row.piece, io.reads().len(), row.made.len());
         for (made, (read, taken)) in io.reads().iter().zip(row.made) {
-            let want = ReadAt {
+            let wanted = ReadAt {
                 read: *read,
                 taken: *taken,
                 flushed: *taken,
             };
-            assert_eq!(rt; *made, want, "{}", row.piece);
+            trial.same(row.piece, *made, wanted);
         }
     }
-    Ok(())
+    Ok(trial.end()?)
 }
 
 #[test]
@@ -332,28 +336,29 @@ fn one_step_and_a_tick(rt: HostRuntime) -> Result<(), Fail> {
         .finish();
     let item = Item::Message(Message::Request(request));
     let answer = Server::<PlainDesk>::step(alloc, &mut sink, &mut session, item, &mut InOrder, 1);
-    assert_eq!(rt; answer, Ok(()));
-    assert!(rt; sink.bytes() == ANSWER_1.as_bytes());
+    let mut trial = Trial::new(alloc);
+    trial.same("a step", answer, Ok(()));
+    trial.same("its bytes", sink.bytes(), ANSWER_1.as_bytes());
 
     // A tick admits nothing, and a session that has begun nothing puts nothing out.
     let mut session = Session::new(alloc, make_server(alloc)?, PlainDesk::new(alloc), 4);
     let answer = Server::<PlainDesk>::idle(alloc, &mut sink, &mut session, &mut InOrder, 1);
-    assert_eq!(rt; answer, Ok(()));
-    assert!(rt; sink.bytes() == ANSWER_1.as_bytes());
-    Ok(())
+    trial.same("a tick", answer, Ok(()));
+    trial.same("no more bytes", sink.bytes(), ANSWER_1.as_bytes());
+    Ok(trial.end()?)
 }
 
 #[test]
-fn texts_of_errors(rt: HostRuntime) -> Result<(), Fail> {
-    for (error, want) in [
+fn texts_of_errors(rt: HostRuntime) -> Result<(), RowError> {
+    let mut trial = Trial::new(rt.alloc());
+    for (error, text) in [
         (ServeError::ReadFault, "read failed"),
         (ServeError::WriteFault, "write failed"),
         (ServeError::ReadsSpent, "reads spent"),
         (ServeError::DeskSpent(7), "desk spent"),
         (ServeError::NoMemory, "out of memory"),
     ] {
-        let text = format!(in rt.alloc(); "{error}")?;
-        assert_eq!(rt; text.as_str(), want);
+        trial.text(text, format!(in rt.alloc(); "{error}"), text);
     }
-    Ok(())
+    trial.end()
 }

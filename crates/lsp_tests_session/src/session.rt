@@ -4,6 +4,7 @@ ghost use Rattle.lsp_session.specs.Item.{show_item, item_has_float};
 
 use crate::small::{Small, make_server};
 use lsp_desk::{Caller, ClientCall, ClientReply, Desk, PlainDesk, ServerCall, ServerReply};
+use lsp_rows::{RowError, Trial};
 use lsp_rpc::{Id, Message, Request, Response};
 use lsp_session::{InOrder, Item, Life, Pending, Pick, Poll, Rotate, Session, step};
 use serde_json::Value;
@@ -202,7 +203,7 @@ const ROWS: [Row; 9] = [
     },
 ];
 
-fn check_row(alloc: Global, row: &Row) -> Result<(), Fail> {
+fn try_row(trial: &mut Trial, alloc: Global, row: &Row) -> Result<(), Fail> {
     if row.max == 0 {
         return Err(Fail::new(row.name));
     }
@@ -216,18 +217,18 @@ fn check_row(alloc: Global, row: &Row) -> Result<(), Fail> {
     for id in session.unanswered()? {
         left.push_str(format!(in alloc; "{};", id)?.as_str())?;
     }
-    if out.as_str() != row.out || left.as_str() != row.left {
-        return Err(Fail::new(row.name));
-    }
+    trial.same(row.name, out.as_str(), row.out);
+    trial.same(row.name, left.as_str(), row.left);
     Ok(())
 }
 
 #[test]
 fn rows(rt: HostRuntime) -> Result<(), Fail> {
+    let mut trial = Trial::new(rt.alloc());
     for row in &ROWS {
-        check_row(rt.alloc(), row)?;
+        try_row(&mut trial, rt.alloc(), row)?;
     }
-    Ok(())
+    Ok(trial.end()?)
 }
 
 // The first three numbers of a pick.
@@ -238,27 +239,26 @@ fn three<P: Pick + Drop>(mut pick: P) -> (u64, u64, u64) {
 #[test]
 fn picks_tables_and_ids(rt: HostRuntime) -> Result<(), Fail> {
     let alloc = rt.alloc();
-    expect(three(Rotate::new(u64::MAX)) == (u64::MAX, 0, 1))?;
-    expect(three(InOrder) == (0, 0, 0))?;
+    let mut trial = Trial::new(alloc);
+    let rotated = three(Rotate::new(u64::MAX));
+    trial.same("rotated", rotated, (u64::MAX, 0, 1));
+    trial.same("in order", three(InOrder), (0, 0, 0));
     let mut live = Pending::new(alloc);
-    expect(live.execute(Id::Number(7))?)?;
-    expect(!live.execute(Id::Number(7))?)?;
-    expect(live.execute(Id::Null)?)?;
-    expect(live.cancel(&Id::Null) && !live.finish(&Id::Null))?;
-    expect(live.cancel_all().len() == 1 && !live.is_live(&Id::Number(7)))?;
+    trial.same("a new id", live.execute(Id::Number(7)), Ok(true));
+    trial.same("a live id", live.execute(Id::Number(7)), Ok(false));
+    trial.same("another id", live.execute(Id::Null), Ok(true));
+    trial.is_true("it is cancelled", live.cancel(&Id::Null));
+    trial.is_true("it is live no more", !live.finish(&Id::Null));
+    trial.same("cancelled then", live.cancel_all().len(), 1);
+    trial.is_true("none is live", !live.is_live(&Id::Number(7)));
     let small = make_server(alloc)?;
     let session = Session::new(alloc, small, PlainDesk::new(alloc), 1);
-    expect(session.poll_ready() == Poll::Ready(Ok(())) && session.exited().is_none())?;
+    trial.is_true("it is ready", session.poll_ready() == Poll::Ready(Ok(())));
+    trial.is_true("it goes on", session.exited().is_none());
     let (small, _) = session.into_parts();
-    expect(small.table.find("wait").is_some() && small.table.find("foo").is_none())
-}
-
-fn expect(holds: bool) -> Result<(), Fail> {
-    if holds {
-        Ok(())
-    } else {
-        Err(Fail::new("another answer"))
-    }
+    trial.is_true("`wait` is found", small.table.find("wait").is_some());
+    trial.is_true("`foo` isn't", small.table.find("foo").is_none());
+    Ok(trial.end()?)
 }
 
 const MANY: i64 = 400_000;
@@ -266,43 +266,41 @@ const MANY: i64 = 400_000;
 // So many live ids and waiting calls take about as long each as a few: a walk over all that is held
 // at each of them would not end within a test's time.
 #[test]
-fn many_live(rt: HostRuntime) -> Result<(), Fail> {
+fn many_live(rt: HostRuntime) -> Result<(), RowError> {
     let alloc = rt.alloc();
+    let mut trial = Trial::new(alloc);
     let mut live = Pending::new(alloc);
     for n in 0..MANY {
-        expect(live.execute(Id::Number(n + 1))?)?;
+        trial.same(n, live.execute(Id::Number(n + 1)), Ok(true));
     }
     for n in 0..MANY {
-        expect(!live.execute(Id::Number(n + 1))?)?;
+        trial.same(n, live.execute(Id::Number(n + 1)), Ok(false));
     }
     let ids = live.cancel_all();
-    expect(ids.len() == MANY as usize)?;
+    trial.same("how many ids", ids.len(), MANY as usize);
     let mut next = 1;
     for id in &ids {
-        expect(*id == Id::Number(next))?;
+        trial.is_true(next, *id == Id::Number(next));
         next = next.wrapping_add(1);
     }
-    many_waiting(alloc)
+    trial.end()
 }
 
-fn many_waiting(alloc: Global) -> Result<(), Fail> {
+#[test]
+fn many_waiting(rt: HostRuntime) -> Result<(), Fail> {
+    let alloc = rt.alloc();
+    let mut trial = Trial::new(alloc);
     let mut desk = PlainDesk::new(alloc);
     for n in 0..MANY {
         let method = String::from_str(alloc, "m")?;
         let request = Request::build(method).id(Id::Number(n + 1)).finish();
-        expect(is_ticket(&desk.client(ClientCall::Raw(request))?))?;
+        let reply = desk.client(ClientCall::Raw(request))?;
+        trial.is_true(n, matches!(reply, ClientReply::Ticket(_, _)));
     }
     for n in 0..MANY {
         let answer = Response::from_ok(Id::Number(MANY + n + 1), Value::Null);
-        expect(is_ignored(&desk.server(ServerCall::Answer(answer))?))?;
+        let reply = desk.server(ServerCall::Answer(answer))?;
+        trial.is_true(n, matches!(reply, ServerReply::Ignored));
     }
-    Ok(())
-}
-
-fn is_ticket(reply: &ClientReply) -> bool {
-    matches!(reply, ClientReply::Ticket(_, _))
-}
-
-fn is_ignored(reply: &ServerReply) -> bool {
-    matches!(reply, ServerReply::Ignored)
+    Ok(trial.end()?)
 }
