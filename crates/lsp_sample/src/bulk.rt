@@ -201,9 +201,19 @@ fn count_next(tally: &mut Tally, told: Decoded) -> Result<bool, NoMemory>
     ensures told { IfOk result (λ some. some ≡ is_some (shown told)) }
     ensures counted { OnOk result (IsCounted tally.old (shown told) tally.new) }
 {
+    let some = count_told(tally, &told);
+    drop(told);
+    some
+}
+
+// The same, over what goes on.
+fn count_told(tally: &mut Tally, told: &Decoded) -> Result<bool, NoMemory>
+    ensures told { IfOk result (λ some. some ≡ is_some (shown told.now)) }
+    ensures counted { OnOk result (IsCounted tally.old (shown told.now) tally.new) }
+{
     match told {
         Decoded::Item(message) => {
-            count(tally, &message)?;
+            count(tally, message)?;
             Ok(true)
         }
         Decoded::Fault(_) => Ok(true),

@@ -1,12 +1,14 @@
 // The server of this program.
-ghost use Rattle.std.specs.Prelude.{◌≡◌, codes, false, IfOk};
+ghost use Rattle.std.specs.Prelude.{◌≡◌, codes, false, IfOk, OnOk, IfErr};
 ghost use Rattle.serde_json.specs.View.{view};
 ghost use Rattle.lsp_desk.specs.Call.{Tell};
 ghost use Rattle.lsp_desk.specs.Shown.{show_client_call};
+ghost use Rattle.lsp_desk.specs.Meaning.{PollsOn};
+ghost use Rattle.lsp_session.specs.Fails.{PollFails};
 ghost use Rattle.lsp_session.specs.Progress.{show_progress};
-ghost use Rattle.lsp_sample.specs.Calls.{initialize_result, greeting as greeting_lem, Execute};
+ghost use Rattle.lsp_sample.specs.Calls.{initialize_result, greeting as greeting_lem, Initialized, Execute};
 ghost use Rattle.lsp_sample.specs.Params.{has_capabilities as has_capabilities_lem};
-ghost use Rattle.lsp_sample.specs.Sample.{sample_semantics, first, waits as waits_lem};
+ghost use Rattle.lsp_sample.specs.Sample.{sample_semantics, Asks, first, waits as waits_lem};
 ghost use Rattle.lsp_sample.specs.Shown.{show_command};
 
 use crate::command::read_command;
@@ -93,7 +95,7 @@ impl<D: Caller> Handlers<D> for Sample {
         match call {
             SampleCall::Initialize => Ok(Progress::Done(Ok(capabilities(alloc)?))),
             SampleCall::Initialized => {
-                desk.client(greeting(alloc)?)?;
+                greet(alloc, desk)?;
                 Ok(Progress::Done(Ok(Value::Null)))
             }
             SampleCall::Shutdown => Ok(Progress::Done(Ok(Value::Null))),
@@ -134,6 +136,15 @@ fn capabilities(alloc: Global) -> Result<Value, NoMemory>
         Ok(value) => Ok(value),
         Err(_) => Err(NoMemory),
     }
+}
+
+// Greets the client.
+fn greet<D: Caller>(alloc: Global, desk: &mut D) -> Result<(), DeskFault>
+    ensures asks { OnOk result (PollsOn D.meaning desk.old desk.new (Asks Initialized)) }
+    ensures failed { IfErr result (λ fault. PollFails D.meaning desk.old desk.new fault) }
+{
+    desk.client(greeting(alloc)?)?;
+    Ok(())
 }
 
 // A log message of type 3, that of information (LSP 3.17, "LogMessage Notification").
