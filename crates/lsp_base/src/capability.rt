@@ -20,11 +20,10 @@ impl Wire for SymbolKindCapability {
     ghost shown = { symbol_kind_capability_row.shown };
 
     fn from_value(alloc: Global, value: &Value) -> Result<SymbolKindCapability, Misfit> {
-        let mut object = Reader::new(alloc, value)?;
-        let read = SymbolKindCapability {
-            value_set: object.optional("valueSet"),
-        };
-        object.end(read)
+        let object = Reader::new(alloc, value)?;
+        Ok(SymbolKindCapability {
+            value_set: object.optional("valueSet")?,
+        })
     }
 
     fn to_value(&self, alloc: Global) -> Result<Value, NoMemory> {

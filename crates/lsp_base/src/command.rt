@@ -46,13 +46,12 @@ impl Wire for Command {
     ghost shown = { command_row.shown };
 
     fn from_value(alloc: Global, value: &Value) -> Result<Command, Misfit> {
-        let mut object = Reader::new(alloc, value)?;
-        let read = Command {
+        let object = Reader::new(alloc, value)?;
+        Ok(Command {
             title: object.field("title")?,
             command: object.field("command")?,
-            arguments: object.optional("arguments"),
-        };
-        object.end(read)
+            arguments: object.optional("arguments")?,
+        })
     }
 
     fn to_value(&self, alloc: Global) -> Result<Value, NoMemory> {

@@ -196,19 +196,18 @@ impl Wire for Diagnostic {
     ghost shown = { diagnostic_row.shown };
 
     fn from_value(alloc: Global, value: &Value) -> Result<Diagnostic, Misfit> {
-        let mut object = Reader::new(alloc, value)?;
-        let read = Diagnostic {
+        let object = Reader::new(alloc, value)?;
+        Ok(Diagnostic {
             range: object.field("range")?,
-            severity: object.optional("severity"),
-            code: object.optional("code"),
-            code_description: object.optional("codeDescription"),
-            source: object.optional("source"),
+            severity: object.optional("severity")?,
+            code: object.optional("code")?,
+            code_description: object.optional("codeDescription")?,
+            source: object.optional("source")?,
             message: object.field("message")?,
-            related_information: object.optional("relatedInformation"),
-            tags: object.optional("tags"),
-            payload: object.optional("data"),
-        };
-        object.end(read)
+            related_information: object.optional("relatedInformation")?,
+            tags: object.optional("tags")?,
+            payload: object.optional("data")?,
+        })
     }
 
     fn to_value(&self, alloc: Global) -> Result<Value, NoMemory> {

@@ -170,12 +170,11 @@ impl Wire for OptionalVersionedTextDocumentIdentifier {
         alloc: Global,
         value: &Value,
     ) -> Result<OptionalVersionedTextDocumentIdentifier, Misfit> {
-        let mut object = Reader::new(alloc, value)?;
-        let read = OptionalVersionedTextDocumentIdentifier {
+        let object = Reader::new(alloc, value)?;
+        Ok(OptionalVersionedTextDocumentIdentifier {
             uri: object.field("uri")?,
-            version: object.optional("version"),
-        };
-        object.end(read)
+            version: object.optional("version")?,
+        })
     }
 
     fn to_value(&self, alloc: Global) -> Result<Value, NoMemory> {
@@ -252,13 +251,12 @@ impl Wire for DocumentFilter {
     ghost shown = { document_filter_row.shown };
 
     fn from_value(alloc: Global, value: &Value) -> Result<DocumentFilter, Misfit> {
-        let mut object = Reader::new(alloc, value)?;
-        let read = DocumentFilter {
-            language: object.optional("language"),
-            scheme: object.optional("scheme"),
-            pattern: object.optional("pattern"),
-        };
-        object.end(read)
+        let object = Reader::new(alloc, value)?;
+        Ok(DocumentFilter {
+            language: object.optional("language")?,
+            scheme: object.optional("scheme")?,
+            pattern: object.optional("pattern")?,
+        })
     }
 
     fn to_value(&self, alloc: Global) -> Result<Value, NoMemory> {
@@ -291,13 +289,12 @@ impl Wire for TextDocumentContentChangeEvent {
     ghost shown = { text_document_content_change_event_row.shown };
 
     fn from_value(alloc: Global, value: &Value) -> Result<TextDocumentContentChangeEvent, Misfit> {
-        let mut object = Reader::new(alloc, value)?;
-        let read = TextDocumentContentChangeEvent {
-            range: object.optional("range"),
-            range_length: object.optional("rangeLength"),
+        let object = Reader::new(alloc, value)?;
+        Ok(TextDocumentContentChangeEvent {
+            range: object.optional("range")?,
+            range_length: object.optional("rangeLength")?,
             text: object.field("text")?,
-        };
-        object.end(read)
+        })
     }
 
     fn to_value(&self, alloc: Global) -> Result<Value, NoMemory> {

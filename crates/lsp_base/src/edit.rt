@@ -178,13 +178,12 @@ impl Wire for ChangeAnnotation {
     ghost shown = { change_annotation_row.shown };
 
     fn from_value(alloc: Global, value: &Value) -> Result<ChangeAnnotation, Misfit> {
-        let mut object = Reader::new(alloc, value)?;
-        let read = ChangeAnnotation {
+        let object = Reader::new(alloc, value)?;
+        Ok(ChangeAnnotation {
             label: object.field("label")?,
-            needs_confirmation: object.optional("needsConfirmation"),
-            description: object.optional("description"),
-        };
-        object.end(read)
+            needs_confirmation: object.optional("needsConfirmation")?,
+            description: object.optional("description")?,
+        })
     }
 
     fn to_value(&self, alloc: Global) -> Result<Value, NoMemory> {

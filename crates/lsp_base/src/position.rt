@@ -279,14 +279,13 @@ impl Wire for LocationLink {
     ghost shown = { location_link_row.shown };
 
     fn from_value(alloc: Global, value: &Value) -> Result<LocationLink, Misfit> {
-        let mut object = Reader::new(alloc, value)?;
-        let read = LocationLink {
-            origin_selection_range: object.optional("originSelectionRange"),
+        let object = Reader::new(alloc, value)?;
+        Ok(LocationLink {
+            origin_selection_range: object.optional("originSelectionRange")?,
             target_uri: object.field("targetUri")?,
             target_range: object.field("targetRange")?,
             target_selection_range: object.field("targetSelectionRange")?,
-        };
-        object.end(read)
+        })
     }
 
     fn to_value(&self, alloc: Global) -> Result<Value, NoMemory> {

@@ -25,11 +25,10 @@ impl Wire for PartialResultParams {
     ghost shown = { partial_result_params_row.shown };
 
     fn from_value(alloc: Global, value: &Value) -> Result<PartialResultParams, Misfit> {
-        let mut object = Reader::new(alloc, value)?;
-        let read = PartialResultParams {
-            partial_result_token: object.optional("partialResultToken"),
-        };
-        object.end(read)
+        let object = Reader::new(alloc, value)?;
+        Ok(PartialResultParams {
+            partial_result_token: object.optional("partialResultToken")?,
+        })
     }
 
     fn to_value(&self, alloc: Global) -> Result<Value, NoMemory> {
@@ -54,11 +53,10 @@ impl Wire for WorkDoneProgressParams {
     ghost shown = { work_done_progress_params_row.shown };
 
     fn from_value(alloc: Global, value: &Value) -> Result<WorkDoneProgressParams, Misfit> {
-        let mut object = Reader::new(alloc, value)?;
-        let read = WorkDoneProgressParams {
-            work_done_token: object.optional("workDoneToken"),
-        };
-        object.end(read)
+        let object = Reader::new(alloc, value)?;
+        Ok(WorkDoneProgressParams {
+            work_done_token: object.optional("workDoneToken")?,
+        })
     }
 
     fn to_value(&self, alloc: Global) -> Result<Value, NoMemory> {

@@ -63,11 +63,10 @@ impl Wire for DynamicRegistrationClientCapabilities {
         alloc: Global,
         value: &Value,
     ) -> Result<DynamicRegistrationClientCapabilities, Misfit> {
-        let mut object = Reader::new(alloc, value)?;
-        let read = DynamicRegistrationClientCapabilities {
-            dynamic_registration: object.optional("dynamicRegistration"),
-        };
-        object.end(read)
+        let object = Reader::new(alloc, value)?;
+        Ok(DynamicRegistrationClientCapabilities {
+            dynamic_registration: object.optional("dynamicRegistration")?,
+        })
     }
 
     fn to_value(&self, alloc: Global) -> Result<Value, NoMemory> {
@@ -94,12 +93,11 @@ impl Wire for GotoCapability {
     ghost shown = { goto_capability_row.shown };
 
     fn from_value(alloc: Global, value: &Value) -> Result<GotoCapability, Misfit> {
-        let mut object = Reader::new(alloc, value)?;
-        let read = GotoCapability {
-            dynamic_registration: object.optional("dynamicRegistration"),
-            link_support: object.optional("linkSupport"),
-        };
-        object.end(read)
+        let object = Reader::new(alloc, value)?;
+        Ok(GotoCapability {
+            dynamic_registration: object.optional("dynamicRegistration")?,
+            link_support: object.optional("linkSupport")?,
+        })
     }
 
     fn to_value(&self, alloc: Global) -> Result<Value, NoMemory> {
@@ -124,11 +122,10 @@ impl Wire for TextDocumentRegistrationOptions {
     ghost shown = { text_document_registration_options_row.shown };
 
     fn from_value(alloc: Global, value: &Value) -> Result<TextDocumentRegistrationOptions, Misfit> {
-        let mut object = Reader::new(alloc, value)?;
-        let read = TextDocumentRegistrationOptions {
-            document_selector: object.optional("documentSelector"),
-        };
-        object.end(read)
+        let object = Reader::new(alloc, value)?;
+        Ok(TextDocumentRegistrationOptions {
+            document_selector: object.optional("documentSelector")?,
+        })
     }
 
     fn to_value(&self, alloc: Global) -> Result<Value, NoMemory> {
@@ -154,11 +151,10 @@ impl Wire for StaticRegistrationOptions {
     ghost shown = { static_registration_options_row.shown };
 
     fn from_value(alloc: Global, value: &Value) -> Result<StaticRegistrationOptions, Misfit> {
-        let mut object = Reader::new(alloc, value)?;
-        let read = StaticRegistrationOptions {
-            id: object.optional("id"),
-        };
-        object.end(read)
+        let object = Reader::new(alloc, value)?;
+        Ok(StaticRegistrationOptions {
+            id: object.optional("id")?,
+        })
     }
 
     fn to_value(&self, alloc: Global) -> Result<Value, NoMemory> {

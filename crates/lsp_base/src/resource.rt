@@ -23,12 +23,11 @@ impl Wire for CreateFileOptions {
     ghost shown = { create_file_options_row.shown };
 
     fn from_value(alloc: Global, value: &Value) -> Result<CreateFileOptions, Misfit> {
-        let mut object = Reader::new(alloc, value)?;
-        let read = CreateFileOptions {
-            overwrite: object.optional("overwrite"),
-            ignore_if_exists: object.optional("ignoreIfExists"),
-        };
-        object.end(read)
+        let object = Reader::new(alloc, value)?;
+        Ok(CreateFileOptions {
+            overwrite: object.optional("overwrite")?,
+            ignore_if_exists: object.optional("ignoreIfExists")?,
+        })
     }
 
     fn to_value(&self, alloc: Global) -> Result<Value, NoMemory> {
@@ -57,13 +56,12 @@ impl Wire for CreateFile {
     ghost shown = { create_file_row.shown };
 
     fn from_value(alloc: Global, value: &Value) -> Result<CreateFile, Misfit> {
-        let mut object = Reader::new(alloc, value)?;
-        let read = CreateFile {
+        let object = Reader::new(alloc, value)?;
+        Ok(CreateFile {
             uri: object.field("uri")?,
-            options: object.optional("options"),
-            annotation_id: object.optional("annotationId"),
-        };
-        object.end(read)
+            options: object.optional("options")?,
+            annotation_id: object.optional("annotationId")?,
+        })
     }
 
     fn to_value(&self, alloc: Global) -> Result<Value, NoMemory> {
@@ -92,12 +90,11 @@ impl Wire for RenameFileOptions {
     ghost shown = { rename_file_options_row.shown };
 
     fn from_value(alloc: Global, value: &Value) -> Result<RenameFileOptions, Misfit> {
-        let mut object = Reader::new(alloc, value)?;
-        let read = RenameFileOptions {
-            overwrite: object.optional("overwrite"),
-            ignore_if_exists: object.optional("ignoreIfExists"),
-        };
-        object.end(read)
+        let object = Reader::new(alloc, value)?;
+        Ok(RenameFileOptions {
+            overwrite: object.optional("overwrite")?,
+            ignore_if_exists: object.optional("ignoreIfExists")?,
+        })
     }
 
     fn to_value(&self, alloc: Global) -> Result<Value, NoMemory> {
@@ -128,14 +125,13 @@ impl Wire for RenameFile {
     ghost shown = { rename_file_row.shown };
 
     fn from_value(alloc: Global, value: &Value) -> Result<RenameFile, Misfit> {
-        let mut object = Reader::new(alloc, value)?;
-        let read = RenameFile {
+        let object = Reader::new(alloc, value)?;
+        Ok(RenameFile {
             old_uri: object.field("oldUri")?,
             new_uri: object.field("newUri")?,
-            options: object.optional("options"),
-            annotation_id: object.optional("annotationId"),
-        };
-        object.end(read)
+            options: object.optional("options")?,
+            annotation_id: object.optional("annotationId")?,
+        })
     }
 
     fn to_value(&self, alloc: Global) -> Result<Value, NoMemory> {
@@ -169,13 +165,12 @@ impl Wire for DeleteFileOptions {
     ghost shown = { delete_file_options_row.shown };
 
     fn from_value(alloc: Global, value: &Value) -> Result<DeleteFileOptions, Misfit> {
-        let mut object = Reader::new(alloc, value)?;
-        let read = DeleteFileOptions {
-            recursive: object.optional("recursive"),
-            ignore_if_not_exists: object.optional("ignoreIfNotExists"),
-            annotation_id: object.optional("annotationId"),
-        };
-        object.end(read)
+        let object = Reader::new(alloc, value)?;
+        Ok(DeleteFileOptions {
+            recursive: object.optional("recursive")?,
+            ignore_if_not_exists: object.optional("ignoreIfNotExists")?,
+            annotation_id: object.optional("annotationId")?,
+        })
     }
 
     fn to_value(&self, alloc: Global) -> Result<Value, NoMemory> {
@@ -203,12 +198,11 @@ impl Wire for DeleteFile {
     ghost shown = { delete_file_row.shown };
 
     fn from_value(alloc: Global, value: &Value) -> Result<DeleteFile, Misfit> {
-        let mut object = Reader::new(alloc, value)?;
-        let read = DeleteFile {
+        let object = Reader::new(alloc, value)?;
+        Ok(DeleteFile {
             uri: object.field("uri")?,
-            options: object.optional("options"),
-        };
-        object.end(read)
+            options: object.optional("options")?,
+        })
     }
 
     fn to_value(&self, alloc: Global) -> Result<Value, NoMemory> {

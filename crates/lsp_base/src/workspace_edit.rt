@@ -47,13 +47,12 @@ impl Wire for WorkspaceEdit {
     ghost shown = { workspace_edit_row.shown };
 
     fn from_value(alloc: Global, value: &Value) -> Result<WorkspaceEdit, Misfit> {
-        let mut object = Reader::new(alloc, value)?;
-        let read = WorkspaceEdit {
-            changes: object.optional("changes"),
-            document_changes: object.optional("documentChanges"),
-            change_annotations: object.optional("changeAnnotations"),
-        };
-        object.end(read)
+        let object = Reader::new(alloc, value)?;
+        Ok(WorkspaceEdit {
+            changes: object.optional("changes")?,
+            document_changes: object.optional("documentChanges")?,
+            change_annotations: object.optional("changeAnnotations")?,
+        })
     }
 
     fn to_value(&self, alloc: Global) -> Result<Value, NoMemory> {

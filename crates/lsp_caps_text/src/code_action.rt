@@ -40,17 +40,16 @@ impl Wire for CodeActionClientCapabilities {
     ghost shown = { code_action_client_capabilities_row.shown };
 
     fn from_value(alloc: Global, value: &Value) -> Result<CodeActionClientCapabilities, Misfit> {
-        let mut object = Reader::new(alloc, value)?;
-        let read = CodeActionClientCapabilities {
-            dynamic_registration: object.optional("dynamicRegistration"),
-            code_action_literal_support: object.optional("codeActionLiteralSupport"),
-            is_preferred_support: object.optional("isPreferredSupport"),
-            disabled_support: object.optional("disabledSupport"),
-            data_support: object.optional("dataSupport"),
-            resolve_support: object.optional("resolveSupport"),
-            honors_change_annotations: object.optional("honorsChangeAnnotations"),
-        };
-        object.end(read)
+        let object = Reader::new(alloc, value)?;
+        Ok(CodeActionClientCapabilities {
+            dynamic_registration: object.optional("dynamicRegistration")?,
+            code_action_literal_support: object.optional("codeActionLiteralSupport")?,
+            is_preferred_support: object.optional("isPreferredSupport")?,
+            disabled_support: object.optional("disabledSupport")?,
+            data_support: object.optional("dataSupport")?,
+            resolve_support: object.optional("resolveSupport")?,
+            honors_change_annotations: object.optional("honorsChangeAnnotations")?,
+        })
     }
 
     fn to_value(&self, alloc: Global) -> Result<Value, NoMemory> {

@@ -5,7 +5,7 @@ ghost use Rattle.lsp_caps_text.specs.Completion.{completion_client_capabilities_
 use lsp_base::TagSupport;
 use lsp_kinds::{CompletionItemKind, CompletionItemTag, InsertTextMode};
 use lsp_names::MarkupKind;
-use lsp_shape::{Copies, Misfit, NoMemory, Reader, Wire, Writer};
+use lsp_shape::{Copies, Misfit, NoMemory, Reader, WideReader, Wire, Writer};
 use serde_json::Value;
 use std::alloc::{AllocError, Global};
 
@@ -36,16 +36,15 @@ impl Wire for CompletionClientCapabilities {
     ghost shown = { completion_client_capabilities_row.shown };
 
     fn from_value(alloc: Global, value: &Value) -> Result<CompletionClientCapabilities, Misfit> {
-        let mut object = Reader::new(alloc, value)?;
-        let read = CompletionClientCapabilities {
-            dynamic_registration: object.optional("dynamicRegistration"),
-            completion_item: object.optional("completionItem"),
-            completion_item_kind: object.optional("completionItemKind"),
-            context_support: object.optional("contextSupport"),
-            insert_text_mode: object.optional("insertTextMode"),
-            completion_list: object.optional("completionList"),
-        };
-        object.end(read)
+        let object = Reader::new(alloc, value)?;
+        Ok(CompletionClientCapabilities {
+            dynamic_registration: object.optional("dynamicRegistration")?,
+            completion_item: object.optional("completionItem")?,
+            completion_item_kind: object.optional("completionItemKind")?,
+            context_support: object.optional("contextSupport")?,
+            insert_text_mode: object.optional("insertTextMode")?,
+            completion_list: object.optional("completionList")?,
+        })
     }
 
     fn to_value(&self, alloc: Global) -> Result<Value, NoMemory> {
@@ -132,7 +131,7 @@ impl Wire for CompletionItemCapability {
     ghost shown = { completion_item_capability_row.shown };
 
     fn from_value(alloc: Global, value: &Value) -> Result<CompletionItemCapability, Misfit> {
-        let mut object = Reader::new(alloc, value)?;
+        let mut object = WideReader::new(alloc, value)?;
         let read = CompletionItemCapability {
             snippet_support: object.optional("snippetSupport"),
             commit_characters_support: object.optional("commitCharactersSupport"),
@@ -261,11 +260,10 @@ impl Wire for CompletionItemKindCapability {
     ghost shown = { completion_item_kind_capability_row.shown };
 
     fn from_value(alloc: Global, value: &Value) -> Result<CompletionItemKindCapability, Misfit> {
-        let mut object = Reader::new(alloc, value)?;
-        let read = CompletionItemKindCapability {
-            value_set: object.optional("valueSet"),
-        };
-        object.end(read)
+        let object = Reader::new(alloc, value)?;
+        Ok(CompletionItemKindCapability {
+            value_set: object.optional("valueSet")?,
+        })
     }
 
     fn to_value(&self, alloc: Global) -> Result<Value, NoMemory> {
@@ -291,11 +289,10 @@ impl Wire for CompletionListCapability {
     ghost shown = { completion_list_capability_row.shown };
 
     fn from_value(alloc: Global, value: &Value) -> Result<CompletionListCapability, Misfit> {
-        let mut object = Reader::new(alloc, value)?;
-        let read = CompletionListCapability {
-            item_defaults: object.optional("itemDefaults"),
-        };
-        object.end(read)
+        let object = Reader::new(alloc, value)?;
+        Ok(CompletionListCapability {
+            item_defaults: object.optional("itemDefaults")?,
+        })
     }
 
     fn to_value(&self, alloc: Global) -> Result<Value, NoMemory> {

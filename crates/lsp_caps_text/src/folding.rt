@@ -32,15 +32,14 @@ impl Wire for FoldingRangeClientCapabilities {
     ghost shown = { folding_range_client_capabilities_row.shown };
 
     fn from_value(alloc: Global, value: &Value) -> Result<FoldingRangeClientCapabilities, Misfit> {
-        let mut object = Reader::new(alloc, value)?;
-        let read = FoldingRangeClientCapabilities {
-            dynamic_registration: object.optional("dynamicRegistration"),
-            range_limit: object.optional("rangeLimit"),
-            line_folding_only: object.optional("lineFoldingOnly"),
-            folding_range_kind: object.optional("foldingRangeKind"),
-            folding_range: object.optional("foldingRange"),
-        };
-        object.end(read)
+        let object = Reader::new(alloc, value)?;
+        Ok(FoldingRangeClientCapabilities {
+            dynamic_registration: object.optional("dynamicRegistration")?,
+            range_limit: object.optional("rangeLimit")?,
+            line_folding_only: object.optional("lineFoldingOnly")?,
+            folding_range_kind: object.optional("foldingRangeKind")?,
+            folding_range: object.optional("foldingRange")?,
+        })
     }
 
     fn to_value(&self, alloc: Global) -> Result<Value, NoMemory> {
@@ -70,11 +69,10 @@ impl Wire for FoldingRangeKindCapability {
     ghost shown = { folding_range_kind_capability_row.shown };
 
     fn from_value(alloc: Global, value: &Value) -> Result<FoldingRangeKindCapability, Misfit> {
-        let mut object = Reader::new(alloc, value)?;
-        let read = FoldingRangeKindCapability {
-            value_set: object.optional("valueSet"),
-        };
-        object.end(read)
+        let object = Reader::new(alloc, value)?;
+        Ok(FoldingRangeKindCapability {
+            value_set: object.optional("valueSet")?,
+        })
     }
 
     fn to_value(&self, alloc: Global) -> Result<Value, NoMemory> {
@@ -99,11 +97,10 @@ impl Wire for FoldingRangeCapability {
     ghost shown = { folding_range_capability_row.shown };
 
     fn from_value(alloc: Global, value: &Value) -> Result<FoldingRangeCapability, Misfit> {
-        let mut object = Reader::new(alloc, value)?;
-        let read = FoldingRangeCapability {
-            collapsed_text: object.optional("collapsedText"),
-        };
-        object.end(read)
+        let object = Reader::new(alloc, value)?;
+        Ok(FoldingRangeCapability {
+            collapsed_text: object.optional("collapsedText")?,
+        })
     }
 
     fn to_value(&self, alloc: Global) -> Result<Value, NoMemory> {

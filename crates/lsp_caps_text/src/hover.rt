@@ -24,12 +24,11 @@ impl Wire for HoverClientCapabilities {
     ghost shown = { hover_client_capabilities_row.shown };
 
     fn from_value(alloc: Global, value: &Value) -> Result<HoverClientCapabilities, Misfit> {
-        let mut object = Reader::new(alloc, value)?;
-        let read = HoverClientCapabilities {
-            dynamic_registration: object.optional("dynamicRegistration"),
-            content_format: object.optional("contentFormat"),
-        };
-        object.end(read)
+        let object = Reader::new(alloc, value)?;
+        Ok(HoverClientCapabilities {
+            dynamic_registration: object.optional("dynamicRegistration")?,
+            content_format: object.optional("contentFormat")?,
+        })
     }
 
     fn to_value(&self, alloc: Global) -> Result<Value, NoMemory> {

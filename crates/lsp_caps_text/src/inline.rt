@@ -25,12 +25,11 @@ impl Wire for InlayHintClientCapabilities {
     ghost shown = { inlay_hint_client_capabilities_row.shown };
 
     fn from_value(alloc: Global, value: &Value) -> Result<InlayHintClientCapabilities, Misfit> {
-        let mut object = Reader::new(alloc, value)?;
-        let read = InlayHintClientCapabilities {
-            dynamic_registration: object.optional("dynamicRegistration"),
-            resolve_support: object.optional("resolveSupport"),
-        };
-        object.end(read)
+        let object = Reader::new(alloc, value)?;
+        Ok(InlayHintClientCapabilities {
+            dynamic_registration: object.optional("dynamicRegistration")?,
+            resolve_support: object.optional("resolveSupport")?,
+        })
     }
 
     fn to_value(&self, alloc: Global) -> Result<Value, NoMemory> {

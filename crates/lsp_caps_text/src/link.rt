@@ -23,12 +23,11 @@ impl Wire for DocumentLinkClientCapabilities {
     ghost shown = { document_link_client_capabilities_row.shown };
 
     fn from_value(alloc: Global, value: &Value) -> Result<DocumentLinkClientCapabilities, Misfit> {
-        let mut object = Reader::new(alloc, value)?;
-        let read = DocumentLinkClientCapabilities {
-            dynamic_registration: object.optional("dynamicRegistration"),
-            tooltip_support: object.optional("tooltipSupport"),
-        };
-        object.end(read)
+        let object = Reader::new(alloc, value)?;
+        Ok(DocumentLinkClientCapabilities {
+            dynamic_registration: object.optional("dynamicRegistration")?,
+            tooltip_support: object.optional("tooltipSupport")?,
+        })
     }
 
     fn to_value(&self, alloc: Global) -> Result<Value, NoMemory> {

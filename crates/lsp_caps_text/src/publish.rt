@@ -35,15 +35,14 @@ impl Wire for PublishDiagnosticsClientCapabilities {
         alloc: Global,
         value: &Value,
     ) -> Result<PublishDiagnosticsClientCapabilities, Misfit> {
-        let mut object = Reader::new(alloc, value)?;
-        let read = PublishDiagnosticsClientCapabilities {
-            related_information: object.optional("relatedInformation"),
-            tag_support: object.supported("tagSupport"),
-            version_support: object.optional("versionSupport"),
-            code_description_support: object.optional("codeDescriptionSupport"),
-            data_support: object.optional("dataSupport"),
-        };
-        object.end(read)
+        let object = Reader::new(alloc, value)?;
+        Ok(PublishDiagnosticsClientCapabilities {
+            related_information: object.optional("relatedInformation")?,
+            tag_support: object.supported("tagSupport")?,
+            version_support: object.optional("versionSupport")?,
+            code_description_support: object.optional("codeDescriptionSupport")?,
+            data_support: object.optional("dataSupport")?,
+        })
     }
 
     fn to_value(&self, alloc: Global) -> Result<Value, NoMemory> {
@@ -75,12 +74,11 @@ impl Wire for DiagnosticClientCapabilities {
     ghost shown = { diagnostic_client_capabilities_row.shown };
 
     fn from_value(alloc: Global, value: &Value) -> Result<DiagnosticClientCapabilities, Misfit> {
-        let mut object = Reader::new(alloc, value)?;
-        let read = DiagnosticClientCapabilities {
-            dynamic_registration: object.optional("dynamicRegistration"),
-            related_document_support: object.optional("relatedDocumentSupport"),
-        };
-        object.end(read)
+        let object = Reader::new(alloc, value)?;
+        Ok(DiagnosticClientCapabilities {
+            dynamic_registration: object.optional("dynamicRegistration")?,
+            related_document_support: object.optional("relatedDocumentSupport")?,
+        })
     }
 
     fn to_value(&self, alloc: Global) -> Result<Value, NoMemory> {

@@ -31,14 +31,13 @@ impl Wire for RenameClientCapabilities {
     ghost shown = { rename_client_capabilities_row.shown };
 
     fn from_value(alloc: Global, value: &Value) -> Result<RenameClientCapabilities, Misfit> {
-        let mut object = Reader::new(alloc, value)?;
-        let read = RenameClientCapabilities {
-            dynamic_registration: object.optional("dynamicRegistration"),
-            prepare_support: object.optional("prepareSupport"),
-            prepare_support_default_behavior: object.optional("prepareSupportDefaultBehavior"),
-            honors_change_annotations: object.optional("honorsChangeAnnotations"),
-        };
-        object.end(read)
+        let object = Reader::new(alloc, value)?;
+        Ok(RenameClientCapabilities {
+            dynamic_registration: object.optional("dynamicRegistration")?,
+            prepare_support: object.optional("prepareSupport")?,
+            prepare_support_default_behavior: object.optional("prepareSupportDefaultBehavior")?,
+            honors_change_annotations: object.optional("honorsChangeAnnotations")?,
+        })
     }
 
     fn to_value(&self, alloc: Global) -> Result<Value, NoMemory> {

@@ -25,11 +25,10 @@ impl Wire for SelectionRangeClientCapabilities {
         alloc: Global,
         value: &Value,
     ) -> Result<SelectionRangeClientCapabilities, Misfit> {
-        let mut object = Reader::new(alloc, value)?;
-        let read = SelectionRangeClientCapabilities {
-            dynamic_registration: object.optional("dynamicRegistration"),
-        };
-        object.end(read)
+        let object = Reader::new(alloc, value)?;
+        Ok(SelectionRangeClientCapabilities {
+            dynamic_registration: object.optional("dynamicRegistration")?,
+        })
     }
 
     fn to_value(&self, alloc: Global) -> Result<Value, NoMemory> {

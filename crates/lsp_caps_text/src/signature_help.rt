@@ -27,13 +27,12 @@ impl Wire for SignatureHelpClientCapabilities {
     ghost shown = { signature_help_client_capabilities_row.shown };
 
     fn from_value(alloc: Global, value: &Value) -> Result<SignatureHelpClientCapabilities, Misfit> {
-        let mut object = Reader::new(alloc, value)?;
-        let read = SignatureHelpClientCapabilities {
-            dynamic_registration: object.optional("dynamicRegistration"),
-            signature_information: object.optional("signatureInformation"),
-            context_support: object.optional("contextSupport"),
-        };
-        object.end(read)
+        let object = Reader::new(alloc, value)?;
+        Ok(SignatureHelpClientCapabilities {
+            dynamic_registration: object.optional("dynamicRegistration")?,
+            signature_information: object.optional("signatureInformation")?,
+            context_support: object.optional("contextSupport")?,
+        })
     }
 
     fn to_value(&self, alloc: Global) -> Result<Value, NoMemory> {
@@ -65,13 +64,12 @@ impl Wire for SignatureInformationSettings {
     ghost shown = { signature_information_settings_row.shown };
 
     fn from_value(alloc: Global, value: &Value) -> Result<SignatureInformationSettings, Misfit> {
-        let mut object = Reader::new(alloc, value)?;
-        let read = SignatureInformationSettings {
-            documentation_format: object.optional("documentationFormat"),
-            parameter_information: object.optional("parameterInformation"),
-            active_parameter_support: object.optional("activeParameterSupport"),
-        };
-        object.end(read)
+        let object = Reader::new(alloc, value)?;
+        Ok(SignatureInformationSettings {
+            documentation_format: object.optional("documentationFormat")?,
+            parameter_information: object.optional("parameterInformation")?,
+            active_parameter_support: object.optional("activeParameterSupport")?,
+        })
     }
 
     fn to_value(&self, alloc: Global) -> Result<Value, NoMemory> {
@@ -100,11 +98,10 @@ impl Wire for ParameterInformationSettings {
     ghost shown = { parameter_information_settings_row.shown };
 
     fn from_value(alloc: Global, value: &Value) -> Result<ParameterInformationSettings, Misfit> {
-        let mut object = Reader::new(alloc, value)?;
-        let read = ParameterInformationSettings {
-            label_offset_support: object.optional("labelOffsetSupport"),
-        };
-        object.end(read)
+        let object = Reader::new(alloc, value)?;
+        Ok(ParameterInformationSettings {
+            label_offset_support: object.optional("labelOffsetSupport")?,
+        })
     }
 
     fn to_value(&self, alloc: Global) -> Result<Value, NoMemory> {

@@ -35,16 +35,15 @@ impl Wire for DocumentSymbolClientCapabilities {
         alloc: Global,
         value: &Value,
     ) -> Result<DocumentSymbolClientCapabilities, Misfit> {
-        let mut object = Reader::new(alloc, value)?;
-        let read = DocumentSymbolClientCapabilities {
-            dynamic_registration: object.optional("dynamicRegistration"),
-            symbol_kind: object.optional("symbolKind"),
+        let object = Reader::new(alloc, value)?;
+        Ok(DocumentSymbolClientCapabilities {
+            dynamic_registration: object.optional("dynamicRegistration")?,
+            symbol_kind: object.optional("symbolKind")?,
             hierarchical_document_symbol_support: object.optional(
                 "hierarchicalDocumentSymbolSupport",
-            ),
-            tag_support: object.supported("tagSupport"),
-        };
-        object.end(read)
+            )?,
+            tag_support: object.supported("tagSupport")?,
+        })
     }
 
     fn to_value(&self, alloc: Global) -> Result<Value, NoMemory> {

@@ -31,14 +31,13 @@ impl Wire for TextDocumentSyncClientCapabilities {
         alloc: Global,
         value: &Value,
     ) -> Result<TextDocumentSyncClientCapabilities, Misfit> {
-        let mut object = Reader::new(alloc, value)?;
-        let read = TextDocumentSyncClientCapabilities {
-            dynamic_registration: object.optional("dynamicRegistration"),
-            will_save: object.optional("willSave"),
-            will_save_wait_until: object.optional("willSaveWaitUntil"),
-            did_save: object.optional("didSave"),
-        };
-        object.end(read)
+        let object = Reader::new(alloc, value)?;
+        Ok(TextDocumentSyncClientCapabilities {
+            dynamic_registration: object.optional("dynamicRegistration")?,
+            will_save: object.optional("willSave")?,
+            will_save_wait_until: object.optional("willSaveWaitUntil")?,
+            did_save: object.optional("didSave")?,
+        })
     }
 
     fn to_value(&self, alloc: Global) -> Result<Value, NoMemory> {

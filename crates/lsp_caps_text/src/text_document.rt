@@ -24,7 +24,7 @@ use crate::symbols::DocumentSymbolClientCapabilities;
 use crate::sync::TextDocumentSyncClientCapabilities;
 use crate::tokens::SemanticTokensClientCapabilities;
 use lsp_base::GotoCapability;
-use lsp_shape::{Copies, Misfit, NoMemory, Reader, Wire, Writer};
+use lsp_shape::{Copies, Misfit, NoMemory, WideReader, Wire, Writer};
 use serde_json::Value;
 use std::alloc::{AllocError, Global};
 
@@ -189,7 +189,7 @@ impl Wire for TextDocumentClientCapabilities {
     ghost shown = { text_document_client_capabilities_row.shown };
 
     fn from_value(alloc: Global, value: &Value) -> Result<TextDocumentClientCapabilities, Misfit> {
-        let mut object = Reader::new(alloc, value)?;
+        let mut object = WideReader::new(alloc, value)?;
         let read = TextDocumentClientCapabilities {
             synchronization: object.optional("synchronization"),
             completion: object.optional("completion"),

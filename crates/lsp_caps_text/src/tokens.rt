@@ -101,19 +101,18 @@ impl Wire for SemanticTokensClientCapabilities {
         alloc: Global,
         value: &Value,
     ) -> Result<SemanticTokensClientCapabilities, Misfit> {
-        let mut object = Reader::new(alloc, value)?;
-        let read = SemanticTokensClientCapabilities {
-            dynamic_registration: object.optional("dynamicRegistration"),
+        let object = Reader::new(alloc, value)?;
+        Ok(SemanticTokensClientCapabilities {
+            dynamic_registration: object.optional("dynamicRegistration")?,
             requests: object.field("requests")?,
             token_types: object.field("tokenTypes")?,
             token_modifiers: object.field("tokenModifiers")?,
             formats: object.field("formats")?,
-            overlapping_token_support: object.optional("overlappingTokenSupport"),
-            multiline_token_support: object.optional("multilineTokenSupport"),
-            server_cancel_support: object.optional("serverCancelSupport"),
-            augments_syntax_tokens: object.optional("augmentsSyntaxTokens"),
-        };
-        object.end(read)
+            overlapping_token_support: object.optional("overlappingTokenSupport")?,
+            multiline_token_support: object.optional("multilineTokenSupport")?,
+            server_cancel_support: object.optional("serverCancelSupport")?,
+            augments_syntax_tokens: object.optional("augmentsSyntaxTokens")?,
+        })
     }
 
     fn to_value(&self, alloc: Global) -> Result<Value, NoMemory> {
@@ -153,12 +152,11 @@ impl Wire for SemanticTokensClientCapabilitiesRequests {
         alloc: Global,
         value: &Value,
     ) -> Result<SemanticTokensClientCapabilitiesRequests, Misfit> {
-        let mut object = Reader::new(alloc, value)?;
-        let read = SemanticTokensClientCapabilitiesRequests {
-            range: object.optional("range"),
-            full: object.optional("full"),
-        };
-        object.end(read)
+        let object = Reader::new(alloc, value)?;
+        Ok(SemanticTokensClientCapabilitiesRequests {
+            range: object.optional("range")?,
+            full: object.optional("full")?,
+        })
     }
 
     fn to_value(&self, alloc: Global) -> Result<Value, NoMemory> {

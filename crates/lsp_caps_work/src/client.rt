@@ -22,12 +22,11 @@ impl Wire for ClientInfo {
     ghost shown = { client_info_row.shown };
 
     fn from_value(alloc: Global, value: &Value) -> Result<ClientInfo, Misfit> {
-        let mut object = Reader::new(alloc, value)?;
-        let read = ClientInfo {
+        let object = Reader::new(alloc, value)?;
+        Ok(ClientInfo {
             name: object.field("name")?,
-            version: object.optional("version"),
-        };
-        object.end(read)
+            version: object.optional("version")?,
+        })
     }
 
     fn to_value(&self, alloc: Global) -> Result<Value, NoMemory> {

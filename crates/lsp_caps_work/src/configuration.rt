@@ -32,12 +32,11 @@ impl Wire for DidChangeWatchedFilesClientCapabilities {
         alloc: Global,
         value: &Value,
     ) -> Result<DidChangeWatchedFilesClientCapabilities, Misfit> {
-        let mut object = Reader::new(alloc, value)?;
-        let read = DidChangeWatchedFilesClientCapabilities {
-            dynamic_registration: object.optional("dynamicRegistration"),
-            relative_pattern_support: object.optional("relativePatternSupport"),
-        };
-        object.end(read)
+        let object = Reader::new(alloc, value)?;
+        Ok(DidChangeWatchedFilesClientCapabilities {
+            dynamic_registration: object.optional("dynamicRegistration")?,
+            relative_pattern_support: object.optional("relativePatternSupport")?,
+        })
     }
 
     fn to_value(&self, alloc: Global) -> Result<Value, NoMemory> {

@@ -30,15 +30,14 @@ impl Wire for WorkspaceEditClientCapabilities {
     ghost shown = { workspace_edit_client_capabilities_row.shown };
 
     fn from_value(alloc: Global, value: &Value) -> Result<WorkspaceEditClientCapabilities, Misfit> {
-        let mut object = Reader::new(alloc, value)?;
-        let read = WorkspaceEditClientCapabilities {
-            document_changes: object.optional("documentChanges"),
-            resource_operations: object.optional("resourceOperations"),
-            failure_handling: object.optional("failureHandling"),
-            normalizes_line_endings: object.optional("normalizesLineEndings"),
-            change_annotation_support: object.optional("changeAnnotationSupport"),
-        };
-        object.end(read)
+        let object = Reader::new(alloc, value)?;
+        Ok(WorkspaceEditClientCapabilities {
+            document_changes: object.optional("documentChanges")?,
+            resource_operations: object.optional("resourceOperations")?,
+            failure_handling: object.optional("failureHandling")?,
+            normalizes_line_endings: object.optional("normalizesLineEndings")?,
+            change_annotation_support: object.optional("changeAnnotationSupport")?,
+        })
     }
 
     fn to_value(&self, alloc: Global) -> Result<Value, NoMemory> {
@@ -70,11 +69,10 @@ impl Wire for ChangeAnnotationWorkspaceEditClientCapabilities {
         alloc: Global,
         value: &Value,
     ) -> Result<ChangeAnnotationWorkspaceEditClientCapabilities, Misfit> {
-        let mut object = Reader::new(alloc, value)?;
-        let read = ChangeAnnotationWorkspaceEditClientCapabilities {
-            groups_on_label: object.optional("groupsOnLabel"),
-        };
-        object.end(read)
+        let object = Reader::new(alloc, value)?;
+        Ok(ChangeAnnotationWorkspaceEditClientCapabilities {
+            groups_on_label: object.optional("groupsOnLabel")?,
+        })
     }
 
     fn to_value(&self, alloc: Global) -> Result<Value, NoMemory> {

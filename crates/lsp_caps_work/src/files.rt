@@ -37,17 +37,16 @@ impl Wire for WorkspaceFileOperationsClientCapabilities {
         alloc: Global,
         value: &Value,
     ) -> Result<WorkspaceFileOperationsClientCapabilities, Misfit> {
-        let mut object = Reader::new(alloc, value)?;
-        let read = WorkspaceFileOperationsClientCapabilities {
-            dynamic_registration: object.optional("dynamicRegistration"),
-            did_create: object.optional("didCreate"),
-            will_create: object.optional("willCreate"),
-            did_rename: object.optional("didRename"),
-            will_rename: object.optional("willRename"),
-            did_delete: object.optional("didDelete"),
-            will_delete: object.optional("willDelete"),
-        };
-        object.end(read)
+        let object = Reader::new(alloc, value)?;
+        Ok(WorkspaceFileOperationsClientCapabilities {
+            dynamic_registration: object.optional("dynamicRegistration")?,
+            did_create: object.optional("didCreate")?,
+            will_create: object.optional("willCreate")?,
+            did_rename: object.optional("didRename")?,
+            will_rename: object.optional("willRename")?,
+            did_delete: object.optional("didDelete")?,
+            will_delete: object.optional("willDelete")?,
+        })
     }
 
     fn to_value(&self, alloc: Global) -> Result<Value, NoMemory> {

@@ -29,14 +29,13 @@ impl Wire for GeneralClientCapabilities {
     ghost shown = { general_client_capabilities_row.shown };
 
     fn from_value(alloc: Global, value: &Value) -> Result<GeneralClientCapabilities, Misfit> {
-        let mut object = Reader::new(alloc, value)?;
-        let read = GeneralClientCapabilities {
-            regular_expressions: object.optional("regularExpressions"),
-            markdown: object.optional("markdown"),
-            stale_request_support: object.optional("staleRequestSupport"),
-            position_encodings: object.optional("positionEncodings"),
-        };
-        object.end(read)
+        let object = Reader::new(alloc, value)?;
+        Ok(GeneralClientCapabilities {
+            regular_expressions: object.optional("regularExpressions")?,
+            markdown: object.optional("markdown")?,
+            stale_request_support: object.optional("staleRequestSupport")?,
+            position_encodings: object.optional("positionEncodings")?,
+        })
     }
 
     fn to_value(&self, alloc: Global) -> Result<Value, NoMemory> {
@@ -133,12 +132,11 @@ impl Wire for RegularExpressionsClientCapabilities {
         alloc: Global,
         value: &Value,
     ) -> Result<RegularExpressionsClientCapabilities, Misfit> {
-        let mut object = Reader::new(alloc, value)?;
-        let read = RegularExpressionsClientCapabilities {
+        let object = Reader::new(alloc, value)?;
+        Ok(RegularExpressionsClientCapabilities {
             engine: object.field("engine")?,
-            version: object.optional("version"),
-        };
-        object.end(read)
+            version: object.optional("version")?,
+        })
     }
 
     fn to_value(&self, alloc: Global) -> Result<Value, NoMemory> {
@@ -184,13 +182,12 @@ impl Wire for MarkdownClientCapabilities {
     ghost shown = { markdown_client_capabilities_row.shown };
 
     fn from_value(alloc: Global, value: &Value) -> Result<MarkdownClientCapabilities, Misfit> {
-        let mut object = Reader::new(alloc, value)?;
-        let read = MarkdownClientCapabilities {
+        let object = Reader::new(alloc, value)?;
+        Ok(MarkdownClientCapabilities {
             parser: object.field("parser")?,
-            version: object.optional("version"),
-            allowed_tags: object.optional("allowedTags"),
-        };
-        object.end(read)
+            version: object.optional("version")?,
+            allowed_tags: object.optional("allowedTags")?,
+        })
     }
 
     fn to_value(&self, alloc: Global) -> Result<Value, NoMemory> {

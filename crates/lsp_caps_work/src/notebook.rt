@@ -57,12 +57,11 @@ impl Wire for NotebookDocumentSyncClientCapabilities {
         alloc: Global,
         value: &Value,
     ) -> Result<NotebookDocumentSyncClientCapabilities, Misfit> {
-        let mut object = Reader::new(alloc, value)?;
-        let read = NotebookDocumentSyncClientCapabilities {
-            dynamic_registration: object.optional("dynamicRegistration"),
-            execution_summary_report: object.optional("executionSummaryReport"),
-        };
-        object.end(read)
+        let object = Reader::new(alloc, value)?;
+        Ok(NotebookDocumentSyncClientCapabilities {
+            dynamic_registration: object.optional("dynamicRegistration")?,
+            execution_summary_report: object.optional("executionSummaryReport")?,
+        })
     }
 
     fn to_value(&self, alloc: Global) -> Result<Value, NoMemory> {

@@ -24,11 +24,10 @@ impl Wire for CodeLensWorkspaceClientCapabilities {
         alloc: Global,
         value: &Value,
     ) -> Result<CodeLensWorkspaceClientCapabilities, Misfit> {
-        let mut object = Reader::new(alloc, value)?;
-        let read = CodeLensWorkspaceClientCapabilities {
-            refresh_support: object.optional("refreshSupport"),
-        };
-        object.end(read)
+        let object = Reader::new(alloc, value)?;
+        Ok(CodeLensWorkspaceClientCapabilities {
+            refresh_support: object.optional("refreshSupport")?,
+        })
     }
 
     fn to_value(&self, alloc: Global) -> Result<Value, NoMemory> {
@@ -57,11 +56,10 @@ impl Wire for SemanticTokensWorkspaceClientCapabilities {
         alloc: Global,
         value: &Value,
     ) -> Result<SemanticTokensWorkspaceClientCapabilities, Misfit> {
-        let mut object = Reader::new(alloc, value)?;
-        let read = SemanticTokensWorkspaceClientCapabilities {
-            refresh_support: object.optional("refreshSupport"),
-        };
-        object.end(read)
+        let object = Reader::new(alloc, value)?;
+        Ok(SemanticTokensWorkspaceClientCapabilities {
+            refresh_support: object.optional("refreshSupport")?,
+        })
     }
 
     fn to_value(&self, alloc: Global) -> Result<Value, NoMemory> {
@@ -90,11 +88,10 @@ impl Wire for InlayHintWorkspaceClientCapabilities {
         alloc: Global,
         value: &Value,
     ) -> Result<InlayHintWorkspaceClientCapabilities, Misfit> {
-        let mut object = Reader::new(alloc, value)?;
-        let read = InlayHintWorkspaceClientCapabilities {
-            refresh_support: object.optional("refreshSupport"),
-        };
-        object.end(read)
+        let object = Reader::new(alloc, value)?;
+        Ok(InlayHintWorkspaceClientCapabilities {
+            refresh_support: object.optional("refreshSupport")?,
+        })
     }
 
     fn to_value(&self, alloc: Global) -> Result<Value, NoMemory> {
@@ -123,11 +120,10 @@ impl Wire for InlineValueWorkspaceClientCapabilities {
         alloc: Global,
         value: &Value,
     ) -> Result<InlineValueWorkspaceClientCapabilities, Misfit> {
-        let mut object = Reader::new(alloc, value)?;
-        let read = InlineValueWorkspaceClientCapabilities {
-            refresh_support: object.optional("refreshSupport"),
-        };
-        object.end(read)
+        let object = Reader::new(alloc, value)?;
+        Ok(InlineValueWorkspaceClientCapabilities {
+            refresh_support: object.optional("refreshSupport")?,
+        })
     }
 
     fn to_value(&self, alloc: Global) -> Result<Value, NoMemory> {
@@ -156,11 +152,10 @@ impl Wire for DiagnosticWorkspaceClientCapabilities {
         alloc: Global,
         value: &Value,
     ) -> Result<DiagnosticWorkspaceClientCapabilities, Misfit> {
-        let mut object = Reader::new(alloc, value)?;
-        let read = DiagnosticWorkspaceClientCapabilities {
-            refresh_support: object.optional("refreshSupport"),
-        };
-        object.end(read)
+        let object = Reader::new(alloc, value)?;
+        Ok(DiagnosticWorkspaceClientCapabilities {
+            refresh_support: object.optional("refreshSupport")?,
+        })
     }
 
     fn to_value(&self, alloc: Global) -> Result<Value, NoMemory> {

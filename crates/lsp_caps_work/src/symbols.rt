@@ -35,14 +35,13 @@ impl Wire for WorkspaceSymbolClientCapabilities {
         alloc: Global,
         value: &Value,
     ) -> Result<WorkspaceSymbolClientCapabilities, Misfit> {
-        let mut object = Reader::new(alloc, value)?;
-        let read = WorkspaceSymbolClientCapabilities {
-            dynamic_registration: object.optional("dynamicRegistration"),
-            symbol_kind: object.optional("symbolKind"),
-            tag_support: object.supported("tagSupport"),
-            resolve_support: object.optional("resolveSupport"),
-        };
-        object.end(read)
+        let object = Reader::new(alloc, value)?;
+        Ok(WorkspaceSymbolClientCapabilities {
+            dynamic_registration: object.optional("dynamicRegistration")?,
+            symbol_kind: object.optional("symbolKind")?,
+            tag_support: object.supported("tagSupport")?,
+            resolve_support: object.optional("resolveSupport")?,
+        })
     }
 
     fn to_value(&self, alloc: Global) -> Result<Value, NoMemory> {

@@ -26,13 +26,12 @@ impl Wire for WindowClientCapabilities {
     ghost shown = { window_client_capabilities_row.shown };
 
     fn from_value(alloc: Global, value: &Value) -> Result<WindowClientCapabilities, Misfit> {
-        let mut object = Reader::new(alloc, value)?;
-        let read = WindowClientCapabilities {
-            work_done_progress: object.optional("workDoneProgress"),
-            show_message: object.optional("showMessage"),
-            show_document: object.optional("showDocument"),
-        };
-        object.end(read)
+        let object = Reader::new(alloc, value)?;
+        Ok(WindowClientCapabilities {
+            work_done_progress: object.optional("workDoneProgress")?,
+            show_message: object.optional("showMessage")?,
+            show_document: object.optional("showDocument")?,
+        })
     }
 
     fn to_value(&self, alloc: Global) -> Result<Value, NoMemory> {
@@ -62,11 +61,10 @@ impl Wire for ShowMessageRequestClientCapabilities {
         alloc: Global,
         value: &Value,
     ) -> Result<ShowMessageRequestClientCapabilities, Misfit> {
-        let mut object = Reader::new(alloc, value)?;
-        let read = ShowMessageRequestClientCapabilities {
-            message_action_item: object.optional("messageActionItem"),
-        };
-        object.end(read)
+        let object = Reader::new(alloc, value)?;
+        Ok(ShowMessageRequestClientCapabilities {
+            message_action_item: object.optional("messageActionItem")?,
+        })
     }
 
     fn to_value(&self, alloc: Global) -> Result<Value, NoMemory> {
@@ -92,11 +90,10 @@ impl Wire for MessageActionItemCapabilities {
     ghost shown = { message_action_item_capabilities_row.shown };
 
     fn from_value(alloc: Global, value: &Value) -> Result<MessageActionItemCapabilities, Misfit> {
-        let mut object = Reader::new(alloc, value)?;
-        let read = MessageActionItemCapabilities {
-            additional_properties_support: object.optional("additionalPropertiesSupport"),
-        };
-        object.end(read)
+        let object = Reader::new(alloc, value)?;
+        Ok(MessageActionItemCapabilities {
+            additional_properties_support: object.optional("additionalPropertiesSupport")?,
+        })
     }
 
     fn to_value(&self, alloc: Global) -> Result<Value, NoMemory> {

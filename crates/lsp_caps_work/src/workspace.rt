@@ -13,7 +13,7 @@ use crate::refresh::{
     SemanticTokensWorkspaceClientCapabilities,
 };
 use crate::symbols::WorkspaceSymbolClientCapabilities;
-use lsp_shape::{Copies, Misfit, NoMemory, Reader, Wire, Writer};
+use lsp_shape::{Copies, Misfit, NoMemory, WideReader, Wire, Writer};
 use serde_json::Value;
 use std::alloc::{AllocError, Global};
 
@@ -109,7 +109,7 @@ impl Wire for WorkspaceClientCapabilities {
     ghost shown = { workspace_client_capabilities_row.shown };
 
     fn from_value(alloc: Global, value: &Value) -> Result<WorkspaceClientCapabilities, Misfit> {
-        let mut object = Reader::new(alloc, value)?;
+        let mut object = WideReader::new(alloc, value)?;
         let read = WorkspaceClientCapabilities {
             apply_edit: object.optional("applyEdit"),
             workspace_edit: object.optional("workspaceEdit"),

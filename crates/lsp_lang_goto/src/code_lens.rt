@@ -64,13 +64,12 @@ impl Wire for CodeLens {
     ghost shown = { code_lens_row.shown };
 
     fn from_value(alloc: Global, value: &Value) -> Result<CodeLens, Misfit> {
-        let mut object = Reader::new(alloc, value)?;
-        let read = CodeLens {
+        let object = Reader::new(alloc, value)?;
+        Ok(CodeLens {
             range: object.field("range")?,
-            command: object.optional("command"),
-            payload: object.optional("data"),
-        };
-        object.end(read)
+            command: object.optional("command")?,
+            payload: object.optional("data")?,
+        })
     }
 
     fn to_value(&self, alloc: Global) -> Result<Value, NoMemory> {

@@ -57,12 +57,11 @@ impl Wire for Hover {
     ghost shown = { hover_row.shown };
 
     fn from_value(alloc: Global, value: &Value) -> Result<Hover, Misfit> {
-        let mut object = Reader::new(alloc, value)?;
-        let read = Hover {
+        let object = Reader::new(alloc, value)?;
+        Ok(Hover {
             contents: object.field("contents")?,
-            range: object.optional("range"),
-        };
-        object.end(read)
+            range: object.optional("range")?,
+        })
     }
 
     fn to_value(&self, alloc: Global) -> Result<Value, NoMemory> {

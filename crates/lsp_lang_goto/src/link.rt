@@ -67,14 +67,13 @@ impl Wire for DocumentLink {
     ghost shown = { document_link_row.shown };
 
     fn from_value(alloc: Global, value: &Value) -> Result<DocumentLink, Misfit> {
-        let mut object = Reader::new(alloc, value)?;
-        let read = DocumentLink {
+        let object = Reader::new(alloc, value)?;
+        Ok(DocumentLink {
             range: object.field("range")?,
-            target: object.optional("target"),
-            tooltip: object.optional("tooltip"),
-            payload: object.optional("data"),
-        };
-        object.end(read)
+            target: object.optional("target")?,
+            tooltip: object.optional("tooltip")?,
+            payload: object.optional("data")?,
+        })
     }
 
     fn to_value(&self, alloc: Global) -> Result<Value, NoMemory> {

@@ -129,12 +129,11 @@ impl Wire for DocumentHighlight {
     ghost shown = { document_highlight_row.shown };
 
     fn from_value(alloc: Global, value: &Value) -> Result<DocumentHighlight, Misfit> {
-        let mut object = Reader::new(alloc, value)?;
-        let read = DocumentHighlight {
+        let object = Reader::new(alloc, value)?;
+        Ok(DocumentHighlight {
             range: object.field("range")?,
-            kind: object.optional("kind"),
-        };
-        object.end(read)
+            kind: object.optional("kind")?,
+        })
     }
 
     fn to_value(&self, alloc: Global) -> Result<Value, NoMemory> {

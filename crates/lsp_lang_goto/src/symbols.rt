@@ -127,16 +127,15 @@ impl Wire for SymbolInformation {
     ghost shown = { symbol_information_row.shown };
 
     fn from_value(alloc: Global, value: &Value) -> Result<SymbolInformation, Misfit> {
-        let mut object = Reader::new(alloc, value)?;
-        let read = SymbolInformation {
+        let object = Reader::new(alloc, value)?;
+        Ok(SymbolInformation {
             name: object.field("name")?,
             kind: object.field("kind")?,
-            tags: object.optional("tags"),
-            deprecated: object.optional("deprecated"),
+            tags: object.optional("tags")?,
+            deprecated: object.optional("deprecated")?,
             location: object.field("location")?,
-            container_name: object.optional("containerName"),
-        };
-        object.end(read)
+            container_name: object.optional("containerName")?,
+        })
     }
 
     fn to_value(&self, alloc: Global) -> Result<Value, NoMemory> {
@@ -266,16 +265,15 @@ impl Wire for WorkspaceSymbol {
     ghost shown = { workspace_symbol_row.shown };
 
     fn from_value(alloc: Global, value: &Value) -> Result<WorkspaceSymbol, Misfit> {
-        let mut object = Reader::new(alloc, value)?;
-        let read = WorkspaceSymbol {
+        let object = Reader::new(alloc, value)?;
+        Ok(WorkspaceSymbol {
             name: object.field("name")?,
             kind: object.field("kind")?,
-            tags: object.optional("tags"),
-            container_name: object.optional("containerName"),
+            tags: object.optional("tags")?,
+            container_name: object.optional("containerName")?,
             location: object.field("location")?,
-            payload: object.optional("data"),
-        };
-        object.end(read)
+            payload: object.optional("data")?,
+        })
     }
 
     fn to_value(&self, alloc: Global) -> Result<Value, NoMemory> {

@@ -173,18 +173,17 @@ impl Wire for TypeHierarchyItem {
     ghost shown = { type_hierarchy_item_row.shown };
 
     fn from_value(alloc: Global, value: &Value) -> Result<TypeHierarchyItem, Misfit> {
-        let mut object = Reader::new(alloc, value)?;
-        let read = TypeHierarchyItem {
+        let object = Reader::new(alloc, value)?;
+        Ok(TypeHierarchyItem {
             name: object.field("name")?,
             kind: object.field("kind")?,
-            tags: object.optional("tags"),
-            detail: object.optional("detail"),
+            tags: object.optional("tags")?,
+            detail: object.optional("detail")?,
             uri: object.field("uri")?,
             range: object.field("range")?,
             selection_range: object.field("selectionRange")?,
-            payload: object.optional("data"),
-        };
-        object.end(read)
+            payload: object.optional("data")?,
+        })
     }
 
     fn to_value(&self, alloc: Global) -> Result<Value, NoMemory> {

@@ -94,13 +94,12 @@ impl Wire for CodeActionContext {
     ghost shown = { code_action_context_row.shown };
 
     fn from_value(alloc: Global, value: &Value) -> Result<CodeActionContext, Misfit> {
-        let mut object = Reader::new(alloc, value)?;
-        let read = CodeActionContext {
+        let object = Reader::new(alloc, value)?;
+        Ok(CodeActionContext {
             diagnostics: object.field("diagnostics")?,
-            only: object.optional("only"),
-            trigger_kind: object.optional("triggerKind"),
-        };
-        object.end(read)
+            only: object.optional("only")?,
+            trigger_kind: object.optional("triggerKind")?,
+        })
     }
 
     fn to_value(&self, alloc: Global) -> Result<Value, NoMemory> {
@@ -249,18 +248,17 @@ impl Wire for CodeAction {
     ghost shown = { code_action_row.shown };
 
     fn from_value(alloc: Global, value: &Value) -> Result<CodeAction, Misfit> {
-        let mut object = Reader::new(alloc, value)?;
-        let read = CodeAction {
+        let object = Reader::new(alloc, value)?;
+        Ok(CodeAction {
             title: object.field("title")?,
-            kind: object.optional("kind"),
-            diagnostics: object.optional("diagnostics"),
-            edit: object.optional("edit"),
-            command: object.optional("command"),
-            is_preferred: object.optional("isPreferred"),
-            disabled: object.optional("disabled"),
-            payload: object.optional("data"),
-        };
-        object.end(read)
+            kind: object.optional("kind")?,
+            diagnostics: object.optional("diagnostics")?,
+            edit: object.optional("edit")?,
+            command: object.optional("command")?,
+            is_preferred: object.optional("isPreferred")?,
+            disabled: object.optional("disabled")?,
+            payload: object.optional("data")?,
+        })
     }
 
     fn to_value(&self, alloc: Global) -> Result<Value, NoMemory> {

@@ -12,7 +12,7 @@ use lsp_kinds::{
     CompletionItemKind, CompletionItemTag, CompletionTriggerKind, InsertTextFormat, InsertTextMode,
 };
 use lsp_names::Documentation;
-use lsp_shape::{Copies, Misfit, NoMemory, Reader, Wire, Writer, attempt};
+use lsp_shape::{Copies, Misfit, NoMemory, Reader, WideReader, Wire, Writer, attempt};
 use serde_json::Value;
 use std::alloc::{AllocError, Global};
 
@@ -38,14 +38,13 @@ impl Wire for CompletionParams {
     ghost shown = { completion_params_row.shown };
 
     fn from_value(alloc: Global, value: &Value) -> Result<CompletionParams, Misfit> {
-        let mut object = Reader::new(alloc, value)?;
-        let read = CompletionParams {
+        let object = Reader::new(alloc, value)?;
+        Ok(CompletionParams {
             text_document_position: TextDocumentPositionParams::from_value(alloc, value)?,
             work_done_progress_params: WorkDoneProgressParams::from_value(alloc, value)?,
             partial_result_params: PartialResultParams::from_value(alloc, value)?,
-            context: object.optional("context"),
-        };
-        object.end(read)
+            context: object.optional("context")?,
+        })
     }
 
     fn to_value(&self, alloc: Global) -> Result<Value, NoMemory> {
@@ -76,12 +75,11 @@ impl Wire for CompletionContext {
     ghost shown = { completion_context_row.shown };
 
     fn from_value(alloc: Global, value: &Value) -> Result<CompletionContext, Misfit> {
-        let mut object = Reader::new(alloc, value)?;
-        let read = CompletionContext {
+        let object = Reader::new(alloc, value)?;
+        Ok(CompletionContext {
             trigger_kind: object.field("triggerKind")?,
-            trigger_character: object.optional("triggerCharacter"),
-        };
-        object.end(read)
+            trigger_character: object.optional("triggerCharacter")?,
+        })
     }
 
     fn to_value(&self, alloc: Global) -> Result<Value, NoMemory> {
@@ -387,7 +385,7 @@ impl Wire for CompletionItem {
     ghost shown = { completion_item_row.shown };
 
     fn from_value(alloc: Global, value: &Value) -> Result<CompletionItem, Misfit> {
-        let mut object = Reader::new(alloc, value)?;
+        let mut object = WideReader::new(alloc, value)?;
         let read = CompletionItem {
             label: object.field("label")?,
             label_details: object.optional("labelDetails"),
@@ -452,12 +450,11 @@ impl Wire for CompletionItemLabelDetails {
     ghost shown = { completion_item_label_details_row.shown };
 
     fn from_value(alloc: Global, value: &Value) -> Result<CompletionItemLabelDetails, Misfit> {
-        let mut object = Reader::new(alloc, value)?;
-        let read = CompletionItemLabelDetails {
-            detail: object.optional("detail"),
-            description: object.optional("description"),
-        };
-        object.end(read)
+        let object = Reader::new(alloc, value)?;
+        Ok(CompletionItemLabelDetails {
+            detail: object.optional("detail")?,
+            description: object.optional("description")?,
+        })
     }
 
     fn to_value(&self, alloc: Global) -> Result<Value, NoMemory> {

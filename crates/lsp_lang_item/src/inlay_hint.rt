@@ -111,18 +111,17 @@ impl Wire for InlayHint {
     ghost shown = { inlay_hint_row.shown };
 
     fn from_value(alloc: Global, value: &Value) -> Result<InlayHint, Misfit> {
-        let mut object = Reader::new(alloc, value)?;
-        let read = InlayHint {
+        let object = Reader::new(alloc, value)?;
+        Ok(InlayHint {
             position: object.field("position")?,
             label: object.field("label")?,
-            kind: object.optional("kind"),
-            text_edits: object.optional("textEdits"),
-            tooltip: object.optional("tooltip"),
-            padding_left: object.optional("paddingLeft"),
-            padding_right: object.optional("paddingRight"),
-            payload: object.optional("data"),
-        };
-        object.end(read)
+            kind: object.optional("kind")?,
+            text_edits: object.optional("textEdits")?,
+            tooltip: object.optional("tooltip")?,
+            padding_left: object.optional("paddingLeft")?,
+            padding_right: object.optional("paddingRight")?,
+            payload: object.optional("data")?,
+        })
     }
 
     fn to_value(&self, alloc: Global) -> Result<Value, NoMemory> {
@@ -270,14 +269,13 @@ impl Wire for InlayHintLabelPart {
     ghost shown = { inlay_hint_label_part_row.shown };
 
     fn from_value(alloc: Global, value: &Value) -> Result<InlayHintLabelPart, Misfit> {
-        let mut object = Reader::new(alloc, value)?;
-        let read = InlayHintLabelPart {
+        let object = Reader::new(alloc, value)?;
+        Ok(InlayHintLabelPart {
             value: object.field("value")?,
-            tooltip: object.optional("tooltip"),
-            location: object.optional("location"),
-            command: object.optional("command"),
-        };
-        object.end(read)
+            tooltip: object.optional("tooltip")?,
+            location: object.optional("location")?,
+            command: object.optional("command")?,
+        })
     }
 
     fn to_value(&self, alloc: Global) -> Result<Value, NoMemory> {

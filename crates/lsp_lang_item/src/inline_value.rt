@@ -209,13 +209,12 @@ impl Wire for InlineValueVariableLookup {
     ghost shown = { inline_value_variable_lookup_row.shown };
 
     fn from_value(alloc: Global, value: &Value) -> Result<InlineValueVariableLookup, Misfit> {
-        let mut object = Reader::new(alloc, value)?;
-        let read = InlineValueVariableLookup {
+        let object = Reader::new(alloc, value)?;
+        Ok(InlineValueVariableLookup {
             range: object.field("range")?,
-            variable_name: object.optional("variableName"),
+            variable_name: object.optional("variableName")?,
             case_sensitive_lookup: object.field("caseSensitiveLookup")?,
-        };
-        object.end(read)
+        })
     }
 
     fn to_value(&self, alloc: Global) -> Result<Value, NoMemory> {
@@ -248,12 +247,11 @@ impl Wire for InlineValueEvaluatableExpression {
         alloc: Global,
         value: &Value,
     ) -> Result<InlineValueEvaluatableExpression, Misfit> {
-        let mut object = Reader::new(alloc, value)?;
-        let read = InlineValueEvaluatableExpression {
+        let object = Reader::new(alloc, value)?;
+        Ok(InlineValueEvaluatableExpression {
             range: object.field("range")?,
-            expression: object.optional("expression"),
-        };
-        object.end(read)
+            expression: object.optional("expression")?,
+        })
     }
 
     fn to_value(&self, alloc: Global) -> Result<Value, NoMemory> {

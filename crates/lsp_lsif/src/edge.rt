@@ -245,13 +245,12 @@ impl Wire for Item {
     ghost shown = { item_row.shown };
 
     fn from_value(alloc: Global, value: &Value) -> Result<Item, Misfit> {
-        let mut object = Reader::new(alloc, value)?;
-        let read = Item {
+        let object = Reader::new(alloc, value)?;
+        Ok(Item {
             document: object.field("document")?,
-            property: object.optional("property"),
+            property: object.optional("property")?,
             edge_data: EdgeDataMultiIn::from_value(alloc, value)?,
-        };
-        object.end(read)
+        })
     }
 
     fn to_value(&self, alloc: Global) -> Result<Value, NoMemory> {

@@ -79,15 +79,14 @@ impl Wire for DefinitionTag {
     ghost shown = { definition_tag_row.shown };
 
     fn from_value(alloc: Global, value: &Value) -> Result<DefinitionTag, Misfit> {
-        let mut object = Reader::new(alloc, value)?;
-        let read = DefinitionTag {
+        let object = Reader::new(alloc, value)?;
+        Ok(DefinitionTag {
             text: object.field("text")?,
             kind: object.field("kind")?,
-            deprecated: object.truth_or_false("deprecated"),
+            deprecated: object.truth_or_false("deprecated")?,
             full_range: object.field("fullRange")?,
-            detail: object.optional("detail"),
-        };
-        object.end(read)
+            detail: object.optional("detail")?,
+        })
     }
 
     fn to_value(&self, alloc: Global) -> Result<Value, NoMemory> {
@@ -124,15 +123,14 @@ impl Wire for DeclarationTag {
     ghost shown = { declaration_tag_row.shown };
 
     fn from_value(alloc: Global, value: &Value) -> Result<DeclarationTag, Misfit> {
-        let mut object = Reader::new(alloc, value)?;
-        let read = DeclarationTag {
+        let object = Reader::new(alloc, value)?;
+        Ok(DeclarationTag {
             text: object.field("text")?,
             kind: object.field("kind")?,
-            deprecated: object.truth_or_false("deprecated"),
+            deprecated: object.truth_or_false("deprecated")?,
             full_range: object.field("fullRange")?,
-            detail: object.optional("detail"),
-        };
-        object.end(read)
+            detail: object.optional("detail")?,
+        })
     }
 
     fn to_value(&self, alloc: Global) -> Result<Value, NoMemory> {

@@ -93,12 +93,11 @@ impl Wire for Vertex {
             Some("project") => Ok(Vertex::Project(Project::from_value(alloc, value)?)),
             Some("document") => Ok(Vertex::Document(Document::from_value(alloc, value)?)),
             Some("range") => {
-                let mut object = Reader::new(alloc, value)?;
-                let read = Vertex::Range {
+                let object = Reader::new(alloc, value)?;
+                Ok(Vertex::Range {
                     range: Range::from_value(alloc, value)?,
-                    tag: object.optional("tag"),
-                };
-                object.end(read)
+                    tag: object.optional("tag")?,
+                })
             }
             Some("resultSet") => Ok(Vertex::ResultSet(ResultSet::from_value(alloc, value)?)),
             Some("moniker") => Ok(Vertex::Moniker(Moniker::from_value(alloc, value)?)),
@@ -247,14 +246,13 @@ impl Wire for MetaData {
     ghost shown = { meta_data_row.shown };
 
     fn from_value(alloc: Global, value: &Value) -> Result<MetaData, Misfit> {
-        let mut object = Reader::new(alloc, value)?;
-        let read = MetaData {
+        let object = Reader::new(alloc, value)?;
+        Ok(MetaData {
             version: object.field("version")?,
             project_root: object.field("projectRoot")?,
             position_encoding: object.field("positionEncoding")?,
-            tool_info: object.optional("toolInfo"),
-        };
-        object.end(read)
+            tool_info: object.optional("toolInfo")?,
+        })
     }
 
     fn to_value(&self, alloc: Global) -> Result<Value, NoMemory> {
@@ -314,13 +312,12 @@ impl Wire for ToolInfo {
     ghost shown = { tool_info_row.shown };
 
     fn from_value(alloc: Global, value: &Value) -> Result<ToolInfo, Misfit> {
-        let mut object = Reader::new(alloc, value)?;
-        let read = ToolInfo {
+        let object = Reader::new(alloc, value)?;
+        Ok(ToolInfo {
             name: object.field("name")?,
-            args: object.list_or_empty("args"),
-            version: object.optional("version"),
-        };
-        object.end(read)
+            args: object.list_or_empty("args")?,
+            version: object.optional("version")?,
+        })
     }
 
     fn to_value(&self, alloc: Global) -> Result<Value, NoMemory> {
@@ -351,13 +348,12 @@ impl Wire for Project {
     ghost shown = { project_row.shown };
 
     fn from_value(alloc: Global, value: &Value) -> Result<Project, Misfit> {
-        let mut object = Reader::new(alloc, value)?;
-        let read = Project {
-            resource: object.optional("resource"),
-            content: object.optional("content"),
+        let object = Reader::new(alloc, value)?;
+        Ok(Project {
+            resource: object.optional("resource")?,
+            content: object.optional("content")?,
             kind: object.field("kind")?,
-        };
-        object.end(read)
+        })
     }
 
     fn to_value(&self, alloc: Global) -> Result<Value, NoMemory> {
@@ -387,13 +383,12 @@ impl Wire for Repository {
     ghost shown = { repository_row.shown };
 
     fn from_value(alloc: Global, value: &Value) -> Result<Repository, Misfit> {
-        let mut object = Reader::new(alloc, value)?;
-        let read = Repository {
+        let object = Reader::new(alloc, value)?;
+        Ok(Repository {
             typ: object.field("type")?,
             url: object.field("url")?,
-            commit_id: object.optional("commitId"),
-        };
-        object.end(read)
+            commit_id: object.optional("commitId")?,
+        })
     }
 
     fn to_value(&self, alloc: Global) -> Result<Value, NoMemory> {
@@ -452,11 +447,10 @@ impl Wire for ResultSet {
     ghost shown = { result_set_row.shown };
 
     fn from_value(alloc: Global, value: &Value) -> Result<ResultSet, Misfit> {
-        let mut object = Reader::new(alloc, value)?;
-        let read = ResultSet {
-            key: object.optional("key"),
-        };
-        object.end(read)
+        let object = Reader::new(alloc, value)?;
+        Ok(ResultSet {
+            key: object.optional("key")?,
+        })
     }
 
     fn to_value(&self, alloc: Global) -> Result<Value, NoMemory> {
@@ -491,16 +485,15 @@ impl Wire for PackageInformation {
     ghost shown = { package_information_row.shown };
 
     fn from_value(alloc: Global, value: &Value) -> Result<PackageInformation, Misfit> {
-        let mut object = Reader::new(alloc, value)?;
-        let read = PackageInformation {
+        let object = Reader::new(alloc, value)?;
+        Ok(PackageInformation {
             name: object.field("name")?,
             manager: object.field("manager")?,
-            uri: object.optional("uri"),
-            content: object.optional("content"),
-            repository: object.optional("repository"),
-            version: object.optional("version"),
-        };
-        object.end(read)
+            uri: object.optional("uri")?,
+            content: object.optional("content")?,
+            repository: object.optional("repository")?,
+            version: object.optional("version")?,
+        })
     }
 
     fn to_value(&self, alloc: Global) -> Result<Value, NoMemory> {

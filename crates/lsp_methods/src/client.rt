@@ -38,16 +38,15 @@ impl Wire for ClientCapabilities {
     ghost shown = { client_capabilities_row.shown };
 
     fn from_value(alloc: Global, value: &Value) -> Result<ClientCapabilities, Misfit> {
-        let mut object = Reader::new(alloc, value)?;
-        let read = ClientCapabilities {
-            workspace: object.optional("workspace"),
-            text_document: object.optional("textDocument"),
-            notebook_document: object.optional("notebookDocument"),
-            window: object.optional("window"),
-            general: object.optional("general"),
-            experimental: object.optional("experimental"),
-        };
-        object.end(read)
+        let object = Reader::new(alloc, value)?;
+        Ok(ClientCapabilities {
+            workspace: object.optional("workspace")?,
+            text_document: object.optional("textDocument")?,
+            notebook_document: object.optional("notebookDocument")?,
+            window: object.optional("window")?,
+            general: object.optional("general")?,
+            experimental: object.optional("experimental")?,
+        })
     }
 
     fn to_value(&self, alloc: Global) -> Result<Value, NoMemory> {
@@ -132,20 +131,19 @@ impl Wire for InitializeParams {
     ghost shown = { initialize_params_row.shown };
 
     fn from_value(alloc: Global, value: &Value) -> Result<InitializeParams, Misfit> {
-        let mut object = Reader::new(alloc, value)?;
-        let read = InitializeParams {
-            process_id: object.optional("processId"),
-            root_path: object.optional("rootPath"),
-            root_uri: object.optional("rootUri"),
-            initialization_options: object.optional("initializationOptions"),
+        let object = Reader::new(alloc, value)?;
+        Ok(InitializeParams {
+            process_id: object.optional("processId")?,
+            root_path: object.optional("rootPath")?,
+            root_uri: object.optional("rootUri")?,
+            initialization_options: object.optional("initializationOptions")?,
             capabilities: object.field("capabilities")?,
-            trace: object.optional("trace"),
-            workspace_folders: object.optional("workspaceFolders"),
-            client_info: object.optional("clientInfo"),
-            locale: object.optional("locale"),
+            trace: object.optional("trace")?,
+            workspace_folders: object.optional("workspaceFolders")?,
+            client_info: object.optional("clientInfo")?,
+            locale: object.optional("locale")?,
             work_done_progress_params: WorkDoneProgressParams::from_value(alloc, value)?,
-        };
-        object.end(read)
+        })
     }
 
     fn to_value(&self, alloc: Global) -> Result<Value, NoMemory> {

@@ -21,7 +21,7 @@ use lsp_offer_work::{
     ExecuteCommandOptions, NotebookDocumentSyncOptions, NotebookDocumentSyncRegistrationOptions,
     ServerInfo, WorkspaceServerCapabilities,
 };
-use lsp_shape::{Copies, Misfit, NoMemory, Reader, Wire, Writer};
+use lsp_shape::{Copies, Misfit, NoMemory, Reader, WideReader, Wire, Writer};
 use serde_json::Value;
 use std::alloc::{AllocError, Global};
 
@@ -227,7 +227,7 @@ impl Wire for ServerCapabilities {
     ghost shown = { server_capabilities_row.shown };
 
     fn from_value(alloc: Global, value: &Value) -> Result<ServerCapabilities, Misfit> {
-        let mut object = Reader::new(alloc, value)?;
+        let mut object = WideReader::new(alloc, value)?;
         let read = ServerCapabilities {
             position_encoding: object.optional("positionEncoding"),
             text_document_sync: object.optional("textDocumentSync"),
@@ -340,12 +340,11 @@ impl Wire for InitializeResult {
     ghost shown = { initialize_result_row.shown };
 
     fn from_value(alloc: Global, value: &Value) -> Result<InitializeResult, Misfit> {
-        let mut object = Reader::new(alloc, value)?;
-        let read = InitializeResult {
+        let object = Reader::new(alloc, value)?;
+        Ok(InitializeResult {
             capabilities: object.field("capabilities")?,
-            server_info: object.optional("serverInfo"),
-        };
-        object.end(read)
+            server_info: object.optional("serverInfo")?,
+        })
     }
 
     fn to_value(&self, alloc: Global) -> Result<Value, NoMemory> {

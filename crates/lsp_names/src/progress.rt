@@ -21,11 +21,10 @@ impl Wire for WorkDoneProgressOptions {
     ghost shown = { work_done_progress_options_row.shown };
 
     fn from_value(alloc: Global, value: &Value) -> Result<WorkDoneProgressOptions, Misfit> {
-        let mut object = Reader::new(alloc, value)?;
-        let read = WorkDoneProgressOptions {
-            work_done_progress: object.optional("workDoneProgress"),
-        };
-        object.end(read)
+        let object = Reader::new(alloc, value)?;
+        Ok(WorkDoneProgressOptions {
+            work_done_progress: object.optional("workDoneProgress")?,
+        })
     }
 
     fn to_value(&self, alloc: Global) -> Result<Value, NoMemory> {

@@ -457,11 +457,10 @@ impl Wire for SemanticTokensFullOptionsDelta {
     ghost shown = { semantic_tokens_full_options_delta_row.shown };
 
     fn from_value(alloc: Global, value: &Value) -> Result<SemanticTokensFullOptionsDelta, Misfit> {
-        let mut object = Reader::new(alloc, value)?;
-        let read = SemanticTokensFullOptionsDelta {
-            delta: object.optional("delta"),
-        };
-        object.end(read)
+        let object = Reader::new(alloc, value)?;
+        Ok(SemanticTokensFullOptionsDelta {
+            delta: object.optional("delta")?,
+        })
     }
 
     fn to_value(&self, alloc: Global) -> Result<Value, NoMemory> {

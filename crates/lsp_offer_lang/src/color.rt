@@ -118,12 +118,11 @@ impl Wire for StaticTextDocumentColorProviderOptions {
         alloc: Global,
         value: &Value,
     ) -> Result<StaticTextDocumentColorProviderOptions, Misfit> {
-        let mut object = Reader::new(alloc, value)?;
-        let read = StaticTextDocumentColorProviderOptions {
-            document_selector: object.optional("documentSelector"),
-            id: object.optional("id"),
-        };
-        object.end(read)
+        let object = Reader::new(alloc, value)?;
+        Ok(StaticTextDocumentColorProviderOptions {
+            document_selector: object.optional("documentSelector")?,
+            id: object.optional("id")?,
+        })
     }
 
     fn to_value(&self, alloc: Global) -> Result<Value, NoMemory> {

@@ -64,14 +64,13 @@ impl Wire for DiagnosticOptions {
     ghost shown = { diagnostic_options_row.shown };
 
     fn from_value(alloc: Global, value: &Value) -> Result<DiagnosticOptions, Misfit> {
-        let mut object = Reader::new(alloc, value)?;
-        let read = DiagnosticOptions {
-            identifier: object.optional("identifier"),
+        let object = Reader::new(alloc, value)?;
+        Ok(DiagnosticOptions {
+            identifier: object.optional("identifier")?,
             inter_file_dependencies: object.field("interFileDependencies")?,
             workspace_diagnostics: object.field("workspaceDiagnostics")?,
             work_done_progress_options: WorkDoneProgressOptions::from_value(alloc, value)?,
-        };
-        object.end(read)
+        })
     }
 
     fn to_value(&self, alloc: Global) -> Result<Value, NoMemory> {

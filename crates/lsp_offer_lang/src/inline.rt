@@ -58,12 +58,11 @@ impl Wire for InlayHintOptions {
     ghost shown = { inlay_hint_options_row.shown };
 
     fn from_value(alloc: Global, value: &Value) -> Result<InlayHintOptions, Misfit> {
-        let mut object = Reader::new(alloc, value)?;
-        let read = InlayHintOptions {
+        let object = Reader::new(alloc, value)?;
+        Ok(InlayHintOptions {
             work_done_progress_options: WorkDoneProgressOptions::from_value(alloc, value)?,
-            resolve_provider: object.optional("resolveProvider"),
-        };
-        object.end(read)
+            resolve_provider: object.optional("resolveProvider")?,
+        })
     }
 
     fn to_value(&self, alloc: Global) -> Result<Value, NoMemory> {

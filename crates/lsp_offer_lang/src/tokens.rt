@@ -111,14 +111,13 @@ impl Wire for SemanticTokensOptions {
     ghost shown = { semantic_tokens_options_row.shown };
 
     fn from_value(alloc: Global, value: &Value) -> Result<SemanticTokensOptions, Misfit> {
-        let mut object = Reader::new(alloc, value)?;
-        let read = SemanticTokensOptions {
+        let object = Reader::new(alloc, value)?;
+        Ok(SemanticTokensOptions {
             work_done_progress_options: WorkDoneProgressOptions::from_value(alloc, value)?,
             legend: object.field("legend")?,
-            range: object.optional("range"),
-            full: object.optional("full"),
-        };
-        object.end(read)
+            range: object.optional("range")?,
+            full: object.optional("full")?,
+        })
     }
 
     fn to_value(&self, alloc: Global) -> Result<Value, NoMemory> {

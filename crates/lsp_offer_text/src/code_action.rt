@@ -78,13 +78,12 @@ impl Wire for CodeActionOptions {
     ghost shown = { code_action_options_row.shown };
 
     fn from_value(alloc: Global, value: &Value) -> Result<CodeActionOptions, Misfit> {
-        let mut object = Reader::new(alloc, value)?;
-        let read = CodeActionOptions {
-            code_action_kinds: object.optional("codeActionKinds"),
+        let object = Reader::new(alloc, value)?;
+        Ok(CodeActionOptions {
+            code_action_kinds: object.optional("codeActionKinds")?,
             work_done_progress_options: WorkDoneProgressOptions::from_value(alloc, value)?,
-            resolve_provider: object.optional("resolveProvider"),
-        };
-        object.end(read)
+            resolve_provider: object.optional("resolveProvider")?,
+        })
     }
 
     fn to_value(&self, alloc: Global) -> Result<Value, NoMemory> {
@@ -112,11 +111,10 @@ impl Wire for CodeLensOptions {
     ghost shown = { code_lens_options_row.shown };
 
     fn from_value(alloc: Global, value: &Value) -> Result<CodeLensOptions, Misfit> {
-        let mut object = Reader::new(alloc, value)?;
-        let read = CodeLensOptions {
-            resolve_provider: object.optional("resolveProvider"),
-        };
-        object.end(read)
+        let object = Reader::new(alloc, value)?;
+        Ok(CodeLensOptions {
+            resolve_provider: object.optional("resolveProvider")?,
+        })
     }
 
     fn to_value(&self, alloc: Global) -> Result<Value, NoMemory> {
@@ -145,12 +143,11 @@ impl Wire for DocumentLinkOptions {
     ghost shown = { document_link_options_row.shown };
 
     fn from_value(alloc: Global, value: &Value) -> Result<DocumentLinkOptions, Misfit> {
-        let mut object = Reader::new(alloc, value)?;
-        let read = DocumentLinkOptions {
-            resolve_provider: object.optional("resolveProvider"),
+        let object = Reader::new(alloc, value)?;
+        Ok(DocumentLinkOptions {
+            resolve_provider: object.optional("resolveProvider")?,
             work_done_progress_options: WorkDoneProgressOptions::from_value(alloc, value)?,
-        };
-        object.end(read)
+        })
     }
 
     fn to_value(&self, alloc: Global) -> Result<Value, NoMemory> {

@@ -33,15 +33,14 @@ impl Wire for CompletionOptions {
     ghost shown = { completion_options_row.shown };
 
     fn from_value(alloc: Global, value: &Value) -> Result<CompletionOptions, Misfit> {
-        let mut object = Reader::new(alloc, value)?;
-        let read = CompletionOptions {
-            resolve_provider: object.optional("resolveProvider"),
-            trigger_characters: object.optional("triggerCharacters"),
-            all_commit_characters: object.optional("allCommitCharacters"),
+        let object = Reader::new(alloc, value)?;
+        Ok(CompletionOptions {
+            resolve_provider: object.optional("resolveProvider")?,
+            trigger_characters: object.optional("triggerCharacters")?,
+            all_commit_characters: object.optional("allCommitCharacters")?,
             work_done_progress_options: WorkDoneProgressOptions::from_value(alloc, value)?,
-            completion_item: object.optional("completionItem"),
-        };
-        object.end(read)
+            completion_item: object.optional("completionItem")?,
+        })
     }
 
     fn to_value(&self, alloc: Global) -> Result<Value, NoMemory> {
@@ -71,11 +70,10 @@ impl Wire for CompletionOptionsCompletionItem {
     ghost shown = { completion_options_completion_item_row.shown };
 
     fn from_value(alloc: Global, value: &Value) -> Result<CompletionOptionsCompletionItem, Misfit> {
-        let mut object = Reader::new(alloc, value)?;
-        let read = CompletionOptionsCompletionItem {
-            label_details_support: object.optional("labelDetailsSupport"),
-        };
-        object.end(read)
+        let object = Reader::new(alloc, value)?;
+        Ok(CompletionOptionsCompletionItem {
+            label_details_support: object.optional("labelDetailsSupport")?,
+        })
     }
 
     fn to_value(&self, alloc: Global) -> Result<Value, NoMemory> {

@@ -94,12 +94,11 @@ impl Wire for DocumentOnTypeFormattingOptions {
     ghost shown = { document_on_type_formatting_options_row.shown };
 
     fn from_value(alloc: Global, value: &Value) -> Result<DocumentOnTypeFormattingOptions, Misfit> {
-        let mut object = Reader::new(alloc, value)?;
-        let read = DocumentOnTypeFormattingOptions {
+        let object = Reader::new(alloc, value)?;
+        Ok(DocumentOnTypeFormattingOptions {
             first_trigger_character: object.field("firstTriggerCharacter")?,
-            more_trigger_character: object.optional("moreTriggerCharacter"),
-        };
-        object.end(read)
+            more_trigger_character: object.optional("moreTriggerCharacter")?,
+        })
     }
 
     fn to_value(&self, alloc: Global) -> Result<Value, NoMemory> {
@@ -149,13 +148,12 @@ impl Wire for DocumentOnTypeFormattingRegistrationOptions {
         alloc: Global,
         value: &Value,
     ) -> Result<DocumentOnTypeFormattingRegistrationOptions, Misfit> {
-        let mut object = Reader::new(alloc, value)?;
-        let read = DocumentOnTypeFormattingRegistrationOptions {
-            document_selector: object.optional("documentSelector"),
+        let object = Reader::new(alloc, value)?;
+        Ok(DocumentOnTypeFormattingRegistrationOptions {
+            document_selector: object.optional("documentSelector")?,
             first_trigger_character: object.field("firstTriggerCharacter")?,
-            more_trigger_character: object.optional("moreTriggerCharacter"),
-        };
-        object.end(read)
+            more_trigger_character: object.optional("moreTriggerCharacter")?,
+        })
     }
 
     fn to_value(&self, alloc: Global) -> Result<Value, NoMemory> {
@@ -186,12 +184,11 @@ impl Wire for RenameOptions {
     ghost shown = { rename_options_row.shown };
 
     fn from_value(alloc: Global, value: &Value) -> Result<RenameOptions, Misfit> {
-        let mut object = Reader::new(alloc, value)?;
-        let read = RenameOptions {
-            prepare_provider: object.optional("prepareProvider"),
+        let object = Reader::new(alloc, value)?;
+        Ok(RenameOptions {
+            prepare_provider: object.optional("prepareProvider")?,
             work_done_progress_options: WorkDoneProgressOptions::from_value(alloc, value)?,
-        };
-        object.end(read)
+        })
     }
 
     fn to_value(&self, alloc: Global) -> Result<Value, NoMemory> {

@@ -32,12 +32,11 @@ impl Wire for StaticTextDocumentRegistrationOptions {
         alloc: Global,
         value: &Value,
     ) -> Result<StaticTextDocumentRegistrationOptions, Misfit> {
-        let mut object = Reader::new(alloc, value)?;
-        let read = StaticTextDocumentRegistrationOptions {
-            document_selector: object.optional("documentSelector"),
-            id: object.optional("id"),
-        };
-        object.end(read)
+        let object = Reader::new(alloc, value)?;
+        Ok(StaticTextDocumentRegistrationOptions {
+            document_selector: object.optional("documentSelector")?,
+            id: object.optional("id")?,
+        })
     }
 
     fn to_value(&self, alloc: Global) -> Result<Value, NoMemory> {

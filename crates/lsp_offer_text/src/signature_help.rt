@@ -28,13 +28,12 @@ impl Wire for SignatureHelpOptions {
     ghost shown = { signature_help_options_row.shown };
 
     fn from_value(alloc: Global, value: &Value) -> Result<SignatureHelpOptions, Misfit> {
-        let mut object = Reader::new(alloc, value)?;
-        let read = SignatureHelpOptions {
-            trigger_characters: object.optional("triggerCharacters"),
-            retrigger_characters: object.optional("retriggerCharacters"),
+        let object = Reader::new(alloc, value)?;
+        Ok(SignatureHelpOptions {
+            trigger_characters: object.optional("triggerCharacters")?,
+            retrigger_characters: object.optional("retriggerCharacters")?,
             work_done_progress_options: WorkDoneProgressOptions::from_value(alloc, value)?,
-        };
-        object.end(read)
+        })
     }
 
     fn to_value(&self, alloc: Global) -> Result<Value, NoMemory> {

@@ -25,12 +25,11 @@ impl Wire for DocumentSymbolOptions {
     ghost shown = { document_symbol_options_row.shown };
 
     fn from_value(alloc: Global, value: &Value) -> Result<DocumentSymbolOptions, Misfit> {
-        let mut object = Reader::new(alloc, value)?;
-        let read = DocumentSymbolOptions {
-            label: object.optional("label"),
+        let object = Reader::new(alloc, value)?;
+        Ok(DocumentSymbolOptions {
+            label: object.optional("label")?,
             work_done_progress_options: WorkDoneProgressOptions::from_value(alloc, value)?,
-        };
-        object.end(read)
+        })
     }
 
     fn to_value(&self, alloc: Global) -> Result<Value, NoMemory> {
@@ -60,12 +59,11 @@ impl Wire for WorkspaceSymbolOptions {
     ghost shown = { workspace_symbol_options_row.shown };
 
     fn from_value(alloc: Global, value: &Value) -> Result<WorkspaceSymbolOptions, Misfit> {
-        let mut object = Reader::new(alloc, value)?;
-        let read = WorkspaceSymbolOptions {
+        let object = Reader::new(alloc, value)?;
+        Ok(WorkspaceSymbolOptions {
             work_done_progress_options: WorkDoneProgressOptions::from_value(alloc, value)?,
-            resolve_provider: object.optional("resolveProvider"),
-        };
-        object.end(read)
+            resolve_provider: object.optional("resolveProvider")?,
+        })
     }
 
     fn to_value(&self, alloc: Global) -> Result<Value, NoMemory> {

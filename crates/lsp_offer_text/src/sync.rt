@@ -81,15 +81,14 @@ impl Wire for TextDocumentSyncOptions {
     ghost shown = { text_document_sync_options_row.shown };
 
     fn from_value(alloc: Global, value: &Value) -> Result<TextDocumentSyncOptions, Misfit> {
-        let mut object = Reader::new(alloc, value)?;
-        let read = TextDocumentSyncOptions {
-            open_close: object.optional("openClose"),
-            change: object.optional("change"),
-            will_save: object.optional("willSave"),
-            will_save_wait_until: object.optional("willSaveWaitUntil"),
-            save: object.optional("save"),
-        };
-        object.end(read)
+        let object = Reader::new(alloc, value)?;
+        Ok(TextDocumentSyncOptions {
+            open_close: object.optional("openClose")?,
+            change: object.optional("change")?,
+            will_save: object.optional("willSave")?,
+            will_save_wait_until: object.optional("willSaveWaitUntil")?,
+            save: object.optional("save")?,
+        })
     }
 
     fn to_value(&self, alloc: Global) -> Result<Value, NoMemory> {
@@ -164,11 +163,10 @@ impl Wire for SaveOptions {
     ghost shown = { save_options_row.shown };
 
     fn from_value(alloc: Global, value: &Value) -> Result<SaveOptions, Misfit> {
-        let mut object = Reader::new(alloc, value)?;
-        let read = SaveOptions {
-            include_text: object.optional("includeText"),
-        };
-        object.end(read)
+        let object = Reader::new(alloc, value)?;
+        Ok(SaveOptions {
+            include_text: object.optional("includeText")?,
+        })
     }
 
     fn to_value(&self, alloc: Global) -> Result<Value, NoMemory> {
@@ -200,12 +198,11 @@ impl Wire for TextDocumentChangeRegistrationOptions {
         alloc: Global,
         value: &Value,
     ) -> Result<TextDocumentChangeRegistrationOptions, Misfit> {
-        let mut object = Reader::new(alloc, value)?;
-        let read = TextDocumentChangeRegistrationOptions {
-            document_selector: object.optional("documentSelector"),
+        let object = Reader::new(alloc, value)?;
+        Ok(TextDocumentChangeRegistrationOptions {
+            document_selector: object.optional("documentSelector")?,
             sync_kind: object.field("syncKind")?,
-        };
-        object.end(read)
+        })
     }
 
     fn to_value(&self, alloc: Global) -> Result<Value, NoMemory> {
@@ -236,14 +233,13 @@ impl Wire for TextDocumentSaveRegistrationOptions {
         alloc: Global,
         value: &Value,
     ) -> Result<TextDocumentSaveRegistrationOptions, Misfit> {
-        let mut object = Reader::new(alloc, value)?;
-        let read = TextDocumentSaveRegistrationOptions {
-            include_text: object.optional("includeText"),
+        let object = Reader::new(alloc, value)?;
+        Ok(TextDocumentSaveRegistrationOptions {
+            include_text: object.optional("includeText")?,
             text_document_registration_options: TextDocumentRegistrationOptions::from_value(
                 alloc, value,
             )?,
-        };
-        object.end(read)
+        })
     }
 
     fn to_value(&self, alloc: Global) -> Result<Value, NoMemory> {

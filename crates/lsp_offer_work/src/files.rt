@@ -41,16 +41,15 @@ impl Wire for WorkspaceFileOperationsServerCapabilities {
         alloc: Global,
         value: &Value,
     ) -> Result<WorkspaceFileOperationsServerCapabilities, Misfit> {
-        let mut object = Reader::new(alloc, value)?;
-        let read = WorkspaceFileOperationsServerCapabilities {
-            did_create: object.optional("didCreate"),
-            will_create: object.optional("willCreate"),
-            did_rename: object.optional("didRename"),
-            will_rename: object.optional("willRename"),
-            did_delete: object.optional("didDelete"),
-            will_delete: object.optional("willDelete"),
-        };
-        object.end(read)
+        let object = Reader::new(alloc, value)?;
+        Ok(WorkspaceFileOperationsServerCapabilities {
+            did_create: object.optional("didCreate")?,
+            will_create: object.optional("willCreate")?,
+            did_rename: object.optional("didRename")?,
+            will_rename: object.optional("willRename")?,
+            did_delete: object.optional("didDelete")?,
+            will_delete: object.optional("willDelete")?,
+        })
     }
 
     fn to_value(&self, alloc: Global) -> Result<Value, NoMemory> {
@@ -140,12 +139,11 @@ impl Wire for FileOperationFilter {
     ghost shown = { file_operation_filter_row.shown };
 
     fn from_value(alloc: Global, value: &Value) -> Result<FileOperationFilter, Misfit> {
-        let mut object = Reader::new(alloc, value)?;
-        let read = FileOperationFilter {
-            scheme: object.optional("scheme"),
+        let object = Reader::new(alloc, value)?;
+        Ok(FileOperationFilter {
+            scheme: object.optional("scheme")?,
             pattern: object.field("pattern")?,
-        };
-        object.end(read)
+        })
     }
 
     fn to_value(&self, alloc: Global) -> Result<Value, NoMemory> {
@@ -204,11 +202,10 @@ impl Wire for FileOperationPatternOptions {
     ghost shown = { file_operation_pattern_options_row.shown };
 
     fn from_value(alloc: Global, value: &Value) -> Result<FileOperationPatternOptions, Misfit> {
-        let mut object = Reader::new(alloc, value)?;
-        let read = FileOperationPatternOptions {
-            ignore_case: object.optional("ignoreCase"),
-        };
-        object.end(read)
+        let object = Reader::new(alloc, value)?;
+        Ok(FileOperationPatternOptions {
+            ignore_case: object.optional("ignoreCase")?,
+        })
     }
 
     fn to_value(&self, alloc: Global) -> Result<Value, NoMemory> {
@@ -252,13 +249,12 @@ impl Wire for FileOperationPattern {
     ghost shown = { file_operation_pattern_row.shown };
 
     fn from_value(alloc: Global, value: &Value) -> Result<FileOperationPattern, Misfit> {
-        let mut object = Reader::new(alloc, value)?;
-        let read = FileOperationPattern {
+        let object = Reader::new(alloc, value)?;
+        Ok(FileOperationPattern {
             glob: object.field("glob")?,
-            matches: object.optional("matches"),
-            options: object.optional("options"),
-        };
-        object.end(read)
+            matches: object.optional("matches")?,
+            options: object.optional("options")?,
+        })
     }
 
     fn to_value(&self, alloc: Global) -> Result<Value, NoMemory> {

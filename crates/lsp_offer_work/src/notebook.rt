@@ -22,12 +22,11 @@ impl Wire for NotebookDocumentSyncOptions {
     ghost shown = { notebook_document_sync_options_row.shown };
 
     fn from_value(alloc: Global, value: &Value) -> Result<NotebookDocumentSyncOptions, Misfit> {
-        let mut object = Reader::new(alloc, value)?;
-        let read = NotebookDocumentSyncOptions {
+        let object = Reader::new(alloc, value)?;
+        Ok(NotebookDocumentSyncOptions {
             notebook_selector: object.field("notebookSelector")?,
-            save: object.optional("save"),
-        };
-        object.end(read)
+            save: object.optional("save")?,
+        })
     }
 
     fn to_value(&self, alloc: Global) -> Result<Value, NoMemory> {
@@ -62,13 +61,12 @@ impl Wire for NotebookDocumentSyncRegistrationOptions {
         alloc: Global,
         value: &Value,
     ) -> Result<NotebookDocumentSyncRegistrationOptions, Misfit> {
-        let mut object = Reader::new(alloc, value)?;
-        let read = NotebookDocumentSyncRegistrationOptions {
+        let object = Reader::new(alloc, value)?;
+        Ok(NotebookDocumentSyncRegistrationOptions {
             notebook_selector: object.field("notebookSelector")?,
-            save: object.optional("save"),
-            id: object.optional("id"),
-        };
-        object.end(read)
+            save: object.optional("save")?,
+            id: object.optional("id")?,
+        })
     }
 
     fn to_value(&self, alloc: Global) -> Result<Value, NoMemory> {
@@ -99,12 +97,11 @@ impl Wire for NotebookCellTextDocumentFilter {
     ghost shown = { notebook_cell_text_document_filter_row.shown };
 
     fn from_value(alloc: Global, value: &Value) -> Result<NotebookCellTextDocumentFilter, Misfit> {
-        let mut object = Reader::new(alloc, value)?;
-        let read = NotebookCellTextDocumentFilter {
+        let object = Reader::new(alloc, value)?;
+        Ok(NotebookCellTextDocumentFilter {
             notebook: object.field("notebook")?,
-            language: object.optional("language"),
-        };
-        object.end(read)
+            language: object.optional("language")?,
+        })
     }
 
     fn to_value(&self, alloc: Global) -> Result<Value, NoMemory> {
@@ -151,12 +148,11 @@ impl Wire for NotebookSelectorByNotebook {
     ghost shown = { notebook_selector_by_notebook_row.shown };
 
     fn from_value(alloc: Global, value: &Value) -> Result<NotebookSelectorByNotebook, Misfit> {
-        let mut object = Reader::new(alloc, value)?;
-        let read = NotebookSelectorByNotebook {
+        let object = Reader::new(alloc, value)?;
+        Ok(NotebookSelectorByNotebook {
             notebook: object.field("notebook")?,
-            cells: object.optional("cells"),
-        };
-        object.end(read)
+            cells: object.optional("cells")?,
+        })
     }
 
     fn to_value(&self, alloc: Global) -> Result<Value, NoMemory> {
@@ -181,12 +177,11 @@ impl Wire for NotebookSelectorByCells {
     ghost shown = { notebook_selector_by_cells_row.shown };
 
     fn from_value(alloc: Global, value: &Value) -> Result<NotebookSelectorByCells, Misfit> {
-        let mut object = Reader::new(alloc, value)?;
-        let read = NotebookSelectorByCells {
-            notebook: object.optional("notebook"),
+        let object = Reader::new(alloc, value)?;
+        Ok(NotebookSelectorByCells {
+            notebook: object.optional("notebook")?,
             cells: object.field("cells")?,
-        };
-        object.end(read)
+        })
     }
 
     fn to_value(&self, alloc: Global) -> Result<Value, NoMemory> {
@@ -343,13 +338,12 @@ impl Wire for NotebookDocumentFilterByType {
     ghost shown = { notebook_document_filter_by_type_row.shown };
 
     fn from_value(alloc: Global, value: &Value) -> Result<NotebookDocumentFilterByType, Misfit> {
-        let mut object = Reader::new(alloc, value)?;
-        let read = NotebookDocumentFilterByType {
+        let object = Reader::new(alloc, value)?;
+        Ok(NotebookDocumentFilterByType {
             notebook_type: object.field("notebookType")?,
-            scheme: object.optional("scheme"),
-            pattern: object.optional("pattern"),
-        };
-        object.end(read)
+            scheme: object.optional("scheme")?,
+            pattern: object.optional("pattern")?,
+        })
     }
 
     fn to_value(&self, alloc: Global) -> Result<Value, NoMemory> {
@@ -376,13 +370,12 @@ impl Wire for NotebookDocumentFilterByScheme {
     ghost shown = { notebook_document_filter_by_scheme_row.shown };
 
     fn from_value(alloc: Global, value: &Value) -> Result<NotebookDocumentFilterByScheme, Misfit> {
-        let mut object = Reader::new(alloc, value)?;
-        let read = NotebookDocumentFilterByScheme {
-            notebook_type: object.optional("notebookType"),
+        let object = Reader::new(alloc, value)?;
+        Ok(NotebookDocumentFilterByScheme {
+            notebook_type: object.optional("notebookType")?,
             scheme: object.field("scheme")?,
-            pattern: object.optional("pattern"),
-        };
-        object.end(read)
+            pattern: object.optional("pattern")?,
+        })
     }
 
     fn to_value(&self, alloc: Global) -> Result<Value, NoMemory> {
@@ -409,13 +402,12 @@ impl Wire for NotebookDocumentFilterByPattern {
     ghost shown = { notebook_document_filter_by_pattern_row.shown };
 
     fn from_value(alloc: Global, value: &Value) -> Result<NotebookDocumentFilterByPattern, Misfit> {
-        let mut object = Reader::new(alloc, value)?;
-        let read = NotebookDocumentFilterByPattern {
-            notebook_type: object.optional("notebookType"),
-            scheme: object.optional("scheme"),
+        let object = Reader::new(alloc, value)?;
+        Ok(NotebookDocumentFilterByPattern {
+            notebook_type: object.optional("notebookType")?,
+            scheme: object.optional("scheme")?,
             pattern: object.field("pattern")?,
-        };
-        object.end(read)
+        })
     }
 
     fn to_value(&self, alloc: Global) -> Result<Value, NoMemory> {

@@ -25,13 +25,12 @@ impl Wire for Registration {
     ghost shown = { registration_row.shown };
 
     fn from_value(alloc: Global, value: &Value) -> Result<Registration, Misfit> {
-        let mut object = Reader::new(alloc, value)?;
-        let read = Registration {
+        let object = Reader::new(alloc, value)?;
+        Ok(Registration {
             id: object.field("id")?,
             method: object.field("method")?,
-            register_options: object.optional("registerOptions"),
-        };
-        object.end(read)
+            register_options: object.optional("registerOptions")?,
+        })
     }
 
     fn to_value(&self, alloc: Global) -> Result<Value, NoMemory> {

@@ -36,12 +36,11 @@ impl Wire for ServerInfo {
     ghost shown = { server_info_row.shown };
 
     fn from_value(alloc: Global, value: &Value) -> Result<ServerInfo, Misfit> {
-        let mut object = Reader::new(alloc, value)?;
-        let read = ServerInfo {
+        let object = Reader::new(alloc, value)?;
+        Ok(ServerInfo {
             name: object.field("name")?,
-            version: object.optional("version"),
-        };
-        object.end(read)
+            version: object.optional("version")?,
+        })
     }
 
     fn to_value(&self, alloc: Global) -> Result<Value, NoMemory> {

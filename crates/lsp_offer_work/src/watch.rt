@@ -59,12 +59,11 @@ impl Wire for FileSystemWatcher {
     ghost shown = { file_system_watcher_row.shown };
 
     fn from_value(alloc: Global, value: &Value) -> Result<FileSystemWatcher, Misfit> {
-        let mut object = Reader::new(alloc, value)?;
-        let read = FileSystemWatcher {
+        let object = Reader::new(alloc, value)?;
+        Ok(FileSystemWatcher {
             glob_pattern: object.field("globPattern")?,
-            kind: object.optional("kind"),
-        };
-        object.end(read)
+            kind: object.optional("kind")?,
+        })
     }
 
     fn to_value(&self, alloc: Global) -> Result<Value, NoMemory> {

@@ -24,12 +24,11 @@ impl Wire for WorkspaceServerCapabilities {
     ghost shown = { workspace_server_capabilities_row.shown };
 
     fn from_value(alloc: Global, value: &Value) -> Result<WorkspaceServerCapabilities, Misfit> {
-        let mut object = Reader::new(alloc, value)?;
-        let read = WorkspaceServerCapabilities {
-            workspace_folders: object.optional("workspaceFolders"),
-            file_operations: object.optional("fileOperations"),
-        };
-        object.end(read)
+        let object = Reader::new(alloc, value)?;
+        Ok(WorkspaceServerCapabilities {
+            workspace_folders: object.optional("workspaceFolders")?,
+            file_operations: object.optional("fileOperations")?,
+        })
     }
 
     fn to_value(&self, alloc: Global) -> Result<Value, NoMemory> {
@@ -61,12 +60,11 @@ impl Wire for WorkspaceFoldersServerCapabilities {
         alloc: Global,
         value: &Value,
     ) -> Result<WorkspaceFoldersServerCapabilities, Misfit> {
-        let mut object = Reader::new(alloc, value)?;
-        let read = WorkspaceFoldersServerCapabilities {
-            supported: object.optional("supported"),
-            change_notifications: object.optional("changeNotifications"),
-        };
-        object.end(read)
+        let object = Reader::new(alloc, value)?;
+        Ok(WorkspaceFoldersServerCapabilities {
+            supported: object.optional("supported")?,
+            change_notifications: object.optional("changeNotifications")?,
+        })
     }
 
     fn to_value(&self, alloc: Global) -> Result<Value, NoMemory> {

@@ -39,15 +39,14 @@ impl Wire for DocumentDiagnosticParams {
     ghost shown = { document_diagnostic_params_row.shown };
 
     fn from_value(alloc: Global, value: &Value) -> Result<DocumentDiagnosticParams, Misfit> {
-        let mut object = Reader::new(alloc, value)?;
-        let read = DocumentDiagnosticParams {
+        let object = Reader::new(alloc, value)?;
+        Ok(DocumentDiagnosticParams {
             text_document: object.field("textDocument")?,
-            identifier: object.optional("identifier"),
-            previous_result_id: object.optional("previousResultId"),
+            identifier: object.optional("identifier")?,
+            previous_result_id: object.optional("previousResultId")?,
             work_done_progress_params: WorkDoneProgressParams::from_value(alloc, value)?,
             partial_result_params: PartialResultParams::from_value(alloc, value)?,
-        };
-        object.end(read)
+        })
     }
 
     fn to_value(&self, alloc: Global) -> Result<Value, NoMemory> {
@@ -259,14 +258,13 @@ impl Wire for RelatedFullDocumentDiagnosticReport {
         alloc: Global,
         value: &Value,
     ) -> Result<RelatedFullDocumentDiagnosticReport, Misfit> {
-        let mut object = Reader::new(alloc, value)?;
-        let read = RelatedFullDocumentDiagnosticReport {
-            related_documents: object.optional("relatedDocuments"),
+        let object = Reader::new(alloc, value)?;
+        Ok(RelatedFullDocumentDiagnosticReport {
+            related_documents: object.optional("relatedDocuments")?,
             full_document_diagnostic_report: FullDocumentDiagnosticReport::from_value(
                 alloc, value,
             )?,
-        };
-        object.end(read)
+        })
     }
 
     fn to_value(&self, alloc: Global) -> Result<Value, NoMemory> {
@@ -298,14 +296,13 @@ impl Wire for RelatedUnchangedDocumentDiagnosticReport {
         alloc: Global,
         value: &Value,
     ) -> Result<RelatedUnchangedDocumentDiagnosticReport, Misfit> {
-        let mut object = Reader::new(alloc, value)?;
-        let read = RelatedUnchangedDocumentDiagnosticReport {
-            related_documents: object.optional("relatedDocuments"),
+        let object = Reader::new(alloc, value)?;
+        Ok(RelatedUnchangedDocumentDiagnosticReport {
+            related_documents: object.optional("relatedDocuments")?,
             unchanged_document_diagnostic_report: UnchangedDocumentDiagnosticReport::from_value(
                 alloc, value,
             )?,
-        };
-        object.end(read)
+        })
     }
 
     fn to_value(&self, alloc: Global) -> Result<Value, NoMemory> {
@@ -346,12 +343,11 @@ impl Wire for FullDocumentDiagnosticReport {
     ghost shown = { full_document_diagnostic_report_row.shown };
 
     fn from_value(alloc: Global, value: &Value) -> Result<FullDocumentDiagnosticReport, Misfit> {
-        let mut object = Reader::new(alloc, value)?;
-        let read = FullDocumentDiagnosticReport {
-            result_id: object.optional("resultId"),
+        let object = Reader::new(alloc, value)?;
+        Ok(FullDocumentDiagnosticReport {
+            result_id: object.optional("resultId")?,
             items: object.field("items")?,
-        };
-        object.end(read)
+        })
     }
 
     fn to_value(&self, alloc: Global) -> Result<Value, NoMemory> {
@@ -413,11 +409,10 @@ impl Wire for DocumentDiagnosticReportPartialResult {
         alloc: Global,
         value: &Value,
     ) -> Result<DocumentDiagnosticReportPartialResult, Misfit> {
-        let mut object = Reader::new(alloc, value)?;
-        let read = DocumentDiagnosticReportPartialResult {
-            related_documents: object.optional("relatedDocuments"),
-        };
-        object.end(read)
+        let object = Reader::new(alloc, value)?;
+        Ok(DocumentDiagnosticReportPartialResult {
+            related_documents: object.optional("relatedDocuments")?,
+        })
     }
 
     fn to_value(&self, alloc: Global) -> Result<Value, NoMemory> {

@@ -34,15 +34,14 @@ impl Wire for NotebookDocument {
     ghost shown = { notebook_document_row.shown };
 
     fn from_value(alloc: Global, value: &Value) -> Result<NotebookDocument, Misfit> {
-        let mut object = Reader::new(alloc, value)?;
-        let read = NotebookDocument {
+        let object = Reader::new(alloc, value)?;
+        Ok(NotebookDocument {
             uri: object.field("uri")?,
             notebook_type: object.field("notebookType")?,
             version: object.field("version")?,
-            metadata: object.optional("metadata"),
+            metadata: object.optional("metadata")?,
             cells: object.field("cells")?,
-        };
-        object.end(read)
+        })
     }
 
     fn to_value(&self, alloc: Global) -> Result<Value, NoMemory> {
@@ -78,14 +77,13 @@ impl Wire for NotebookCell {
     ghost shown = { notebook_cell_row.shown };
 
     fn from_value(alloc: Global, value: &Value) -> Result<NotebookCell, Misfit> {
-        let mut object = Reader::new(alloc, value)?;
-        let read = NotebookCell {
+        let object = Reader::new(alloc, value)?;
+        Ok(NotebookCell {
             kind: object.field("kind")?,
             document: object.field("document")?,
-            metadata: object.optional("metadata"),
-            execution_summary: object.optional("executionSummary"),
-        };
-        object.end(read)
+            metadata: object.optional("metadata")?,
+            execution_summary: object.optional("executionSummary")?,
+        })
     }
 
     fn to_value(&self, alloc: Global) -> Result<Value, NoMemory> {
@@ -116,12 +114,11 @@ impl Wire for ExecutionSummary {
     ghost shown = { execution_summary_row.shown };
 
     fn from_value(alloc: Global, value: &Value) -> Result<ExecutionSummary, Misfit> {
-        let mut object = Reader::new(alloc, value)?;
-        let read = ExecutionSummary {
+        let object = Reader::new(alloc, value)?;
+        Ok(ExecutionSummary {
             execution_order: object.field("executionOrder")?,
-            success: object.optional("success"),
-        };
-        object.end(read)
+            success: object.optional("success")?,
+        })
     }
 
     fn to_value(&self, alloc: Global) -> Result<Value, NoMemory> {
@@ -247,12 +244,11 @@ impl Wire for NotebookDocumentChangeEvent {
     ghost shown = { notebook_document_change_event_row.shown };
 
     fn from_value(alloc: Global, value: &Value) -> Result<NotebookDocumentChangeEvent, Misfit> {
-        let mut object = Reader::new(alloc, value)?;
-        let read = NotebookDocumentChangeEvent {
-            metadata: object.optional("metadata"),
-            cells: object.optional("cells"),
-        };
-        object.end(read)
+        let object = Reader::new(alloc, value)?;
+        Ok(NotebookDocumentChangeEvent {
+            metadata: object.optional("metadata")?,
+            cells: object.optional("cells")?,
+        })
     }
 
     fn to_value(&self, alloc: Global) -> Result<Value, NoMemory> {
@@ -283,13 +279,12 @@ impl Wire for NotebookDocumentCellChange {
     ghost shown = { notebook_document_cell_change_row.shown };
 
     fn from_value(alloc: Global, value: &Value) -> Result<NotebookDocumentCellChange, Misfit> {
-        let mut object = Reader::new(alloc, value)?;
-        let read = NotebookDocumentCellChange {
-            structure: object.optional("structure"),
-            payload: object.optional("data"),
-            text_content: object.optional("textContent"),
-        };
-        object.end(read)
+        let object = Reader::new(alloc, value)?;
+        Ok(NotebookDocumentCellChange {
+            structure: object.optional("structure")?,
+            payload: object.optional("data")?,
+            text_content: object.optional("textContent")?,
+        })
     }
 
     fn to_value(&self, alloc: Global) -> Result<Value, NoMemory> {
@@ -358,13 +353,12 @@ impl Wire for NotebookDocumentCellChangeStructure {
         alloc: Global,
         value: &Value,
     ) -> Result<NotebookDocumentCellChangeStructure, Misfit> {
-        let mut object = Reader::new(alloc, value)?;
-        let read = NotebookDocumentCellChangeStructure {
+        let object = Reader::new(alloc, value)?;
+        Ok(NotebookDocumentCellChangeStructure {
             array: object.field("array")?,
-            did_open: object.optional("didOpen"),
-            did_close: object.optional("didClose"),
-        };
-        object.end(read)
+            did_open: object.optional("didOpen")?,
+            did_close: object.optional("didClose")?,
+        })
     }
 
     fn to_value(&self, alloc: Global) -> Result<Value, NoMemory> {
@@ -395,13 +389,12 @@ impl Wire for NotebookCellArrayChange {
     ghost shown = { notebook_cell_array_change_row.shown };
 
     fn from_value(alloc: Global, value: &Value) -> Result<NotebookCellArrayChange, Misfit> {
-        let mut object = Reader::new(alloc, value)?;
-        let read = NotebookCellArrayChange {
+        let object = Reader::new(alloc, value)?;
+        Ok(NotebookCellArrayChange {
             start: object.field("start")?,
             delete_count: object.field("deleteCount")?,
-            cells: object.optional("cells"),
-        };
-        object.end(read)
+            cells: object.optional("cells")?,
+        })
     }
 
     fn to_value(&self, alloc: Global) -> Result<Value, NoMemory> {

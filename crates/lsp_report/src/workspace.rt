@@ -36,14 +36,13 @@ impl Wire for WorkspaceDiagnosticParams {
     ghost shown = { workspace_diagnostic_params_row.shown };
 
     fn from_value(alloc: Global, value: &Value) -> Result<WorkspaceDiagnosticParams, Misfit> {
-        let mut object = Reader::new(alloc, value)?;
-        let read = WorkspaceDiagnosticParams {
-            identifier: object.optional("identifier"),
+        let object = Reader::new(alloc, value)?;
+        Ok(WorkspaceDiagnosticParams {
+            identifier: object.optional("identifier")?,
             previous_result_ids: object.field("previousResultIds")?,
             work_done_progress_params: WorkDoneProgressParams::from_value(alloc, value)?,
             partial_result_params: PartialResultParams::from_value(alloc, value)?,
-        };
-        object.end(read)
+        })
     }
 
     fn to_value(&self, alloc: Global) -> Result<Value, NoMemory> {
@@ -262,15 +261,14 @@ impl Wire for WorkspaceFullDocumentDiagnosticReport {
         alloc: Global,
         value: &Value,
     ) -> Result<WorkspaceFullDocumentDiagnosticReport, Misfit> {
-        let mut object = Reader::new(alloc, value)?;
-        let read = WorkspaceFullDocumentDiagnosticReport {
+        let object = Reader::new(alloc, value)?;
+        Ok(WorkspaceFullDocumentDiagnosticReport {
             uri: object.field("uri")?,
-            version: object.optional("version"),
+            version: object.optional("version")?,
             full_document_diagnostic_report: FullDocumentDiagnosticReport::from_value(
                 alloc, value,
             )?,
-        };
-        object.end(read)
+        })
     }
 
     fn to_value(&self, alloc: Global) -> Result<Value, NoMemory> {
@@ -305,15 +303,14 @@ impl Wire for WorkspaceUnchangedDocumentDiagnosticReport {
         alloc: Global,
         value: &Value,
     ) -> Result<WorkspaceUnchangedDocumentDiagnosticReport, Misfit> {
-        let mut object = Reader::new(alloc, value)?;
-        let read = WorkspaceUnchangedDocumentDiagnosticReport {
+        let object = Reader::new(alloc, value)?;
+        Ok(WorkspaceUnchangedDocumentDiagnosticReport {
             uri: object.field("uri")?,
-            version: object.optional("version"),
+            version: object.optional("version")?,
             unchanged_document_diagnostic_report: UnchangedDocumentDiagnosticReport::from_value(
                 alloc, value,
             )?,
-        };
-        object.end(read)
+        })
     }
 
     fn to_value(&self, alloc: Global) -> Result<Value, NoMemory> {

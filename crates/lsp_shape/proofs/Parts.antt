@@ -8,8 +8,8 @@ use Rattle.lsp_shape.specs.Shape.{Rule, required, omitted, Shape, Fields, no_fie
 use Rattle.lsp_shape.specs.Read.{and_part, read, read_fields, read_member, read_supported, reads_none}
 use Rattle.lsp_shape.specs.Write.{write, write_fields, write_member, writes_null}
 use Rattle.lsp_shape.specs.Values.{is_of, are_fields, by_rule, is_none, is_maybe}
-use Rattle.lsp_shape.specs.Object.{read_from, misfit_of, Takes, written_to, is_whole, Puts}
-use Rattle.lsp_shape.specs.declared.object.Reader.{Reader}
+use Rattle.lsp_shape.specs.Object.{members_of, misfit_of, Takes, written_to, is_whole, Puts}
+use Rattle.lsp_shape.specs.declared.object.WideReader.{WideReader}
 use Rattle.lsp_shape.specs.declared.object.Writer.{Writer}
 use Rattle.lsp_shape.specs.declared.wire.Misfit.{Misfit}
 use Rattle.lsp_shape.specs.declared.wire.Misfit.TheVariants.{Unfit}
@@ -35,44 +35,44 @@ fields_none fs d ms e a = rw (e, a) refl
 -- ---- a record that is read, line by line: by the last line, and then by each line before it
 
 -- from here on the fields are read as these parts, and no misfit is to be told
-pub record Reads (now : Reader) (fs : Fields) (ps : Parts) : Type 0 where
+pub record Reads (now : WideReader) (fs : Fields) (ps : Parts) : Type 0 where
   fits : misfit_of now ≡ None
-  read : read_fields fs reads_none (object (read_from now)) ≡ Some ps
+  read : read_fields fs reads_none (object (members_of now)) ≡ Some ps
 
-pub reads_end : (now : Reader) → misfit_of now ≡ None → Reads now no_fields no_parts
+pub reads_end : (now : WideReader) → misfit_of now ≡ None → Reads now no_fields no_parts
 reads_end now a = record { fits = a; read = refl }
 
-later : (old new : Reader) (fs : Fields) → read_from new ≡ read_from old → read_fields fs reads_none (object (read_from old)) ≡ read_fields fs reads_none (object (read_from new))
+later : (old new : WideReader) (fs : Fields) → members_of new ≡ members_of old → read_fields fs reads_none (object (members_of old)) ≡ read_fields fs reads_none (object (members_of new))
 later old new fs e = ap (λ (ms : Members). read_fields fs reads_none (object ms)) (sym e)
 
 -- a member whose misfit is told at the end
-pub reads_member : {old : Reader} {name : List ℕ} {r : Rule} {s : Shape} {p : Plain} {fs : Fields} {ps : Parts} (new : Reader) → Takes old new (read_member r (read s) (get_member name (read_from old))) p → Reads new fs ps → Reads old (field name r s fs) (part p ps)
+pub reads_member : {old : WideReader} {name : List ℕ} {r : Rule} {s : Shape} {p : Plain} {fs : Fields} {ps : Parts} (new : WideReader) → Takes old new (read_member r (read s) (get_member name (members_of old))) p → Reads new fs ps → Reads old (field name r s fs) (part p ps)
 reads_member {old} {name} {r} {s} {p} {fs} {ps} new t a = record {
   fits = t.1 a.fits;
-  read = and_part-Some {o = read_member r (read s) (get_member name (read_from old))} (t.2 a.fits) (later old new fs t.0 ∙ a.read);
+  read = and_part-Some {o = read_member r (read s) (get_member name (members_of old))} (t.2 a.fits) (later old new fs t.0 ∙ a.read);
 }
 
-pub reads_supported : {old : Reader} {name : List ℕ} {s : Shape} {p : Plain} {fs : Fields} {ps : Parts} (new : Reader) → Takes old new (read_supported (read s) (get_member name (read_from old))) p → Reads new fs ps → Reads old (supported name s fs) (part p ps)
+pub reads_supported : {old : WideReader} {name : List ℕ} {s : Shape} {p : Plain} {fs : Fields} {ps : Parts} (new : WideReader) → Takes old new (read_supported (read s) (get_member name (members_of old))) p → Reads new fs ps → Reads old (supported name s fs) (part p ps)
 reads_supported {old} {name} {s} {p} {fs} {ps} new t a = record {
   fits = t.1 a.fits;
-  read = and_part-Some {o = read_supported (read s) (get_member name (read_from old))} (t.2 a.fits) (later old new fs t.0 ∙ a.read);
+  read = and_part-Some {o = read_supported (read s) (get_member name (members_of old))} (t.2 a.fits) (later old new fs t.0 ∙ a.read);
 }
 
 -- a member that was read at once
-pub reads_required : {now : Reader} {name : List ℕ} {s : Shape} {p : Plain} {fs : Fields} {ps : Parts} → read_member required (read s) (get_member name (read_from now)) ≡ Some p → Reads now fs ps → Reads now (field name required s fs) (part p ps)
+pub reads_required : {now : WideReader} {name : List ℕ} {s : Shape} {p : Plain} {fs : Fields} {ps : Parts} → read_member required (read s) (get_member name (members_of now)) ≡ Some p → Reads now fs ps → Reads now (field name required s fs) (part p ps)
 reads_required {now} {name} {s} {p} {fs} {ps} e a = record {
   fits = a.fits;
-  read = and_part-Some {o = read_member required (read s) (get_member name (read_from now))} e a.read;
+  read = and_part-Some {o = read_member required (read s) (get_member name (members_of now))} e a.read;
 }
 
-pub record_read : (fs : Fields) (ps : Parts) (now : Reader) (d : Data) → d ≡ object (read_from now) → Reads now fs ps → read (fields fs) d ≡ Some (parts ps)
-record_read fs ps now d e a = fields_some fs d (read_from now) ps e a.read
+pub record_read : (fs : Fields) (ps : Parts) (now : WideReader) (d : Data) → d ≡ object (members_of now) → Reads now fs ps → read (fields fs) d ≡ Some (parts ps)
+record_read fs ps now d e a = fields_some fs d (members_of now) ps e a.read
 
 -- from here on the fields are not read, or `Unfit` is to be told
-pub record Unread (now : Reader) (fs : Fields) : Type 0 where
-  why : (misfit_of now ≡ Some Unfit) ⊎ (read_fields fs reads_none (object (read_from now)) ≡ None)
+pub record Unread (now : WideReader) (fs : Fields) : Type 0 where
+  why : (misfit_of now ≡ Some Unfit) ⊎ (read_fields fs reads_none (object (members_of now)) ≡ None)
 
-pub unread_end : (now : Reader) → misfit_of now ≡ Some Unfit → Unread now no_fields
+pub unread_end : (now : WideReader) → misfit_of now ≡ Some Unfit → Unread now no_fields
 unread_end now a = record { why = inl a }
 
 one_of_them : {A B : Type 0} (o : Option Plain) (r : Option Parts) → (A → (o ≡ None) ⊎ B) → A ⊎ (r ≡ None) → B ⊎ (and_part o r ≡ None)
@@ -83,31 +83,31 @@ one_of_them {A} {B} o r f (inl a) = case (f a)
     case (inr b) = inl b
 one_of_them o r f (inr e) = inr (none_right o r e)
 
-earlier : {A : Type 0} (old new : Reader) (fs : Fields) → read_from new ≡ read_from old → A ⊎ (read_fields fs reads_none (object (read_from new)) ≡ None) → A ⊎ (read_fields fs reads_none (object (read_from old)) ≡ None)
+earlier : {A : Type 0} (old new : WideReader) (fs : Fields) → members_of new ≡ members_of old → A ⊎ (read_fields fs reads_none (object (members_of new)) ≡ None) → A ⊎ (read_fields fs reads_none (object (members_of old)) ≡ None)
 earlier old new fs e (inl a) = inl a
 earlier old new fs e (inr a) = inr (later old new fs e ∙ a)
 
-pub unread_member : {old : Reader} {name : List ℕ} {r : Rule} {s : Shape} {p : Plain} {fs : Fields} (new : Reader) → Takes old new (read_member r (read s) (get_member name (read_from old))) p → Unread new fs → Unread old (field name r s fs)
-unread_member {old} {name} {r} {s} {p} {fs} new t a = record { why = one_of_them (read_member r (read s) (get_member name (read_from old))) _ t.3 (earlier old new fs t.0 a.why) }
+pub unread_member : {old : WideReader} {name : List ℕ} {r : Rule} {s : Shape} {p : Plain} {fs : Fields} (new : WideReader) → Takes old new (read_member r (read s) (get_member name (members_of old))) p → Unread new fs → Unread old (field name r s fs)
+unread_member {old} {name} {r} {s} {p} {fs} new t a = record { why = one_of_them (read_member r (read s) (get_member name (members_of old))) _ t.3 (earlier old new fs t.0 a.why) }
 
-pub unread_supported : {old : Reader} {name : List ℕ} {s : Shape} {p : Plain} {fs : Fields} (new : Reader) → Takes old new (read_supported (read s) (get_member name (read_from old))) p → Unread new fs → Unread old (supported name s fs)
-unread_supported {old} {name} {s} {p} {fs} new t a = record { why = one_of_them (read_supported (read s) (get_member name (read_from old))) _ t.3 (earlier old new fs t.0 a.why) }
+pub unread_supported : {old : WideReader} {name : List ℕ} {s : Shape} {p : Plain} {fs : Fields} (new : WideReader) → Takes old new (read_supported (read s) (get_member name (members_of old))) p → Unread new fs → Unread old (supported name s fs)
+unread_supported {old} {name} {s} {p} {fs} new t a = record { why = one_of_them (read_supported (read s) (get_member name (members_of old))) _ t.3 (earlier old new fs t.0 a.why) }
 
 behind : {A : Type 0} (o : Option Plain) (r : Option Parts) → A ⊎ (r ≡ None) → A ⊎ (and_part o r ≡ None)
 behind o r (inl a) = inl a
 behind o r (inr e) = inr (none_right o r e)
 
 -- a member that was read at once
-pub unread_required : {now : Reader} {name : List ℕ} {s : Shape} {fs : Fields} → Unread now fs → Unread now (field name required s fs)
-unread_required {now} {name} {s} {fs} a = record { why = behind (read_member required (read s) (get_member name (read_from now))) _ a.why }
+pub unread_required : {now : WideReader} {name : List ℕ} {s : Shape} {fs : Fields} → Unread now fs → Unread now (field name required s fs)
+unread_required {now} {name} {s} {fs} a = record { why = behind (read_member required (read s) (get_member name (members_of now))) _ a.why }
 
 never : {A : Type 0} (m : Option Misfit) → m ≡ None → m ≡ Some Unfit → A
 never m a b = absurd (cc)
 
-pub record_unread : (fs : Fields) (now : Reader) (d : Data) → d ≡ object (read_from now) → misfit_of now ≡ None → Unread now fs → read (fields fs) d ≡ None
-record_unread fs now d e a u = fields_none fs d (read_from now) e (none u.why)
+pub record_unread : (fs : Fields) (now : WideReader) (d : Data) → d ≡ object (members_of now) → misfit_of now ≡ None → Unread now fs → read (fields fs) d ≡ None
+record_unread fs now d e a u = fields_none fs d (members_of now) e (none u.why)
   where
-    none : (misfit_of now ≡ Some Unfit) ⊎ (read_fields fs reads_none (object (read_from now)) ≡ None) → read_fields fs reads_none (object (read_from now)) ≡ None
+    none : (misfit_of now ≡ Some Unfit) ⊎ (read_fields fs reads_none (object (members_of now)) ≡ None) → read_fields fs reads_none (object (members_of now)) ≡ None
     none (inl b) = never (misfit_of now) a b
     none (inr b) = b
 

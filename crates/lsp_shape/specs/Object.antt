@@ -4,6 +4,7 @@ use Rattle.serde_json.specs.Data.{Members}
 use Rattle.serde_json.specs.View.{members_view}
 use Rattle.lsp_shape.specs.Plain.{Plain}
 use Rattle.lsp_shape.specs.declared.object.Reader.{Reader}
+use Rattle.lsp_shape.specs.declared.object.WideReader.{WideReader}
 use Rattle.lsp_shape.specs.declared.object.Writer.{Writer}
 use Rattle.lsp_shape.specs.declared.wire.Misfit.{Misfit}
 use Rattle.lsp_shape.specs.declared.wire.Misfit.TheVariants.{Unfit}
@@ -12,14 +13,18 @@ use Rattle.lsp_shape.specs.declared.wire.Misfit.TheVariants.{Unfit}
 abbrev pub read_from : Reader → Members
 read_from reader = members_view reader.object.now.entries
 
+-- the members of the object of a wide record that is read
+abbrev pub members_of : WideReader → Members
+members_of reader = read_from reader.object
+
 -- what its end will tell
-abbrev pub misfit_of : Reader → Option Misfit
+abbrev pub misfit_of : WideReader → Option Misfit
 misfit_of reader = reader.misfit
 
 -- A call took p for a member that is read as r. The first misfit is kept, and it is `Unfit` only where r is None.
-abbrev pub Takes : Reader → Reader → Option Plain → Plain → Type 0
+abbrev pub Takes : WideReader → WideReader → Option Plain → Plain → Type 0
 Takes old new r p =
-    (read_from new ≡ read_from old)
+    (members_of new ≡ members_of old)
     × (misfit_of new ≡ None → misfit_of old ≡ None)
     × (misfit_of new ≡ None → r ≡ Some p)
     × (misfit_of new ≡ Some Unfit → (r ≡ None) ⊎ (misfit_of old ≡ Some Unfit))

@@ -20,6 +20,6 @@ pub use member::{
     put_unless_false, put_value, supported, truth_or_false,
 };
 pub use no_memory::NoMemory;
-pub use object::{Reader, Writer};
+pub use object::{Reader, WideReader, Writer};
 pub use tokens::TokenNumbers;
 pub use wire::{Misfit, Wire};

@@ -1,10 +1,11 @@
-// An object that is read, and one that is written. What fails on the way is told at the end, so that
-// a record with many members is read and written line by line, with no test after each.
+// An object that is read, and one that is written. A writer, and the reader of a wide record, tell at
+// their end what failed, so that a record with many members is written or read line by line, with no
+// test after each.
 ghost use Rattle.std.specs.Prelude.{◌≡◌, IfOk, OnOk, IsOk, true, IsErrOf, Some, None, option_map, Option, List, ℕ, map};
 ghost use Rattle.serde_json.specs.Data.{Data, Members, object as object_of, put as with_member, no_members, string};
 ghost use Rattle.serde_json.specs.Find.{get_member};
 ghost use Rattle.serde_json.specs.View.{view};
-ghost use Rattle.lsp_shape.specs.Object.{read_from, misfit_of, Takes, written_to, is_whole, Puts};
+ghost use Rattle.lsp_shape.specs.Object.{read_from, members_of, misfit_of, Takes, written_to, is_whole, Puts};
 ghost use Rattle.lsp_shape.specs.Plain.{maybe_of, Parts, entries_of};
 ghost use Rattle.lsp_shape.specs.Shape.{required, omitted, or_empty, or_false, list, truth, unless_empty, unless_false};
 ghost use Rattle.lsp_shape.specs.Shown.{show_list, show_bool};
@@ -20,21 +21,17 @@ use serde_json::{Map, Value};
 use std::alloc::Global;
 use std::collections::HashMap;
 
-/// An object that is read, member by member. A member that has to be there is `Unfit` at once where
-/// it is missing or does not fit. The first misfit of the others is told at the end: from then on
-/// nothing more is read of them.
-#[derive(Drop)]
+/// An object that is read, member by member. A member that does not fit, or is missing, is `Unfit`.
+#[derive(Clone, Copy)]
 pub struct Reader<'v> {
     alloc: Global,
     object: &'v Map<String, Value>,
-    misfit: Option<Misfit>,
 }
 
 impl<'v> Reader<'v> {
     /// The members of the object that the value is. `Unfit` comes only where it is none.
     pub fn new(alloc: Global, value: &'v Value) -> Result<Reader<'v>, Misfit>
         ensures ok { IfOk result (λ r. view value.now ≡ object_of (read_from r)) }
-        ensures fits { IfOk result (λ r. misfit_of r ≡ None) }
         ensures unfit { IsErrOf result Misfit.Unfit → (f : Data → Option Parts)
             → read_record f (view value.now) ≡ None }
         ensures unfit_rest { IsErrOf result Misfit.Unfit
@@ -42,11 +39,7 @@ impl<'v> Reader<'v> {
             → read_with_rest f g (view value.now) ≡ None }
     {
         match value {
-            Value::Object(object) => Ok(Reader {
-                alloc,
-                object,
-                misfit: None,
-            }),
+            Value::Object(object) => Ok(Reader { alloc, object }),
             _ => Err(Misfit::Unfit),
         }
     }
@@ -64,75 +57,48 @@ impl<'v> Reader<'v> {
     }
 
     /// The member of that name, and None where it is missing or null.
-    pub fn optional<T: Wire>(&mut self, name: &str) -> Option<T>
-        ensures { Takes self.old self.new
-            (read_member omitted (read T.shape) (get_member name.now (read_from self.old)))
-            (maybe_of (option_map T.shown result)) }
+    pub fn optional<T: Wire>(&self, name: &str) -> Result<Option<T>, Misfit>
+        ensures read { IfOk result
+            (λ o. read_member omitted (read T.shape) (get_member name.now (read_from self.now))
+            ≡ Some (maybe_of (option_map T.shown o))) }
+        ensures unfit { IsErrOf result Misfit.Unfit
+            → read_member omitted (read T.shape) (get_member name.now (read_from self.now)) ≡ None }
     {
-        if self.misfit.is_some() {
-            return None;
-        }
-        match member::optional(self.alloc, self.object, name) {
-            Ok(value) => value,
-            Err(misfit) => {
-                self.misfit = Some(misfit);
-                None
-            }
-        }
+        member::optional(self.alloc, self.object, name)
     }
 
     /// The same, but false is None too, and true is read as `{"valueSet": []}` is.
-    pub fn supported<T: Wire>(&mut self, name: &str) -> Option<T>
-        ensures { Takes self.old self.new
-            (read_supported (read T.shape) (get_member name.now (read_from self.old)))
-            (maybe_of (option_map T.shown result)) }
+    pub fn supported<T: Wire>(&self, name: &str) -> Result<Option<T>, Misfit>
+        ensures read { IfOk result
+            (λ o. read_supported (read T.shape) (get_member name.now (read_from self.now))
+            ≡ Some (maybe_of (option_map T.shown o))) }
+        ensures unfit { IsErrOf result Misfit.Unfit
+            → read_supported (read T.shape) (get_member name.now (read_from self.now)) ≡ None }
     {
-        if self.misfit.is_some() {
-            return None;
-        }
-        match member::supported(self.alloc, self.object, name) {
-            Ok(value) => value,
-            Err(misfit) => {
-                self.misfit = Some(misfit);
-                None
-            }
-        }
+        member::supported(self.alloc, self.object, name)
     }
 
     /// The member of that name, and an empty list where it is missing.
-    pub fn list_or_empty<T: Wire>(&mut self, name: &str) -> Vec<T>
-        ensures { Takes self.old self.new
-            (read_member or_empty (read (list T.shape)) (get_member name.now (read_from self.old)))
-            (show_list T.shown result) }
+    pub fn list_or_empty<T: Wire>(&self, name: &str) -> Result<Vec<T>, Misfit>
+        ensures read { IfOk result
+            (λ x. read_member or_empty (read (list T.shape))
+            (get_member name.now (read_from self.now)) ≡ Some (show_list T.shown x)) }
+        ensures unfit { IsErrOf result Misfit.Unfit
+            → read_member or_empty (read (list T.shape)) (get_member name.now (read_from self.now))
+            ≡ None }
     {
-        if self.misfit.is_some() {
-            return Vec::new(self.alloc);
-        }
-        match member::list_or_empty(self.alloc, self.object, name) {
-            Ok(value) => value,
-            Err(misfit) => {
-                self.misfit = Some(misfit);
-                Vec::new(self.alloc)
-            }
-        }
+        member::list_or_empty(self.alloc, self.object, name)
     }
 
     /// The member of that name, and false where it is missing.
-    pub fn truth_or_false(&mut self, name: &str) -> bool
-        ensures { Takes self.old self.new
-            (read_member or_false (read truth) (get_member name.now (read_from self.old)))
-            (show_bool result) }
+    pub fn truth_or_false(&self, name: &str) -> Result<bool, Misfit>
+        ensures read { IfOk result
+            (λ b. read_member or_false (read truth) (get_member name.now (read_from self.now))
+            ≡ Some (show_bool b)) }
+        ensures unfit { IsErrOf result Misfit.Unfit
+            → read_member or_false (read truth) (get_member name.now (read_from self.now)) ≡ None }
     {
-        if self.misfit.is_some() {
-            return false;
-        }
-        match member::truth_or_false(self.alloc, self.object, name) {
-            Ok(value) => value,
-            Err(misfit) => {
-                self.misfit = Some(misfit);
-                false
-            }
-        }
+        member::truth_or_false(self.alloc, self.object, name)
     }
 
     /// The members that are not named, as a map.
@@ -145,6 +111,79 @@ impl<'v> Reader<'v> {
             ≡ None }
     {
         map::rest(self.alloc, self.object, names)
+    }
+}
+
+/// The object of a wide record that is read, member by member. A member that has to be there is
+/// `Unfit` at once where it is missing or does not fit. The first misfit of the others is told at
+/// the end: from then on nothing more is read of them. So each of them is a line, with no test
+/// after it: the tests of a `Reader` cost the prover as much as all that was read before them.
+#[derive(Drop)]
+pub struct WideReader<'v> {
+    object: Reader<'v>,
+    misfit: Option<Misfit>,
+}
+
+impl<'v> WideReader<'v> {
+    /// The members of the object that the value is. `Unfit` comes only where it is none.
+    pub fn new(alloc: Global, value: &'v Value) -> Result<WideReader<'v>, Misfit>
+        ensures ok { IfOk result (λ r. view value.now ≡ object_of (members_of r)) }
+        ensures fits { IfOk result (λ r. misfit_of r ≡ None) }
+        ensures unfit { IsErrOf result Misfit.Unfit → (f : Data → Option Parts)
+            → read_record f (view value.now) ≡ None }
+    {
+        Ok(WideReader {
+            object: Reader::new(alloc, value)?,
+            misfit: None,
+        })
+    }
+
+    /// The member of that name.
+    pub fn field<T: Wire>(&self, name: &str) -> Result<T, Misfit>
+        ensures read { IfOk result
+            (λ x. read_member required (read T.shape) (get_member name.now (members_of self.now))
+            ≡ Some (T.shown x)) }
+        ensures unfit { IsErrOf result Misfit.Unfit
+            → read_member required (read T.shape) (get_member name.now (members_of self.now))
+            ≡ None }
+    {
+        self.object.field(name)
+    }
+
+    /// The member of that name, and None where it is missing or null.
+    pub fn optional<T: Wire>(&mut self, name: &str) -> Option<T>
+        ensures { Takes self.old self.new
+            (read_member omitted (read T.shape) (get_member name.now (members_of self.old)))
+            (maybe_of (option_map T.shown result)) }
+    {
+        if self.misfit.is_some() {
+            return None;
+        }
+        match self.object.optional(name) {
+            Ok(value) => value,
+            Err(misfit) => {
+                self.misfit = Some(misfit);
+                None
+            }
+        }
+    }
+
+    /// The same, but false is None too, and true is read as `{"valueSet": []}` is.
+    pub fn supported<T: Wire>(&mut self, name: &str) -> Option<T>
+        ensures { Takes self.old self.new
+            (read_supported (read T.shape) (get_member name.now (members_of self.old)))
+            (maybe_of (option_map T.shown result)) }
+    {
+        if self.misfit.is_some() {
+            return None;
+        }
+        match self.object.supported(name) {
+            Ok(value) => value,
+            Err(misfit) => {
+                self.misfit = Some(misfit);
+                None
+            }
+        }
     }
 
     /// What was read of the object, or the first misfit that was met.

@@ -2,8 +2,8 @@
 // as.
 use lsp_rows::{RowError, Trial};
 use lsp_shape::{
-    Key, Misfit, NoMemory, Reader, TokenNumbers, Wire, Writer, attempt, field, find, list_or_empty,
-    members_written, optional, put, put_flat, put_nullable, put_optional, put_tag,
+    Key, Misfit, NoMemory, Reader, TokenNumbers, WideReader, Wire, Writer, attempt, field, find,
+    list_or_empty, members_written, optional, put, put_flat, put_nullable, put_optional, put_tag,
     put_unless_empty, put_unless_false, put_value, read_value, reads_back, rest, supported, tag,
     trimmed, truth_or_false, write_value,
 };
@@ -310,35 +310,38 @@ fn an_object_is_read(rt: HostRuntime) -> Result<(), Fail> {
         alloc,
         "{\"a\":1,\"b\":null,\"c\":true,\"d\":[2],\"e\":{\"valueSet\":[3]}}",
     )?;
-    let mut object = Reader::new(alloc, &value)?;
+    let object = Reader::new(alloc, &value)?;
     let mut trial = Trial::new(alloc);
     trial.same("a", object.field::<u32>("a"), Ok(1));
-    trial.same("optional a", object.optional::<u32>("a"), Some(1));
-    trial.same("optional b", object.optional::<u32>("b"), None);
-    trial.same("c", object.truth_or_false("c"), true);
-    trial.shows("d", object.list_or_empty::<u32>("d"), "[2]");
-    let set = object.supported::<Value>("e").ok_or("absent")?;
+    trial.same("optional a", object.optional::<u32>("a"), Ok(Some(1)));
+    trial.same("optional b", object.optional::<u32>("b"), Ok(None));
+    trial.same("c", object.truth_or_false("c"), Ok(true));
+    trial.shows("d", object.list_or_empty::<u32>("d"), "Ok([2])");
+    let set = object.supported::<Value>("e")?.ok_or("absent")?;
     trial.is_written(set, "{\"valueSet\":[3]}");
     let others: HashMap<String, i32> = object.rest(&["b", "c", "d", "e"])?;
     trial.is_written(others, "{\"a\":1}");
-    trial.same("end", object.end(5u32), Ok(5));
     trial.same("null", Reader::new(alloc, &Value::Null).is_err(), true);
     Ok(trial.end()?)
 }
 
-// After a misfit nothing more is read, and the end tells it.
+// Of a wide record the first misfit is told at the end, and nothing more is read after it.
 #[test]
-fn a_misfit_is_told_at_the_end(rt: HostRuntime) -> Result<(), Fail> {
+fn a_wide_object_is_read(rt: HostRuntime) -> Result<(), Fail> {
     let alloc = rt.alloc();
-    let value = json(alloc, "{\"a\":1,\"b\":true,\"d\":[2],\"e\":{}}")?;
-    let mut object = Reader::new(alloc, &value)?;
+    let value = json(alloc, "{\"a\":1,\"b\":true,\"e\":false}")?;
     let mut trial = Trial::new(alloc);
-    trial.same("before", object.optional::<u32>("a"), Some(1));
-    trial.same("a", object.optional::<bool>("a"), None);
-    trial.same("b", object.truth_or_false("b"), false);
-    trial.shows("d", object.list_or_empty::<u32>("d"), "[]");
-    trial.shows("e", object.supported::<Value>("e"), "None");
-    trial.same("end", object.end(5u32), Err(Misfit::Unfit));
+    let mut whole = WideReader::new(alloc, &value)?;
+    trial.same("a", whole.field::<u32>("a"), Ok(1));
+    trial.same("optional a", whole.optional::<u32>("a"), Some(1));
+    trial.same("no c", whole.optional::<u32>("c"), None);
+    trial.shows("e", whole.supported::<Value>("e"), "None");
+    trial.same("end", whole.end(5u32), Ok(5));
+    let mut unfit = WideReader::new(alloc, &value)?;
+    trial.same("a is no truth", unfit.optional::<bool>("a"), None);
+    trial.same("b after it", unfit.optional::<bool>("b"), None);
+    trial.same("its end", unfit.end(5u32), Err(Misfit::Unfit));
+    trial.same("null", WideReader::new(alloc, &Value::Null).is_err(), true);
     Ok(trial.end()?)
 }
 

@@ -74,16 +74,15 @@ impl Wire for FoldingRange {
     ghost shown = { folding_range_row.shown };
 
     fn from_value(alloc: Global, value: &Value) -> Result<FoldingRange, Misfit> {
-        let mut object = Reader::new(alloc, value)?;
-        let read = FoldingRange {
+        let object = Reader::new(alloc, value)?;
+        Ok(FoldingRange {
             start_line: object.field("startLine")?,
-            start_character: object.optional("startCharacter"),
+            start_character: object.optional("startCharacter")?,
             end_line: object.field("endLine")?,
-            end_character: object.optional("endCharacter"),
-            kind: object.optional("kind"),
-            collapsed_text: object.optional("collapsedText"),
-        };
-        object.end(read)
+            end_character: object.optional("endCharacter")?,
+            kind: object.optional("kind")?,
+            collapsed_text: object.optional("collapsedText")?,
+        })
     }
 
     fn to_value(&self, alloc: Global) -> Result<Value, NoMemory> {

@@ -92,8 +92,8 @@ impl Wire for FormattingOptions {
     ghost shown = { formatting_options_row.shown };
 
     fn from_value(alloc: Global, value: &Value) -> Result<FormattingOptions, Misfit> {
-        let mut object = Reader::new(alloc, value)?;
-        let read = FormattingOptions {
+        let object = Reader::new(alloc, value)?;
+        Ok(FormattingOptions {
             properties: object.rest(&[
                 "tabSize",
                 "insertSpaces",
@@ -103,11 +103,10 @@ impl Wire for FormattingOptions {
             ])?,
             tab_size: object.field("tabSize")?,
             insert_spaces: object.field("insertSpaces")?,
-            trim_trailing_whitespace: object.optional("trimTrailingWhitespace"),
-            insert_final_newline: object.optional("insertFinalNewline"),
-            trim_final_newlines: object.optional("trimFinalNewlines"),
-        };
-        object.end(read)
+            trim_trailing_whitespace: object.optional("trimTrailingWhitespace")?,
+            insert_final_newline: object.optional("insertFinalNewline")?,
+            trim_final_newlines: object.optional("trimFinalNewlines")?,
+        })
     }
 
     fn to_value(&self, alloc: Global) -> Result<Value, NoMemory> {

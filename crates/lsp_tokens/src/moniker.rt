@@ -66,14 +66,13 @@ impl Wire for Moniker {
     ghost shown = { moniker_row.shown };
 
     fn from_value(alloc: Global, value: &Value) -> Result<Moniker, Misfit> {
-        let mut object = Reader::new(alloc, value)?;
-        let read = Moniker {
+        let object = Reader::new(alloc, value)?;
+        Ok(Moniker {
             scheme: object.field("scheme")?,
             identifier: object.field("identifier")?,
             unique: object.field("unique")?,
-            kind: object.optional("kind"),
-        };
-        object.end(read)
+            kind: object.optional("kind")?,
+        })
     }
 
     fn to_value(&self, alloc: Global) -> Result<Value, NoMemory> {

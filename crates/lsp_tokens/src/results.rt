@@ -308,12 +308,11 @@ impl Wire for SemanticTokensDelta {
     ghost shown = { semantic_tokens_delta_row.shown };
 
     fn from_value(alloc: Global, value: &Value) -> Result<SemanticTokensDelta, Misfit> {
-        let mut object = Reader::new(alloc, value)?;
-        let read = SemanticTokensDelta {
-            result_id: object.optional("resultId"),
+        let object = Reader::new(alloc, value)?;
+        Ok(SemanticTokensDelta {
+            result_id: object.optional("resultId")?,
             edits: object.field("edits")?,
-        };
-        object.end(read)
+        })
     }
 
     fn to_value(&self, alloc: Global) -> Result<Value, NoMemory> {

@@ -103,12 +103,11 @@ impl Wire for LinkedEditingRanges {
     ghost shown = { linked_editing_ranges_row.shown };
 
     fn from_value(alloc: Global, value: &Value) -> Result<LinkedEditingRanges, Misfit> {
-        let mut object = Reader::new(alloc, value)?;
-        let read = LinkedEditingRanges {
+        let object = Reader::new(alloc, value)?;
+        Ok(LinkedEditingRanges {
             ranges: object.field("ranges")?,
-            word_pattern: object.optional("wordPattern"),
-        };
-        object.end(read)
+            word_pattern: object.optional("wordPattern")?,
+        })
     }
 
     fn to_value(&self, alloc: Global) -> Result<Value, NoMemory> {

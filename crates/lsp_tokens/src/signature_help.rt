@@ -29,13 +29,12 @@ impl Wire for SignatureHelpParams {
     ghost shown = { signature_help_params_row.shown };
 
     fn from_value(alloc: Global, value: &Value) -> Result<SignatureHelpParams, Misfit> {
-        let mut object = Reader::new(alloc, value)?;
-        let read = SignatureHelpParams {
-            context: object.optional("context"),
+        let object = Reader::new(alloc, value)?;
+        Ok(SignatureHelpParams {
+            context: object.optional("context")?,
             text_document_position_params: TextDocumentPositionParams::from_value(alloc, value)?,
             work_done_progress_params: WorkDoneProgressParams::from_value(alloc, value)?,
-        };
-        object.end(read)
+        })
     }
 
     fn to_value(&self, alloc: Global) -> Result<Value, NoMemory> {
@@ -70,14 +69,13 @@ impl Wire for SignatureHelpContext {
     ghost shown = { signature_help_context_row.shown };
 
     fn from_value(alloc: Global, value: &Value) -> Result<SignatureHelpContext, Misfit> {
-        let mut object = Reader::new(alloc, value)?;
-        let read = SignatureHelpContext {
+        let object = Reader::new(alloc, value)?;
+        Ok(SignatureHelpContext {
             trigger_kind: object.field("triggerKind")?,
-            trigger_character: object.optional("triggerCharacter"),
+            trigger_character: object.optional("triggerCharacter")?,
             is_retrigger: object.field("isRetrigger")?,
-            active_signature_help: object.optional("activeSignatureHelp"),
-        };
-        object.end(read)
+            active_signature_help: object.optional("activeSignatureHelp")?,
+        })
     }
 
     fn to_value(&self, alloc: Global) -> Result<Value, NoMemory> {
@@ -110,13 +108,12 @@ impl Wire for SignatureHelp {
     ghost shown = { signature_help_row.shown };
 
     fn from_value(alloc: Global, value: &Value) -> Result<SignatureHelp, Misfit> {
-        let mut object = Reader::new(alloc, value)?;
-        let read = SignatureHelp {
+        let object = Reader::new(alloc, value)?;
+        Ok(SignatureHelp {
             signatures: object.field("signatures")?,
-            active_signature: object.optional("activeSignature"),
-            active_parameter: object.optional("activeParameter"),
-        };
-        object.end(read)
+            active_signature: object.optional("activeSignature")?,
+            active_parameter: object.optional("activeParameter")?,
+        })
     }
 
     fn to_value(&self, alloc: Global) -> Result<Value, NoMemory> {
@@ -150,14 +147,13 @@ impl Wire for SignatureInformation {
     ghost shown = { signature_information_row.shown };
 
     fn from_value(alloc: Global, value: &Value) -> Result<SignatureInformation, Misfit> {
-        let mut object = Reader::new(alloc, value)?;
-        let read = SignatureInformation {
+        let object = Reader::new(alloc, value)?;
+        Ok(SignatureInformation {
             label: object.field("label")?,
-            documentation: object.optional("documentation"),
-            parameters: object.optional("parameters"),
-            active_parameter: object.optional("activeParameter"),
-        };
-        object.end(read)
+            documentation: object.optional("documentation")?,
+            parameters: object.optional("parameters")?,
+            active_parameter: object.optional("activeParameter")?,
+        })
     }
 
     fn to_value(&self, alloc: Global) -> Result<Value, NoMemory> {
@@ -187,12 +183,11 @@ impl Wire for ParameterInformation {
     ghost shown = { parameter_information_row.shown };
 
     fn from_value(alloc: Global, value: &Value) -> Result<ParameterInformation, Misfit> {
-        let mut object = Reader::new(alloc, value)?;
-        let read = ParameterInformation {
+        let object = Reader::new(alloc, value)?;
+        Ok(ParameterInformation {
             label: object.field("label")?,
-            documentation: object.optional("documentation"),
-        };
-        object.end(read)
+            documentation: object.optional("documentation")?,
+        })
     }
 
     fn to_value(&self, alloc: Global) -> Result<Value, NoMemory> {

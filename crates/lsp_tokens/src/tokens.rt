@@ -132,12 +132,11 @@ impl Wire for SemanticTokens {
     ghost shown = { semantic_tokens_row.shown };
 
     fn from_value(alloc: Global, value: &Value) -> Result<SemanticTokens, Misfit> {
-        let mut object = Reader::new(alloc, value)?;
-        let read = SemanticTokens {
-            result_id: object.optional("resultId"),
+        let object = Reader::new(alloc, value)?;
+        Ok(SemanticTokens {
+            result_id: object.optional("resultId")?,
             payload: read_tokens(alloc, &object.field("data")?)?,
-        };
-        object.end(read)
+        })
     }
 
     fn to_value(&self, alloc: Global) -> Result<Value, NoMemory> {
@@ -232,13 +231,12 @@ impl Wire for SemanticTokensEdit {
     ghost shown = { semantic_tokens_edit_row.shown };
 
     fn from_value(alloc: Global, value: &Value) -> Result<SemanticTokensEdit, Misfit> {
-        let mut object = Reader::new(alloc, value)?;
-        let read = SemanticTokensEdit {
+        let object = Reader::new(alloc, value)?;
+        Ok(SemanticTokensEdit {
             start: object.field("start")?,
             delete_count: object.field("deleteCount")?,
-            payload: read_inserted(alloc, &object.optional("data"))?,
-        };
-        object.end(read)
+            payload: read_inserted(alloc, &object.optional("data")?)?,
+        })
     }
 
     fn to_value(&self, alloc: Global) -> Result<Value, NoMemory> {

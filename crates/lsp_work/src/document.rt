@@ -122,12 +122,11 @@ impl Wire for DidSaveTextDocumentParams {
     ghost shown = { did_save_text_document_params_row.shown };
 
     fn from_value(alloc: Global, value: &Value) -> Result<DidSaveTextDocumentParams, Misfit> {
-        let mut object = Reader::new(alloc, value)?;
-        let read = DidSaveTextDocumentParams {
+        let object = Reader::new(alloc, value)?;
+        Ok(DidSaveTextDocumentParams {
             text_document: object.field("textDocument")?,
-            text: object.optional("text"),
-        };
-        object.end(read)
+            text: object.optional("text")?,
+        })
     }
 
     fn to_value(&self, alloc: Global) -> Result<Value, NoMemory> {
@@ -202,13 +201,12 @@ impl Wire for PublishDiagnosticsParams {
     ghost shown = { publish_diagnostics_params_row.shown };
 
     fn from_value(alloc: Global, value: &Value) -> Result<PublishDiagnosticsParams, Misfit> {
-        let mut object = Reader::new(alloc, value)?;
-        let read = PublishDiagnosticsParams {
+        let object = Reader::new(alloc, value)?;
+        Ok(PublishDiagnosticsParams {
             uri: object.field("uri")?,
             diagnostics: object.field("diagnostics")?,
-            version: object.optional("version"),
-        };
-        object.end(read)
+            version: object.optional("version")?,
+        })
     }
 
     fn to_value(&self, alloc: Global) -> Result<Value, NoMemory> {

@@ -146,14 +146,13 @@ impl Wire for WorkDoneProgressBegin {
     ghost shown = { work_done_progress_begin_row.shown };
 
     fn from_value(alloc: Global, value: &Value) -> Result<WorkDoneProgressBegin, Misfit> {
-        let mut object = Reader::new(alloc, value)?;
-        let read = WorkDoneProgressBegin {
+        let object = Reader::new(alloc, value)?;
+        Ok(WorkDoneProgressBegin {
             title: object.field("title")?,
-            cancellable: object.optional("cancellable"),
-            message: object.optional("message"),
-            percentage: object.optional("percentage"),
-        };
-        object.end(read)
+            cancellable: object.optional("cancellable")?,
+            message: object.optional("message")?,
+            percentage: object.optional("percentage")?,
+        })
     }
 
     fn to_value(&self, alloc: Global) -> Result<Value, NoMemory> {
@@ -185,13 +184,12 @@ impl Wire for WorkDoneProgressReport {
     ghost shown = { work_done_progress_report_row.shown };
 
     fn from_value(alloc: Global, value: &Value) -> Result<WorkDoneProgressReport, Misfit> {
-        let mut object = Reader::new(alloc, value)?;
-        let read = WorkDoneProgressReport {
-            cancellable: object.optional("cancellable"),
-            message: object.optional("message"),
-            percentage: object.optional("percentage"),
-        };
-        object.end(read)
+        let object = Reader::new(alloc, value)?;
+        Ok(WorkDoneProgressReport {
+            cancellable: object.optional("cancellable")?,
+            message: object.optional("message")?,
+            percentage: object.optional("percentage")?,
+        })
     }
 
     fn to_value(&self, alloc: Global) -> Result<Value, NoMemory> {
@@ -218,11 +216,10 @@ impl Wire for WorkDoneProgressEnd {
     ghost shown = { work_done_progress_end_row.shown };
 
     fn from_value(alloc: Global, value: &Value) -> Result<WorkDoneProgressEnd, Misfit> {
-        let mut object = Reader::new(alloc, value)?;
-        let read = WorkDoneProgressEnd {
-            message: object.optional("message"),
-        };
-        object.end(read)
+        let object = Reader::new(alloc, value)?;
+        Ok(WorkDoneProgressEnd {
+            message: object.optional("message")?,
+        })
     }
 
     fn to_value(&self, alloc: Global) -> Result<Value, NoMemory> {

@@ -63,13 +63,12 @@ impl Wire for ShowMessageRequestParams {
     ghost shown = { show_message_request_params_row.shown };
 
     fn from_value(alloc: Global, value: &Value) -> Result<ShowMessageRequestParams, Misfit> {
-        let mut object = Reader::new(alloc, value)?;
-        let read = ShowMessageRequestParams {
+        let object = Reader::new(alloc, value)?;
+        Ok(ShowMessageRequestParams {
             typ: object.field("type")?,
             message: object.field("message")?,
-            actions: object.optional("actions"),
-        };
-        object.end(read)
+            actions: object.optional("actions")?,
+        })
     }
 
     fn to_value(&self, alloc: Global) -> Result<Value, NoMemory> {
@@ -213,14 +212,13 @@ impl Wire for ShowDocumentParams {
     ghost shown = { show_document_params_row.shown };
 
     fn from_value(alloc: Global, value: &Value) -> Result<ShowDocumentParams, Misfit> {
-        let mut object = Reader::new(alloc, value)?;
-        let read = ShowDocumentParams {
+        let object = Reader::new(alloc, value)?;
+        Ok(ShowDocumentParams {
             uri: object.field("uri")?,
-            external: object.optional("external"),
-            take_focus: object.optional("takeFocus"),
-            selection: object.optional("selection"),
-        };
-        object.end(read)
+            external: object.optional("external")?,
+            take_focus: object.optional("takeFocus")?,
+            selection: object.optional("selection")?,
+        })
     }
 
     fn to_value(&self, alloc: Global) -> Result<Value, NoMemory> {
@@ -305,12 +303,11 @@ impl Wire for LogTraceParams {
     ghost shown = { log_trace_params_row.shown };
 
     fn from_value(alloc: Global, value: &Value) -> Result<LogTraceParams, Misfit> {
-        let mut object = Reader::new(alloc, value)?;
-        let read = LogTraceParams {
+        let object = Reader::new(alloc, value)?;
+        Ok(LogTraceParams {
             message: object.field("message")?,
-            verbose: object.optional("verbose"),
-        };
-        object.end(read)
+            verbose: object.optional("verbose")?,
+        })
     }
 
     fn to_value(&self, alloc: Global) -> Result<Value, NoMemory> {

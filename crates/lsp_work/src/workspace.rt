@@ -95,12 +95,11 @@ impl Wire for ConfigurationItem {
     ghost shown = { configuration_item_row.shown };
 
     fn from_value(alloc: Global, value: &Value) -> Result<ConfigurationItem, Misfit> {
-        let mut object = Reader::new(alloc, value)?;
-        let read = ConfigurationItem {
-            scope_uri: object.optional("scopeUri"),
-            section: object.optional("section"),
-        };
-        object.end(read)
+        let object = Reader::new(alloc, value)?;
+        Ok(ConfigurationItem {
+            scope_uri: object.optional("scopeUri")?,
+            section: object.optional("section")?,
+        })
     }
 
     fn to_value(&self, alloc: Global) -> Result<Value, NoMemory> {
@@ -301,13 +300,12 @@ impl Wire for ExecuteCommandParams {
     ghost shown = { execute_command_params_row.shown };
 
     fn from_value(alloc: Global, value: &Value) -> Result<ExecuteCommandParams, Misfit> {
-        let mut object = Reader::new(alloc, value)?;
-        let read = ExecuteCommandParams {
+        let object = Reader::new(alloc, value)?;
+        Ok(ExecuteCommandParams {
             command: object.field("command")?,
-            arguments: object.list_or_empty("arguments"),
+            arguments: object.list_or_empty("arguments")?,
             work_done_progress_params: WorkDoneProgressParams::from_value(alloc, value)?,
-        };
-        object.end(read)
+        })
     }
 
     fn to_value(&self, alloc: Global) -> Result<Value, NoMemory> {
@@ -336,12 +334,11 @@ impl Wire for ApplyWorkspaceEditParams {
     ghost shown = { apply_workspace_edit_params_row.shown };
 
     fn from_value(alloc: Global, value: &Value) -> Result<ApplyWorkspaceEditParams, Misfit> {
-        let mut object = Reader::new(alloc, value)?;
-        let read = ApplyWorkspaceEditParams {
-            label: object.optional("label"),
+        let object = Reader::new(alloc, value)?;
+        Ok(ApplyWorkspaceEditParams {
+            label: object.optional("label")?,
             edit: object.field("edit")?,
-        };
-        object.end(read)
+        })
     }
 
     fn to_value(&self, alloc: Global) -> Result<Value, NoMemory> {
@@ -372,13 +369,12 @@ impl Wire for ApplyWorkspaceEditResponse {
     ghost shown = { apply_workspace_edit_response_row.shown };
 
     fn from_value(alloc: Global, value: &Value) -> Result<ApplyWorkspaceEditResponse, Misfit> {
-        let mut object = Reader::new(alloc, value)?;
-        let read = ApplyWorkspaceEditResponse {
+        let object = Reader::new(alloc, value)?;
+        Ok(ApplyWorkspaceEditResponse {
             applied: object.field("applied")?,
-            failure_reason: object.optional("failureReason"),
-            failed_change: object.optional("failedChange"),
-        };
-        object.end(read)
+            failure_reason: object.optional("failureReason")?,
+            failed_change: object.optional("failedChange")?,
+        })
     }
 
     fn to_value(&self, alloc: Global) -> Result<Value, NoMemory> {
