@@ -7,6 +7,7 @@
 
 mod editor;
 pub mod law;
+mod outgoing;
 mod parts;
 mod presence;
 mod proxy;
@@ -14,6 +15,7 @@ mod server;
 mod side;
 mod table;
 
+pub use outgoing::Outgoing;
 pub use parts::Sent;
 pub use proxy::Proxy;
 pub use side::Side;
