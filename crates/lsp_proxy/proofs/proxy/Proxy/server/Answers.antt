@@ -1,9 +1,7 @@
 -- The list that a notification with its editors stands for.
-use Rattle.std.proofs.Common.{◌≡◌, map, ◌∙◌, sym}
+use Rattle.std.proofs.Common.{◌∙◌}
 use Rattle.std.specs.Prelude.{Result, Ok, Err, IfOk}
-use Rattle.lsp_rpc.specs.Message.{request}
-use Rattle.lsp_rpc.specs.Shown.{show_request, show_message}
-use Rattle.lsp_proxy.specs.declared.side.Side.TheVariants.{Editor}
+use Rattle.lsp_rpc.specs.Shown.{show_message}
 use Rattle.lsp_proxy.specs.Outgoing.{Gives}
 use Rattle.lsp_proxy.specs.Proxy.{from_server}
 use Rattle.lsp_proxy.proofs.proxy.Proxy.server.Goals as goal
