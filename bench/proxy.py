@@ -6,6 +6,9 @@ request of an editor, the server's response to it, a request that is refused bec
 cancel of an open request. Printed are the events per second, the program's peak memory, and the cost of
 an event against that at the smallest size.
 
+Then the server sends NOTES notifications of about 13 KB to each number of editors in EDITORS. Printed
+are the bytes that are written for a notification and its processor time (/proc/PID/schedstat).
+
 Usage: bench/proxy.py [SIZE ..]     (default: 1000 10000 100000)
 """
 import os
@@ -22,6 +25,10 @@ TRIES = 3
 LIMIT = 600
 EVENTS = 100_000
 LAST = b'{"jsonrpc":"2.0","method":"last"}'
+EDITORS = (1, 8, 64)
+NOTES = 200
+DIAGNOSTIC = (b'{"message":"unused variable %d",'
+              b'"range":{"end":{"character":9,"line":%d},"start":{"character":5,"line":%d}}}')
 
 
 def told(side, message):
@@ -88,6 +95,46 @@ def run(size, before, after):
     return seconds, kilobytes
 
 
+def note():
+    """A notification of the server: 120 diagnostics of one document."""
+    diagnostics = b",".join(DIAGNOSTIC % (number, number, number) for number in range(120))
+    return (b'{"jsonrpc":"2.0","method":"textDocument/publishDiagnostics",'
+            b'"params":{"diagnostics":[%s],"uri":"file:///a"}}' % diagnostics)
+
+
+def processor_seconds(process):
+    """The time that the process ran on a processor."""
+    with open("/proc/%d/schedstat" % process.pid) as schedstat:
+        return int(schedstat.read().split()[0]) / 1e9
+
+
+def broadcast(editors):
+    """Processor seconds of a notification to so many editors, which are all here."""
+    program = subprocess.Popen([PROGRAM, "%d" % editors], stdin=subprocess.PIPE, stdout=subprocess.PIPE)
+    with tempfile.NamedTemporaryFile() as first, tempfile.NamedTemporaryFile() as notes:
+        first.write(told(1, LAST))
+        first.flush()
+        notes.write(told(0, note()) * NOTES + told(1, LAST))
+        notes.flush()
+        feed(program, first.name, sent(0, LAST))
+        begun = processor_seconds(program)
+        feed(program, notes.name, sent(0, LAST))
+        seconds = (processor_seconds(program) - begun) / NOTES
+    program.stdin.close()
+    program.stdout.read()
+    if program.wait(LIMIT) != 0:
+        sys.exit("the program ended with another status")
+    return seconds
+
+
+def broadcasts():
+    print("editors   bytes of a notification   bytes written   processor time of a notification")
+    for editors in EDITORS:
+        seconds = min(broadcast(editors) for _ in range(TRIES))
+        written = sum(len(sent(side, note())) for side in range(1, editors + 1))
+        print("%7d %25d %15d %12.3f ms" % (editors, len(note()), written, seconds * 1e3))
+
+
 def main():
     if not os.path.exists(PROGRAM):
         sys.exit("not built: run ./lsp_proxy once, or rt ci")
@@ -105,6 +152,7 @@ def main():
         smallest = smallest or cost
         print("%13d %10.0f %10d %8.2f us  %.2f"
               % (size, EVENTS / seconds, max(kilobytes for _, kilobytes in runs), cost * 1e6, cost / smallest))
+    broadcasts()
 
 
 main()

@@ -1,5 +1,5 @@
 -- The state of a proxy between editors and one server, and what it makes of each message: the rows
--- of the table in README.md, in its order.
+-- of the table in docs/DEFINITIONS.md, "The proxy", in its order.
 use Rattle.std.specs.Prelude.{IsTrue, ℕ, ◌+◌, ℤ, pos, negsuc, List, [], ◌∷◌, ◌++◌, map, Bool, true, false, not, ◌||◌, ◌&&◌, ◌==◌, Option, Some, None, option_and_then, Result, Ok, Err, bytes_eq, codes, nat_lt, slice_get, slice_set, replicate, unwrap_or, if◌then◌else◌}
 use Rattle.std.specs.List.{filter}
 use Rattle.serde_json.specs.Data.{Data, unsigned, null, number, string, object, no_members, member}

@@ -3,6 +3,7 @@ ghost use Rattle.std.specs.Prelude.{IsTrue, ◌≡◌, ◌<◌, ◌≤◌, ◌^�
 ghost use Rattle.lsp_proxy.specs.Entries.{are_below};
 ghost use Rattle.lsp_proxy.specs.Proxy.{opening_state, last_id, lowest, are_of};
 
+use crate::outgoing::{Outgoing, to_each};
 use crate::parts::Sent;
 use crate::presence::presence_of;
 use crate::side::Presence;
@@ -54,6 +55,7 @@ fn all_here(alloc: Global, n: u32) -> Result<Vec<Presence>, NoMemory>
 
 impl Proxy {
     ghost use Rattle.lsp_rpc.specs.Shown.{show_message};
+    ghost use Rattle.lsp_proxy.specs.Outgoing.{Gives, KeepsAtBroadcast};
     ghost use Rattle.lsp_proxy.specs.Proxy.{from_editor, from_server};
     ghost use Rattle.lsp_proxy.specs.Shown.{show_proxy, Makes, IsSame};
 
@@ -95,13 +97,26 @@ impl Proxy {
 
     /// Takes a message of the server, and gives what is to be sent for it. Out of memory changes
     /// nothing.
-    #[tactic(auto, unfolding(crate::specs::Proxy::from_server))]
     pub fn server(&mut self, message: Message) -> Result<Sent, NoMemory>
         ensures ok { IfOk result (Makes self.old self.new (from_server (show_message message))) }
         ensures err { OnErr result (IsSame self.old self.new) }
     {
+        match self.server_outgoing(message)? {
+            Outgoing::Each(sent) => Ok(sent),
+            Outgoing::Broadcast(editors, note) => to_each(self.alloc, &editors, note),
+        }
+    }
+
+    /// As [`Proxy::server`], but what it gives stands for the list of what is to be sent: a
+    /// notification that goes to several editors is there once, with these editors.
+    #[tactic(auto, unfolding(crate::specs::Proxy::from_server))]
+    pub fn server_outgoing(&mut self, message: Message) -> Result<Outgoing, NoMemory>
+        ensures ok { IfOk result (Gives self.old self.new (from_server (show_message message))) }
+        ensures broadcast { IfOk result (KeepsAtBroadcast self.old self.new) }
+        ensures err { OnErr result (IsSame self.old self.new) }
+    {
         match message {
-            Message::Response(response) => self.server_response(response),
+            Message::Response(response) => Ok(Outgoing::Each(self.server_response(response)?)),
             Message::Request(request) => self.server_called(request),
         }
     }

@@ -4,10 +4,12 @@ ghost use Rattle.lsp_rpc.specs.Message.{request};
 ghost use Rattle.lsp_rpc.specs.Shown.{show_id, show_body, show_request, show_response};
 ghost use Rattle.std.specs.List.{filter};
 ghost use Rattle.lsp_proxy.specs.Proxy.{waiting_sent, opening_after, initialize_answered, answered, server_response, pass_to, server_request, first_requested, cancel_entry, server_cancel, broadcast, lowest, last_id, answer, internal, server_called, here_from, is_here_in, answered_to};
+ghost use Rattle.lsp_proxy.specs.Outgoing.{Gives, KeepsAtBroadcast};
 ghost use Rattle.lsp_proxy.specs.Sent.{all_sent};
 ghost use Rattle.lsp_proxy.specs.Tables.{show_asker};
 ghost use Rattle.lsp_proxy.specs.Shown.{show_opening, show_proxy, Makes, IsSame};
 
+use crate::outgoing::{Outgoing, here};
 use crate::parts::{
     LAST_ID, Sent, answered_id, cancels, copy, exit, named_by, one, refusal, response, split,
     under_drawn,
@@ -65,31 +67,6 @@ fn opening_of(body: Result<Value, Error>) -> Opening
         Ok(value) => Opening::Opened(value),
         Err(_) => Opening::Unopened,
     }
-}
-
-// The notification for each editor that is still here.
-fn to_all(alloc: Global, editors: &[Presence], note: Request) -> Result<Sent, NoMemory>
-    requires { length editors.now < 2 ^ 32 }
-    ensures { IfOk result (λ sent. all_sent sent.items
-        ≡ map (λ k. (Side.Editor k, request (show_request note))) (here_from 0 editors.now)) }
-{
-    let mut sent = Vec::new(alloc);
-    let mut k = 0;
-    // The last of them gets the notification itself, and the others a copy.
-    let mut last = None;
-    for presence in editors {
-        if !presence.is_gone() {
-            if let Some(before) = last {
-                sent.push((Side::Editor(before), Message::Request(note.clone(alloc)?)))?;
-            }
-            last = Some(k);
-        }
-        k += 1;
-    }
-    if let Some(before) = last {
-        sent.push((Side::Editor(before), Message::Request(note)))?;
-    }
-    Ok(sent)
 }
 
 impl Proxy {
@@ -232,24 +209,26 @@ impl Proxy {
     }
 
     #[tactic(auto, unfolding(crate::specs::Proxy::broadcast))]
-    fn broadcast(&self, note: Request) -> Result<Sent, NoMemory>
-        ensures { IfOk result (Makes self.now self.now (broadcast (show_request note))) }
+    fn broadcast(&self, note: Request) -> Result<Outgoing, NoMemory>
+        ensures { IfOk result (Gives self.now self.now (broadcast (show_request note))) }
     {
-        to_all(self.alloc, &self.editors, note)
+        let editors = here(self.alloc, &self.editors)?;
+        Ok(Outgoing::Broadcast(editors, note))
     }
 
-    pub(crate) fn server_called(&mut self, request: Request) -> Result<Sent, NoMemory>
+    pub(crate) fn server_called(&mut self, request: Request) -> Result<Outgoing, NoMemory>
         ensures ok { IfOk result
-            (Makes self.old self.new (server_called (show_request request)
+            (Gives self.old self.new (server_called (show_request request)
             (show_request request).id)) }
+        ensures broadcast { IfOk result (KeepsAtBroadcast self.old self.new) }
         ensures err { OnErr result (IsSame self.old self.new) }
     {
         let (request, id) = split(request);
         match id {
-            Some(id) => self.server_request(request, id),
+            Some(id) => Ok(Outgoing::Each(self.server_request(request, id)?)),
             None => {
                 if request.method() == "$/cancelRequest" {
-                    self.server_cancel(request)
+                    Ok(Outgoing::Each(self.server_cancel(request)?))
                 } else {
                     self.broadcast(request)
                 }

@@ -1,4 +1,5 @@
 pub mod ApartLemmas
+pub mod BroadcastLemmas
 pub mod ErrorLemmas
 pub mod EventLemmas
 pub mod FloatLemmas

@@ -56,7 +56,7 @@ body_free : (b : Result Data ErrorData) (ms : Members) → body_has_float b ≡ 
 body_free (Ok v) ms h free = put_free (codes "result") v ms h free
 body_free (Err e) ms h free = put_free (codes "error") (error_value e) ms (error_free e h) free
 
-value_free : (m : MessageData) → message_has_float m ≡ false → has_float (message_value m) ≡ false
+pub value_free : (m : MessageData) → message_has_float m ≡ false → has_float (message_value m) ≡ false
 value_free (response r) h = body_free r.body (put (codes "id") (id_data r.id) version) h (put_free (codes "id") (id_data r.id) version (has_float-id_data r.id) refl)
 value_free (request r) h =
     let named = put (codes "method") (string r.method) version in

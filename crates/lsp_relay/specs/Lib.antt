@@ -4,3 +4,4 @@ pub mod Floats
 pub mod Relay
 pub mod Shown
 pub mod Arguments
+pub mod Broadcast

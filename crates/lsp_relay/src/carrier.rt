@@ -8,17 +8,19 @@ ghost use Rattle.lsp_server.specs.Errors.{ComesOfSink, LeavesSink};
 ghost use Rattle.lsp_server.specs.SourceSink.{CountRose, IsFlushed};
 ghost use Rattle.lsp_server.specs.Written.{IsPrefixOf};
 ghost use Rattle.lsp_proxy.specs.Law.{react};
+ghost use Rattle.lsp_proxy.specs.Outgoing.{expanded};
 ghost use Rattle.lsp_proxy.specs.Sent.{all_sent};
 ghost use Rattle.lsp_proxy.specs.Shown.{show_proxy};
 ghost use Rattle.lsp_relay.specs.Floats.{AreFloatFree, opening_has_float};
 ghost use Rattle.lsp_relay.specs.Relay.{opening_place, Took, TookTold, sent_frames, events};
 
+use crate::broadcast::push_broadcast;
 use crate::notes::{event, note};
 use crate::reads::Relayed;
 use crate::write::send;
 use bytes::BytesMut;
 use lsp_frame::{Decoded, LanguageServerCodec};
-use lsp_proxy::{Proxy, Sent, Side};
+use lsp_proxy::{Outgoing, Proxy, Sent, Side};
 use lsp_rpc::{Message, NoMemory};
 use lsp_server::{ServeError, Sink};
 use std::alloc::Global;
@@ -37,19 +39,19 @@ pub(crate) struct Carrier {
 }
 
 // What the proxy sends for the message of that side.
-fn deliver(proxy: &mut Proxy, side: Side, message: Message) -> Result<Sent, NoMemory>
+fn deliver(proxy: &mut Proxy, side: Side, message: Message) -> Result<Outgoing, NoMemory>
     requires float_free { message_has_float (show_message message) ≡ false }
     requires kept { opening_has_float (show_proxy proxy.old).opening ≡ false }
     ensures state { OnOk result (show_proxy proxy.new
         ≡ (react (side, show_message message) (show_proxy proxy.old)).0) }
-    ensures sent { IfOk result (λ sent. all_sent sent.items
+    ensures sent { IfOk result (λ sent. expanded sent
         ≡ (react (side, show_message message) (show_proxy proxy.old)).1) }
-    ensures float_free { IfOk result (λ sent. AreFloatFree (all_sent sent.items)) }
+    ensures float_free { IfOk result (λ sent. AreFloatFree (expanded sent)) }
     ensures kept { opening_has_float (show_proxy proxy.new).opening ≡ false }
 {
     match side {
-        Side::Server => proxy.server(message),
-        Side::Editor(k) => proxy.editor(k, message),
+        Side::Server => proxy.server_outgoing(message),
+        Side::Editor(k) => Ok(Outgoing::Each(proxy.editor(k, message)?)),
     }
 }
 
@@ -64,6 +66,17 @@ fn push_notes(alloc: Global, sent: Sent, out: &mut BytesMut) -> Result<(), NoMem
         codec.encode(&note, out)?;
     }
     Ok(())
+}
+
+// Frames what is sent. A notification to several editors is written once, and copied.
+fn push_sent(alloc: Global, sent: Outgoing, out: &mut BytesMut) -> Result<(), NoMemory>
+    requires { AreFloatFree (expanded sent) }
+    ensures { OnOk result (out.new.items ≡ out.old.items ++ sent_frames (expanded sent)) }
+{
+    match sent {
+        Outgoing::Each(sent) => push_notes(alloc, sent, out),
+        Outgoing::Broadcast(editors, note) => push_broadcast(alloc, &editors, note, out),
+    }
 }
 
 impl Carrier {
@@ -95,7 +108,7 @@ impl Carrier {
         match event(self.alloc, self.editors, message) {
             Some((side, message)) => {
                 let sent = deliver(&mut self.proxy, side, message)?;
-                push_notes(self.alloc, sent, &mut self.waiting)?;
+                push_sent(self.alloc, sent, &mut self.waiting)?;
                 self.relayed.passed = self.relayed.passed.saturating_add(1);
                 Ok(())
             }

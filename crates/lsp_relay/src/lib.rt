@@ -5,6 +5,7 @@
 //! `proxy/out` of the same form.
 #![tactic(auto)]
 
+mod broadcast;
 mod carrier;
 pub mod law;
 mod notes;

@@ -21,19 +21,19 @@ kept s t is h = ap (λ (x : State). opening_has_float x.opening) is ∙ h
 pub returns-in-Server-clause-float_free : goal.returns-in-Server-clause-float_free
 returns-in-Server-clause-float_free c =
     let clean = free (Server, show_message c.args.message) (show_proxy c.args.proxy.now) c.requires.float_free c.requires.kept in
-    if_ok c.server.result (λ sent makes. subst (λ (l : Sent). AreFloatFree l) (sym makes.1) clean.0) c.server.ensures.ok
+    if_ok c.server_outgoing.result (λ sent gives. subst (λ (l : Sent). AreFloatFree l) (sym gives.1) clean.0) c.server_outgoing.ensures.ok
 
 pub returns-in-Server-clause-kept : goal.returns-in-Server-clause-kept
 returns-in-Server-clause-kept c =
     let clean = free (Server, show_message c.args.message) (show_proxy c.args.proxy.now) c.requires.float_free c.requires.kept in
-    both_ways c.server.result (λ sent makes. kept _ _ makes.0 clean.1) (λ same. kept _ _ same c.requires.kept) c.server.ensures.ok c.server.ensures.err
+    both_ways c.server_outgoing.result (λ sent gives. kept _ _ gives.0 clean.1) (λ same. kept _ _ same c.requires.kept) c.server_outgoing.ensures.ok c.server_outgoing.ensures.err
 
-pub returns-in-Editor-clause-float_free : goal.returns-in-Editor-clause-float_free
-returns-in-Editor-clause-float_free c =
+pub returns-in_ok-editor-in-Editor-clause-float_free : goal.returns-in_ok-editor-in-Editor-clause-float_free
+returns-in_ok-editor-in-Editor-clause-float_free c =
     let clean = free (Editor c.in-Editor.k, show_message c.args.message) (show_proxy c.args.proxy.now) c.requires.float_free c.requires.kept in
-    if_ok c.editor.result (λ sent makes. subst (λ (l : Sent). AreFloatFree l) (sym makes.1) clean.0) c.editor.ensures.ok
+    subst (λ (l : Sent). AreFloatFree l) (sym c.in_ok-editor-in-Editor.ensures.ok.1) clean.0
 
-pub returns-in-Editor-clause-kept : goal.returns-in-Editor-clause-kept
-returns-in-Editor-clause-kept c =
+pub returns-in_ok-editor-in-Editor-clause-kept : goal.returns-in_ok-editor-in-Editor-clause-kept
+returns-in_ok-editor-in-Editor-clause-kept c =
     let clean = free (Editor c.in-Editor.k, show_message c.args.message) (show_proxy c.args.proxy.now) c.requires.float_free c.requires.kept in
-    both_ways c.editor.result (λ sent makes. kept _ _ makes.0 clean.1) (λ same. kept _ _ same c.requires.kept) c.editor.ensures.ok c.editor.ensures.err
+    kept _ _ c.in_ok-editor-in-Editor.ensures.ok.0 clean.1

@@ -12,12 +12,12 @@ pub deliver-requires-clause-float_free : goal.deliver-requires-clause-float_free
 deliver-requires-clause-float_free c =
     event_free c.args.self.now.editors (show_message c.args.message) (c.in-Some.side, show_message c.in-Some.message) (sym c.in-Some.ensures)
 
-pub returns-in_ok-push_notes-in-Some : goal.returns-in_ok-push_notes-in-Some
-returns-in_ok-push_notes-in-Some c =
+pub returns-in_ok-push_sent-in-Some : goal.returns-in_ok-push_sent-in-Some
+returns-in_ok-push_sent-in-Some c =
     let old = c.args.self.now in
     took_heard (show_carrier old) _ (message (show_message c.args.message)) (c.in-Some.side, show_message c.in-Some.message) (sym c.in-Some.ensures)
     refl c.in_ok-sent-in-Some.ensures.state c.saturating_add-self.ensures (counted_none old.relayed.dropped old.dropped_fits)
-    (c.in_ok-push_notes-in-Some.ensures ∙ ap (λ l. old.waiting.items ++ sent_frames l) c.in_ok-sent-in-Some.ensures.sent)
+    (c.in_ok-push_sent-in-Some.ensures ∙ ap (λ l. old.waiting.items ++ sent_frames l) c.in_ok-sent-in-Some.ensures.sent)
 
 pub returns-in-None : goal.returns-in-None
 returns-in-None c =

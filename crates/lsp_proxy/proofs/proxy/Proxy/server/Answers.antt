@@ -1,0 +1,17 @@
+-- The list that a notification with its editors stands for.
+use Rattle.std.proofs.Common.{◌∙◌}
+use Rattle.std.specs.Prelude.{Result, Ok, Err, IfOk}
+use Rattle.lsp_rpc.specs.Shown.{show_message}
+use Rattle.lsp_proxy.specs.Outgoing.{Gives}
+use Rattle.lsp_proxy.specs.Proxy.{from_server}
+use Rattle.lsp_proxy.proofs.proxy.Proxy.server.Goals as goal
+
+if_ok : {T E : Type 0} (r : Result T E) {P Q : T → Type 0} → ((x : T) → P x → Q x) → IfOk r P → IfOk r Q
+if_ok (Ok x) f p = f x p
+if_ok (Err e) f p = p
+
+pub returns-in-Broadcast-clause-ok : goal.returns-in-Broadcast-clause-ok
+returns-in-Broadcast-clause-ok c =
+    let gives : Gives c.args.self.now c.server_outgoing.new.self (from_server (show_message c.args.message)) c.in_ok-sent.field-0 = c.in_ok-sent.ensures.ok in
+    let broadcast = rw c.in-Broadcast.is at gives.1 in
+    if_ok c.to_each.result (λ sent each. (gives.0, each ∙ rw c.deref.ensures.value broadcast)) c.to_each.ensures
