@@ -1,0 +1,96 @@
+"""The ends that the loop reads: an editor's connection, and the output of a child."""
+import os
+import socket
+import time
+from typing import Iterator, Optional, Union
+
+from ends import Child
+from frames import Fault, FrameReader, frame
+from messages import Code, Kind, Unfit, failure, kind_of, tidy
+from queues import Outlet, read_some
+from values import NotJson, TooDeep, read, restore, write
+
+_TO_CLOSE = 3.0
+
+
+class Inlet:
+    """What is read frame by frame."""
+
+    def __init__(self, fd: int) -> None:
+        self.fd = fd
+        self.is_ended = False
+        self._reader = FrameReader()
+        os.set_blocking(fd, False)
+
+    def items(self) -> Iterator[Union[bytes, Fault]]:
+        """The bodies and faults that the next bytes tell. A body that is too long ends it, as the end of input does."""
+        piece = read_some(self.fd)
+        if piece is None:
+            return
+        self._reader.feed(piece)
+        yield from self._reader.items()
+        self.is_ended = not piece or self._reader.is_spent
+
+
+class Seat:
+    """An editor's connection, which has no side before its first frame. One too many never has one, and is told so."""
+
+    def __init__(self, connection: socket.socket) -> None:
+        self.side: Optional[int] = None
+        self.inlet = Inlet(connection.fileno())
+        self.outlet = Outlet(connection.fileno())
+        self.since = time.monotonic()
+        self.is_late = False
+        self._closing_since: Optional[float] = None
+        self._connection = connection
+
+    @property
+    def fd(self) -> int:
+        """The number by which it is watched."""
+        return self.inlet.fd
+
+    @property
+    def is_closing(self) -> bool:
+        """Whether it is let go once what was sent is written."""
+        return self._closing_since is not None
+
+    @property
+    def is_done(self) -> bool:
+        """Whether it can be closed: all is written, or has waited long enough."""
+        if self._closing_since is None:
+            return False
+        return not self.outlet.size or self.is_late or time.monotonic() - self._closing_since > _TO_CLOSE
+
+    def let_go(self) -> None:
+        """Lets it go once what was sent is written."""
+        self._closing_since = self._closing_since or time.monotonic()
+
+    def close(self) -> None:
+        """Closes the connection at once."""
+        self._connection.close()
+
+    def refuse(self, body: bytes) -> None:
+        """Answers the first request of an editor that has no side."""
+        try:
+            message = tidy(read(body))
+        except (NotJson, Unfit, TooDeep):
+            return self.let_go()
+        if kind_of(message) is Kind.REQUEST:
+            answer = failure(message["id"], Code.INTERNAL_ERROR, "lsp_share has no place left for an editor")
+            self.outlet.put(frame(restore(write(answer))))
+            self.let_go()
+
+
+class ChildEnds:
+    """The input and the output of a child."""
+
+    def __init__(self, child: Child) -> None:
+        self.child = child
+        self.inlet = Inlet(child.output)
+        self.outlet = Outlet(child.input)
+
+    def finish_input(self) -> None:
+        """Closes the input once all is written."""
+        if not self.outlet.size and not self.outlet.is_broken:
+            self.outlet.close()
+            self.child.close_input()
