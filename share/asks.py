@@ -47,7 +47,9 @@ class Asks:
         return min((editor.side for editor in ready), default=None)
 
     def answer(self, side: int, message: Message) -> Optional[tuple[int, Message]]:
-        """An editor's answer as the proxy is to have it. None where it answers a request of lsp_share's own."""
+        """An editor's answer as the proxy is to have it. None where it answers a request of
+        lsp_share's own.
+        """
         id = message["id"]
         if isinstance(id, str) and id in self._own:
             self._own.discard(id)
@@ -64,7 +66,9 @@ class Asks:
         return side if route is None else route.asked_side
 
     def leave(self, side: int) -> list[tuple[int, Message]]:
-        """The answers for an editor that goes. What was asked of it by its own number, the proxy answers itself."""
+        """The answers for an editor that goes. What was asked of it by its own number, the proxy
+        answers itself.
+        """
         left = {id: route for id, route in self._routes.items() if route.asked_side == side}
         for id in left:
             del self._routes[id]

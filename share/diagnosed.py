@@ -6,7 +6,8 @@ _MOST_BYTES = 8 << 20
 
 
 class Diagnosed:
-    """Bodies of notifications by the file that they are about, up to a bound; the oldest go first."""
+    """Bodies of notifications by the file that they are about, up to a bound; the oldest go first.
+    """
 
     def __init__(self) -> None:
         self._bodies: dict[str, bytes] = {}

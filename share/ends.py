@@ -1,4 +1,6 @@
-"""Beginnings and ends: the server's and the proxy's processes, the socket, and signals. Every wait has a limit."""
+"""Beginnings and ends: the server's and the proxy's processes, the socket, and signals. Every wait
+has a limit.
+"""
 import fcntl
 import os
 import signal
@@ -11,7 +13,8 @@ from typing import Any, Iterator, Optional
 
 _STEP = 0.01
 _PATIENCE = 1.0
-# A fault of the program itself raises these; blocked, they still end it then, and are seen where another sends them.
+# A fault of the program itself raises these. Blocked, they still end it then, and are seen where
+# another sends them.
 _FAULTS = {signal.SIGSEGV, signal.SIGBUS, signal.SIGFPE, signal.SIGILL}
 _OTHERS = {signal.SIGKILL, signal.SIGSTOP, signal.SIGTSTP, signal.SIGTTIN, signal.SIGTTOU, signal.SIGCONT,
            signal.SIGCHLD, signal.SIGURG, signal.SIGWINCH, signal.SIGPIPE, signal.SIGXFSZ}
@@ -122,7 +125,9 @@ def _try_lock(fd: int) -> bool:
 
 
 def _clear(path: str) -> None:
-    """Removes a socket of ours at which nobody listens. Anything else that is there stays, and is said."""
+    """Removes a socket of ours at which nobody listens. Anything else that is there stays, and is
+    said.
+    """
     try:
         found = os.lstat(path)
     except FileNotFoundError:

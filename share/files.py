@@ -1,7 +1,9 @@
-"""Documents by URI, so that several editors may have one file open before a server that knows one text of it.
+"""Documents by URI, so that several editors may have one file open before a server that knows one
+text of it.
 
-One editor owns the text: the server has that one's. An editor with an equal text follows, and owns it once it changes
-it. What an editor with another text says of the file goes no further, until its text is the owner's again.
+One editor owns the text: the server has that one's. An editor with an equal text follows, and owns
+it once it changes it. What an editor with another text says of the file goes no further, until its
+text is the owner's again.
 """
 from collections import deque
 from dataclasses import dataclass, field
@@ -27,7 +29,9 @@ class Copy:
 
 @dataclass
 class File:
-    """A file that is open: who owns its text, the number of that text at the server, and each editor's copy."""
+    """A file that is open: who owns its text, the number of that text at the server, and each
+    editor's copy.
+    """
 
     uri: str
     owner: int
@@ -61,7 +65,9 @@ class File:
 
 @dataclass
 class Outcome:
-    """What goes to the server, each from its editor, what goes to editors, and who has come to have the server's text."""
+    """What goes to the server, each from its editor, what goes to editors, and who has come to have
+    the server's text.
+    """
 
     passed: list[tuple[int, Message]] = field(default_factory=list)
     told: list[tuple[int, Message]] = field(default_factory=list)
@@ -118,7 +124,9 @@ class Files:
         return unquote(uri) in self._files
 
     def diagnostics_for(self, side: int, message: Message) -> Optional[Message]:
-        """Diagnostics as this editor is told them: it has the file open, with the text that they are of."""
+        """Diagnostics as this editor is told them: it has the file open, with the text that they
+        are of.
+        """
         params = member(message, "params")
         file, version = self._held(side, str(member(params, "uri"))), member(params, "version")
         if file is None:
@@ -190,7 +198,9 @@ class Files:
 
     @staticmethod
     def _hand_on(file: File, text: Text) -> Outcome:
-        """The next owner is the first with the text that the server has, or else the first, whose text goes there."""
+        """The next owner is the first with the text that the server has, or else the first, whose
+        text goes there.
+        """
         same = [side for side, copy in file.copies.items() if copy.text.is_same(text)]
         file.owner = same[0] if same else next(iter(file.copies))
         copy = file.copies[file.owner]

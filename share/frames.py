@@ -78,7 +78,9 @@ class FrameReader:
         return None
 
     def _skip_to_name(self) -> None:
-        """Drops what can't belong to the next head: all that stands before its name, or before what may begin it."""
+        """Drops what can't belong to the next head: all that stands before its name, or before what
+        may begin it.
+        """
         found = self._buffer.lower().find(_NAME, 1)
         del self._buffer[:found if found > 0 else len(self._buffer) - len(_NAME) + 1]
 

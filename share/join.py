@@ -1,4 +1,6 @@
-"""What an editor starts in place of the server: it moves standard input and output to and from lsp_share's socket."""
+"""What an editor starts in place of the server: it moves standard input and output to and from
+lsp_share's socket.
+"""
 import os
 import select
 import socket
@@ -27,7 +29,9 @@ class Join:
         self._limit: Optional[float] = None
 
     def run(self) -> None:
-        """Moves bytes until the connection has ended and all of it is written, or some time after the input's end."""
+        """Moves bytes until the connection has ended and all of it is written, or some time after
+        the input's end.
+        """
         while self._has_connection or self._down:
             if self._limit is not None and time.monotonic() > self._limit:
                 return

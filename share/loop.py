@@ -1,4 +1,6 @@
-"""The loop: moves bytes between the editors' sockets, the proxy and the server, until there is a reason to end."""
+"""The loop: moves bytes between the editors' sockets, the proxy and the server, until there is a
+reason to end.
+"""
 import selectors
 import time
 from enum import Enum
@@ -47,7 +49,9 @@ class Loop:
         self._selector = selectors.DefaultSelector()
 
     def run(self, server: Child, proxy: Child) -> Reason:
-        """Carries until there is a reason to end, says what is left to say, and closes every socket."""
+        """Carries until there is a reason to end, says what is left to say, and closes every
+        socket.
+        """
         self._server, self._proxy = ChildEnds(server), ChildEnds(proxy)
         try:
             reason = self._reason()
@@ -79,7 +83,8 @@ class Loop:
         self._server.outlet.put(frame(body))
 
     def to_editor(self, side: int, body: bytes) -> None:
-        """Sends a body to an editor. One that is too far behind is let go, once the switch is done."""
+        """Sends a body to an editor. One that is too far behind is let go, once the switch is done.
+        """
         seat = self._sides.get(side)
         if seat is None or seat.is_late or seat.is_closing:
             return
@@ -168,12 +173,13 @@ class Loop:
     def _watch_all(self) -> None:
         is_proxy_full = self._proxy.outlet.size >= _HIGH
         is_server_full = self._server.outlet.size >= _HIGH
-        hears = [seat for seat in self._seats.values() if seat.outlet.size < _HIGH]
+        # The server is heard as fast as the fastest editor reads.
+        hears = not self._seats or any(seat.outlet.size < _HIGH for seat in self._seats.values())
         for seat in self._seats.values():
-            reads = seat in hears and not (is_proxy_full or is_server_full or seat.is_closing)
+            reads = seat.outlet.size < _HIGH and not (is_proxy_full or is_server_full or seat.is_closing)
             self._watch(seat.fd, (_READ if reads else 0) | (_WRITE if seat.outlet.size else 0), partial(self._take_editor, seat))
         for ends, take, reads in ((self._proxy, self._take_proxy, True),
-                                  (self._server, self._take_server, not is_proxy_full and (hears or not self._seats))):
+                                  (self._server, self._take_server, not is_proxy_full and hears)):
             self._watch(ends.inlet.fd, _READ if reads and not ends.inlet.is_ended else 0, take)
             self._watch(ends.outlet.fd, _WRITE if ends.outlet.size else 0)
         self._watch(self._signals.fd, _READ, partial(read_some, self._signals.fd))
@@ -196,7 +202,9 @@ class Loop:
         self._seats[seat.fd] = seat
 
     def _give_side(self, seat: Seat) -> None:
-        """An editor takes a side with its first frame: whoever only looks whether somebody listens takes none."""
+        """An editor takes a side with its first frame: whoever only looks whether somebody listens
+        takes none.
+        """
         seat.side = self._switch.join()
         if seat.side is not None:
             self._sides[seat.side] = seat

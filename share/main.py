@@ -1,6 +1,5 @@
 """The two programs but for their names: what their arguments mean, and how they end."""
 import os
-import sys
 from dataclasses import dataclass
 from enum import IntEnum
 from typing import BinaryIO, Optional
@@ -9,7 +8,7 @@ from ends import Child, Listener, Signals, Unusable
 from loop import Loop, Reason
 
 USAGE = """\
-Usage: lsp_share SOCKET EDITORS -- SERVER ARGS..
+usage: lsp_share SOCKET EDITORS -- SERVER ARGS..
 
 Starts a language server, and lets up to EDITORS editors, from 1 to 64, join it at SOCKET with `lsp_join SOCKET`."""
 _MOST_EDITORS = 64
@@ -63,14 +62,27 @@ def _start(command: list[str], stderr: Optional[BinaryIO] = None) -> Child:
 def _open_log(path: str) -> BinaryIO:
     """The file that the server's standard error goes to."""
     flags = os.O_WRONLY | os.O_CREAT | os.O_TRUNC | os.O_NOFOLLOW | os.O_CLOEXEC
-    return os.fdopen(os.open(path, flags, 0o600), "wb")
+    try:
+        return os.fdopen(os.open(path, flags, 0o600), "wb")
+    except OSError as why:
+        raise Unusable("%s can't be written: %s" % (path, why)) from None
+
+
+def wait_of(text: Optional[str]) -> Optional[float]:
+    """So many seconds a server has to end, if the text says so many."""
+    try:
+        seconds = _WAIT if text is None else float(text)
+    except ValueError:
+        return None
+    return seconds if 0 <= seconds < 1e6 else None
 
 
 class Share:
     """All that is begun, and has to be ended however the program ends."""
 
-    def __init__(self, arguments: Arguments, proxy: str) -> None:
+    def __init__(self, arguments: Arguments, proxy: str, wait: float) -> None:
         self._arguments = arguments
+        self._wait = wait
         self._proxy_command = [proxy, str(arguments.editors)]
         self._signals = Signals()
         self._children: list[Child] = []
@@ -93,9 +105,8 @@ class Share:
                 child.finish()
 
     def _run_at(self, listener: Listener) -> int:
-        wait = float(os.environ.get("LSP_SHARE_WAIT", _WAIT))
-        loop = Loop(self._arguments.editors, wait, listener, self._signals, say)
-        with _open_log(self._arguments.socket + ".log") as log:
+        loop = Loop(self._arguments.editors, self._wait, listener, self._signals, say)
+        with _open_log(listener.path + ".log") as log:
             self._children.append(_start(self._arguments.server, log))
         self._children.append(_start(self._proxy_command))
         reason = loop.run(*self._children)
@@ -113,8 +124,8 @@ class Share:
 
 def share(words: list[str], proxy: str) -> int:
     """The program lsp_share, with the proxy's path."""
-    arguments = arguments_of(words)
-    if arguments is None:
-        print(USAGE, file=sys.stderr)
+    arguments, wait = arguments_of(words), wait_of(os.environ.get("LSP_SHARE_WAIT"))
+    if arguments is None or wait is None:
+        say(USAGE)
         return Status.USAGE
-    return Share(arguments, proxy).run()
+    return Share(arguments, proxy, wait).run()

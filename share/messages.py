@@ -1,4 +1,6 @@
-"""Messages of JSON-RPC: what kind one is, in which form it goes to the proxy, and those that lsp_share makes itself."""
+"""Messages of JSON-RPC: what kind one is, in which form it goes to the proxy, and those that
+lsp_share makes itself.
+"""
 import json
 import re
 from dataclasses import dataclass

@@ -9,7 +9,8 @@ from room import Room
 from scripted import UNRULY, Share, until, wanted
 
 _MB = 1 << 20
-# Signals that stop or continue a process, that are ignored unless asked for, and that can't be caught.
+# Signals that stop or continue a process, that are ignored unless asked for, or that can't be
+# caught.
 _NO_END = {signal.SIGKILL, signal.SIGSTOP, signal.SIGTSTP, signal.SIGTTIN, signal.SIGTTOU, signal.SIGCONT, signal.SIGCHLD,
            signal.SIGURG, signal.SIGWINCH, signal.SIGPIPE, signal.SIGXFSZ}
 
@@ -25,12 +26,14 @@ def arguments_refused(room: Room) -> None:
     """EDITORS of 0 and 65, and other forms, give status 2."""
     for editors in ("0", "65", "-1", "+2", "x", "", "2 "):
         share = room.share(editors=editors)
-        _stays_out(room, share, 2, "Usage")
+        _stays_out(room, share, 2, "usage")
         wanted(not os.path.exists(share.path), "no socket is made for %r" % editors)
 
 
 def socket_in_use(room: Room) -> None:
-    """A socket at which somebody listens stays, and so does a file that is no socket; a folder that is gone is said."""
+    """A socket at which somebody listens stays, and so does a file that is no socket; a folder that
+    is gone is said.
+    """
     share = room.share()
     first = room.editor(share)
     first.start()
@@ -73,7 +76,9 @@ def server_missing(room: Room) -> None:
 
 
 def server_dies(room: Room) -> None:
-    """Each open request is answered, every connection ends, and the status is 1; the same where it dies at once."""
+    """Each open request is answered, every connection ends, and the status is 1; the same where it
+    dies at once.
+    """
     share = room.share()
     first, second = room.editors(share)
     second.put(id="open", method="test/silent")
@@ -101,7 +106,9 @@ def server_is_mute(room: Room) -> None:
 
 
 def server_is_deaf(room: Room) -> None:
-    """A server deaf to shutdown, the end of its input and SIGTERM is killed, with the process that it started."""
+    """A server deaf to shutdown, the end of its input and SIGTERM is killed, with the process that
+    it started.
+    """
     share = room.share("deaf", "child")
     first = room.editor(share)
     first.start()
@@ -111,7 +118,9 @@ def server_is_deaf(room: Room) -> None:
 
 
 def child_holds_output(room: Room) -> None:
-    """A server that ends while a process of its own holds its output open: the end is seen, and nothing stays."""
+    """A server that ends while a process of its own holds its output open: the end is seen, and
+    nothing stays.
+    """
     share = room.share("child")
     first = room.editor(share)
     first.start()
@@ -121,7 +130,8 @@ def child_holds_output(room: Room) -> None:
 
 
 def server_floods(room: Room) -> None:
-    """24 MB that one editor doesn't read: it is let go, the other goes on, and memory stays small."""
+    """24 MB that one editor doesn't read: it is let go, the other goes on, and memory stays small.
+    """
     share = room.share()
     first, second = room.editors(share)
     first.put(id=1, method="test/flood", params=[24, _MB])
@@ -155,7 +165,9 @@ def editor_asks_and_never_reads(room: Room) -> None:
 
 
 def editor_dies_within_frame(room: Room) -> None:
-    """An editor that dies within a frame, and one that sends half a head and waits: the others go on, and the end comes."""
+    """An editor that dies within a frame, and one that sends half a head and waits: the others go
+    on, and the end comes.
+    """
     share = room.share()
     first, second = room.editors(share)
     half = room.editor(share)
@@ -173,7 +185,9 @@ def editor_dies_within_frame(room: Room) -> None:
 
 
 def bad_frames_answered(room: Room) -> None:
-    """A head without a length is answered, and the next frame is read; a body that is too long ends the editor."""
+    """A head without a length is answered, and the next frame is read; a body that is too long ends
+    the editor.
+    """
     share = room.share()
     first, second = room.editors(share)
     first.send(b"Content-Size: 5\r\n\r\n")
@@ -205,7 +219,9 @@ def one_editor_too_many(room: Room) -> None:
 
 
 def every_signal(room: Room) -> None:
-    """Each signal that ends a process ends lsp_share with two editors: no process stays, and no socket."""
+    """Each signal that ends a process ends lsp_share with two editors: no process stays, and no
+    socket.
+    """
     numbers = sorted(signal.valid_signals() - _NO_END - set(range(signal.SIGRTMIN + 1, signal.SIGRTMAX)))
     for place in range(0, len(numbers), 13):
         shares = [(number, room.share_of([room.sample], path=os.path.join(room.folder, "s%d" % number))) for number in numbers[place:place + 13]]
@@ -231,7 +247,9 @@ def signal_at_any_time(room: Room) -> None:
 
 
 def killed_and_started_again(room: Room) -> None:
-    """After SIGKILL the children end at their input's end, and the next start takes the socket over."""
+    """After SIGKILL the children end at their input's end, and the next start takes the socket
+    over.
+    """
     share = room.share()
     first, second = room.editors(share)
     share.kill()

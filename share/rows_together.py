@@ -22,7 +22,8 @@ def _echoed(editor, id, value):
 
 
 def sample_shared(room: Room) -> None:
-    """Two editors before lsp_sample: one initialize, equal ids, a cancel, and status 0 at the end."""
+    """Two editors before lsp_sample: one initialize, equal ids, a cancel, and status 0 at the end.
+    """
     share = room.share_of([room.sample])
     first, second = room.editors(share)
     first.called("window/logMessage")
@@ -45,7 +46,9 @@ def sample_shared(room: Room) -> None:
 
 
 def numbers_carried(room: Room) -> None:
-    """Floats, large integers, texts with the mark, halves of pairs, and ids that the proxy can't carry."""
+    """Floats, large integers, texts with the mark, halves of pairs, and ids that the proxy can't
+    carry.
+    """
     first, _ = room.editors(room.share())
     sent = {"a": 1.25, "b": [2 ** 63, -2 ** 63 - 1, 10 ** 30, 1e300, 0.1], "\ue0f7": "\ue0f71", "c": "\ue0f7\ue0f7", "d": '"\ue0f72\\"'}
     wanted(first.ask(1, "test/echo", sent)["result"] == sent, "what was sent comes back")
@@ -86,7 +89,9 @@ def bad_answers_repaired(room: Room) -> None:
 
 
 def one_file(room: Room) -> None:
-    """One file in two editors: one text, versions of each one's own, another text is said and refused, and handed on."""
+    """One file in two editors: one text, versions of each one's own, another text is said and
+    refused, and handed on.
+    """
     first, second = room.editors(room.share())
     first.open(URI, "one")
     wanted(_diagnosed(first) == (1, ["one"]), "the first is told the diagnostics")
@@ -112,7 +117,8 @@ def one_file(room: Room) -> None:
 
 
 def file_handed_on(room: Room) -> None:
-    """The owner closes or leaves: the other's file stays open, with the server's text or its own."""
+    """The owner closes or leaves: the other's file stays open, with the server's text or its own.
+    """
     share = room.share()
     first, second = room.editors(share)
     third = room.editor(share)
@@ -142,7 +148,9 @@ def rename_versioned(room: Room) -> None:
 
 
 def edit_goes_to_asker(room: Room) -> None:
-    """workspace/applyEdit goes to the editor whose command is at work; when that leaves, the server hears so."""
+    """workspace/applyEdit goes to the editor whose command is at work; when that leaves, the server
+    hears so.
+    """
     first, second = room.editors(room.share())
     second.put(id=1, method=_COMMAND, params={"command": "x"})
     edit = second.called("workspace/applyEdit")
@@ -158,7 +166,9 @@ def edit_goes_to_asker(room: Room) -> None:
 
 
 def registrations_replayed(room: Room) -> None:
-    """What the server registers, the other editor and a late one hear too; what it let go they don't."""
+    """What the server registers, the other editor and a late one hear too; what it let go they
+    don't.
+    """
     share = room.share()
     first, second = room.editors(share)
     kinds = [{"id": "a", "method": "x"}, {"id": "b", "method": "y"}]
@@ -178,7 +188,9 @@ def registrations_replayed(room: Room) -> None:
 
 
 def initialize_prepared(room: Room) -> None:
-    """The server watches lsp_share, counts in UTF-16, and an editor hears nothing before its initialize is answered."""
+    """The server watches lsp_share, counts in UTF-16, and an editor hears nothing before its
+    initialize is answered.
+    """
     share = room.share()
     first, second = room.editor(share), room.editor(share)
     seen = first.start(capabilities={"general": {"positionEncodings": ["utf-8", "utf-16"]}, "offsetEncoding": ["utf-8"]})["seen"]

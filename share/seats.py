@@ -23,7 +23,9 @@ class Inlet:
         os.set_blocking(fd, False)
 
     def items(self) -> Iterator[Union[bytes, Fault]]:
-        """The bodies and faults that the next bytes tell. A body that is too long ends it, as the end of input does."""
+        """The bodies and faults that the next bytes tell. A body that is too long ends it, as the
+        end of input does.
+        """
         piece = read_some(self.fd)
         if piece is None:
             return
@@ -33,7 +35,9 @@ class Inlet:
 
 
 class Seat:
-    """An editor's connection, which has no side before its first frame. One too many never has one, and is told so."""
+    """An editor's connection, which has no side before its first frame. One too many never has one,
+    and is told so.
+    """
 
     def __init__(self, connection: socket.socket) -> None:
         self.side: Optional[int] = None

@@ -51,7 +51,9 @@ class Editor:
         self.asked.append(Asked(id, method, number))
 
     def answer(self, id: Any) -> Optional[str]:
-        """Notes the answer to a request, and gives its method. Of two under one id the later is refused first."""
+        """Notes the answer to a request, and gives its method. Of two under one id the later is
+        refused first.
+        """
         for place in range(len(self.asked) - 1, -1, -1):
             if self.asked[place].id == id:
                 return self.asked.pop(place).method
@@ -62,7 +64,9 @@ class Editor:
         return next((each.number for each in self.asked if each.method == method), None)
 
     def hold(self, body: bytes) -> None:
-        """Keeps what can't be sent before its initialize is answered, up to a bound; the oldest goes first."""
+        """Keeps what can't be sent before its initialize is answered, up to a bound; the oldest
+        goes first.
+        """
         self.held.append(body)
         self.held_size += len(body)
         while self.held_size > _MOST_HELD:
@@ -83,7 +87,9 @@ class Editor:
 
 
 def prepare_initialize(message: Message, pid: int) -> Message:
-    """An editor's initialize as the server is to see it: this process to watch, and positions in UTF-16."""
+    """An editor's initialize as the server is to see it: this process to watch, and positions in
+    UTF-16.
+    """
     params = message.get("params")
     if not isinstance(params, dict):
         return message

@@ -1,4 +1,6 @@
-"""What becomes of each message, between the editors' sockets, the proxy and the server. Nothing is read or written here."""
+"""What becomes of each message, between the editors' sockets, the proxy and the server. Nothing is
+read or written here.
+"""
 import os
 from functools import lru_cache
 from typing import Any, Optional
@@ -67,7 +69,9 @@ class Switch:
             self._end()
 
     def _end(self) -> None:
-        """The last editor has gone: sides that nobody took go too, or the server would never be shut down."""
+        """The last editor has gone: sides that nobody took go too, or the server would never be
+        shut down.
+        """
         self._is_ending = True
         for editor in self.editors:
             if editor.stage is Stage.AWAITED:
@@ -135,7 +139,9 @@ class Switch:
         self._carry_out(self._files.hear(editor.side, message))
 
     def _welcome(self, editor: Editor) -> None:
-        """An editor is ready: it registers what the server asked for before, and its folders are added."""
+        """An editor is ready: it registers what the server asked for before, and its folders are
+        added.
+        """
         if editor.is_welcome:
             return
         editor.is_welcome = True
@@ -257,7 +263,9 @@ class Switch:
             self._register(target, head.method, member(read_carried(body), "params"))
 
     def _register(self, target: int, method: str, params: Any) -> None:
-        """What the server registers or lets go at one editor, every other one that is welcome hears too."""
+        """What the server registers or lets go at one editor, every other one that is welcome hears
+        too.
+        """
         self._asks.register(method, params)
         for other in self.editors:
             if other.stage is Stage.READY and other.is_welcome and other.side != target:

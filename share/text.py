@@ -1,4 +1,6 @@
-"""The text of a file as one editor has it, kept up with its changes. Positions are in UTF-16 code units."""
+"""The text of a file as one editor has it, kept up with its changes. Positions are in UTF-16 code
+units.
+"""
 import re
 from typing import Any
 
@@ -34,7 +36,9 @@ def _offset(text: str, line: int, units: int) -> int:
 
 
 def _changed(text: str, change: Any) -> str:
-    """The text after one change, which is the whole text or a range of it and what stands there now."""
+    """The text after one change, which is the whole text or a range of it and what stands there
+    now.
+    """
     try:
         if change.get("range") is None:
             return change["text"] + ""

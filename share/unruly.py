@@ -1,7 +1,8 @@
 """A small language server of the tests, which misbehaves where it is asked to.
 
-Arguments: `die` ends it at once, `mute` lets it answer nothing, `deaf` lets it outlive its input, shutdown and
-SIGTERM, `child` starts a process that holds its output open, `banner` writes a line that is no frame.
+Arguments: `die` ends it at once, `mute` lets it answer nothing, `deaf` lets it outlive its input,
+shutdown and SIGTERM, `child` starts a process that holds its output open, `banner` writes a line
+that is no frame.
 """
 import json
 import os

@@ -1,7 +1,8 @@
 """JSON values on their way through the proxy.
 
-The proxy carries integers of 64 bits and no float. Every other number goes through it as a text that begins with a
-mark, and comes out as it was written; a text of the editor's own that begins with the mark gets one more.
+The proxy carries integers of 64 bits and no float. Every other number goes through it as a text
+that begins with a mark, and comes out as it was written; a text of the editor's own that begins
+with the mark gets one more.
 """
 import json
 import re
@@ -49,7 +50,9 @@ def _refuse_constant(text: str) -> Any:
 
 
 def _escaped(value: Any) -> Any:
-    """The value with one more mark before each text that begins with it, and each number that can't be carried."""
+    """The value with one more mark before each text that begins with it, and each number that can't
+    be carried.
+    """
     if isinstance(value, _Number):
         return _carried(value)
     if isinstance(value, str):
@@ -76,7 +79,9 @@ def read(body: bytes) -> Any:
 
 
 def read_carried(body: bytes) -> Any:
-    """The value of a text that the proxy wrote, or will read: each number that it can't carry stays a marked text."""
+    """The value of a text that the proxy wrote, or will read: each number that it can't carry stays
+    a marked text.
+    """
     return json.loads(body)
 
 
