@@ -138,12 +138,12 @@ def server_floods(room: Room) -> None:
     wanted(first.take(lambda m: m.get("id") == 1, "the flood's end", 20)["result"] == 24, "the one that reads has all")
     wanted("doesn't read" in share.said(), "the other is let go")
     wanted(first.ask(2, "test/echo", [2])["result"] == [2], "the one that reads goes on")
-    wanted(_peak(share.process.pid) < 64 << 10, "the most memory is under 64 MiB: %d KiB" % _peak(share.process.pid))
+    wanted(peak(share.process.pid) < 64 << 10, "the most memory is under 64 MiB: %d KiB" % peak(share.process.pid))
     first.leave()
     wanted(share.status() == 0, "the status is 0")
 
 
-def _peak(pid: int) -> int:
+def peak(pid: int) -> int:
     """The most memory that a process had, in KiB."""
     with open("/proc/%d/status" % pid, encoding="utf-8") as file:
         return next(int(line.split()[1]) for line in file if line.startswith("VmHWM"))
@@ -161,7 +161,7 @@ def editor_asks_and_never_reads(room: Room) -> None:
         first.ask(id, "test/echo", [id])
         trips.append(time.monotonic() - begun)
     wanted(sorted(trips)[20] < 0.5, "a round trip takes %.3f s" % sorted(trips)[20])
-    wanted(_peak(share.process.pid) < 64 << 10, "the most memory is under 64 MiB: %d KiB" % _peak(share.process.pid))
+    wanted(peak(share.process.pid) < 64 << 10, "the most memory is under 64 MiB: %d KiB" % peak(share.process.pid))
 
 
 def editor_dies_within_frame(room: Room) -> None:

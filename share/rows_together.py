@@ -162,6 +162,7 @@ def edit_goes_to_asker(room: Room) -> None:
     second.cut()
     first.ask(3, "test/sleep", 0.3)
     heard = first.ask(4, "test/heard")["result"]
+    wanted(["$/cancelRequest", None] in heard, "its command is cancelled: %s" % heard)
     wanted(any(each[0] == "answer" and each[1].get("code") == -32603 for each in heard), "the server's request is answered for the one that left: %s" % heard)
 
 

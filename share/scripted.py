@@ -55,14 +55,16 @@ def connected(path: str) -> socket.socket:
 
 
 class Editor:
-    """An editor that does what a test says, at the socket or through lsp_join."""
+    """An editor that does what a test says, at the socket, through lsp_join, or with a server
+    alone.
+    """
 
-    def __init__(self, path: str, through_join: bool = False) -> None:
+    def __init__(self, path: str, through_join: bool = False, command: Optional[list[str]] = None) -> None:
         self._reader = FrameReader()
         self._came: list[Any] = []
         self.process: Optional[subprocess.Popen] = None
-        if through_join:
-            self.process = subprocess.Popen([JOIN, path], stdin=subprocess.PIPE, stdout=subprocess.PIPE, bufsize=0)
+        if through_join or command:
+            self.process = subprocess.Popen(command or [JOIN, path], stdin=subprocess.PIPE, stdout=subprocess.PIPE, bufsize=0)
             self._in, self._out = self.process.stdin.fileno(), self.process.stdout.fileno()
         else:
             self._socket = connected(path)

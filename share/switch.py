@@ -8,16 +8,12 @@ from typing import Any, Optional
 from asks import REGISTER, UNREGISTER, Asks
 from diagnosed import Diagnosed
 from files import Files, Outcome
-from frames import BODY_LIMIT
 from messages import Code, Head, Kind, Message, Unfit, failure, head_of, kind_of, member, notification, outline, tidy
 from ports import Ports
 from sides import Editor, Stage, folders_of, prepare_initialize
-from values import NotJson, TooDeep, check_depth, read, read_carried, restore, write
+from values import NotJson, TooDeep, read, read_carried, restore, write
+from wrapped import SERVER, TooLong, unwrap, wrap
 
-SERVER = 0
-_INTO = b'{"jsonrpc":"2.0","method":"proxy/in","params":{"message":%b,"side":%d}}'
-_OUT = b'{"jsonrpc":"2.0","method":"proxy/out","params":{"message":'
-_SIDE = b',"side":'
 _DIAGNOSTICS = "textDocument/publishDiagnostics"
 _CANCEL = "$/cancelRequest"
 
@@ -60,6 +56,8 @@ class Switch:
         if not editor.is_here:
             return
         self._carry_out(self._files.leave(side))
+        for asked in editor.asked:
+            self._into(side, notification(_CANCEL, {"id": asked.id}))
         for proxy_side, message in self._asks.leave(side):
             self._into(proxy_side, message)
         editor.leave()
@@ -165,19 +163,15 @@ class Switch:
 
     def _into(self, side: int, message: Message) -> None:
         """Sends a message of this side to the proxy, if the proxy can carry it."""
-        body = _INTO % (write(message), side)
         try:
-            check_depth(message, body)
-        except TooDeep:
-            return self._lose(side, message, "it nests too deep")
-        if len(body) > BODY_LIMIT:
-            return self._lose(side, message, "it is too long")
-        self._ports.to_proxy(body)
+            self._ports.to_proxy(wrap(side, message))
+        except (TooDeep, TooLong) as why:
+            self._lose(side, message, str(why))
 
     def _lose_deep(self, side: int, body: bytes) -> None:
         """A message that nests so deep that it can't be read."""
         try:
-            self._lose(side, outline(body), "it nests too deep")
+            self._lose(side, outline(body), str(TooDeep()))
         except Unfit:
             self._ports.say("lost a message of side %d, which nests too deep" % side)
 
@@ -212,12 +206,12 @@ class Switch:
 
     def from_proxy(self, body: bytes) -> None:
         """Takes a body of the proxy, which is a message to one side."""
-        message, _, side = body[len(_OUT):-2].rpartition(_SIDE)
+        side, message = unwrap(body)
         head = head_of(message)
-        if int(side) == SERVER:
+        if side == SERVER:
             self._to_server(head, message)
         else:
-            self._to_editor(self.editors[int(side) - 1], head, message)
+            self._to_editor(self.editors[side - 1], head, message)
 
     def _to_server(self, head: Head, body: bytes) -> None:
         if head.method == "initialize":

@@ -9,11 +9,15 @@ import os
 import signal
 import subprocess
 import sys
+import threading
 import time
 from typing import Any, Callable, Optional
 
 from frames import FrameReader, frame
 from text import Text
+
+
+_writes = threading.Lock()
 
 
 class Unruly:
@@ -32,8 +36,9 @@ class Unruly:
     @staticmethod
     def write(data: bytes) -> None:
         """Sends bytes as they are."""
-        while data:
-            data = data[os.write(1, data):]
+        with _writes:
+            while data:
+                data = data[os.write(1, data):]
 
     def ask(self, method: str, params: Any) -> int:
         """Sends a request."""
@@ -154,6 +159,19 @@ class Unruly:
         for _ in range(params[0]):
             self.put(method="window/logMessage", params={"type": 4, "message": "x" * params[1]})
         self.put(id=id, result=params[0])
+
+    def on_stream(self, id: Any, params: Any) -> None:
+        """So many diagnostics of so many bytes, while it goes on with other messages, and then an
+        answer.
+        """
+
+        def stream() -> None:
+            for _ in range(params["count"]):
+                found = [{"message": "x" * params["size"]}]
+                self.put(method="textDocument/publishDiagnostics", params={"uri": params["uri"], "diagnostics": found})
+            self.put(id=id, result=None)
+
+        threading.Thread(target=stream, daemon=True).start()
 
     def on_sleep(self, id: Any, params: float) -> None:
         """Reads nothing for so long."""

@@ -24,6 +24,9 @@ class NotJson(ValueError):
 class TooDeep(ValueError):
     """The value nests deeper than the proxy carries."""
 
+    def __init__(self) -> None:
+        super().__init__("it nests too deep")
+
 
 class _Number(str):
     """A number that the proxy can't carry, as it was written."""
