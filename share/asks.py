@@ -30,8 +30,8 @@ class Asks:
     def route(self, side: int, id: Any, method: str, editors: list[Editor]) -> Optional[int]:
         """The side that is asked what the proxy asks of this one. None where nobody is there."""
         target = self._target(method, [editor for editor in editors if editor.stage is Stage.READY])
-        if target is None:
-            target = next((editor.side for editor in editors if editor.side == side and editor.is_here), None)
+        if target is None and editors[side - 1].stage is Stage.JOINED:
+            target = side
         if target is not None:
             self._routes[id] = Route(side, target)
         return target
@@ -47,8 +47,8 @@ class Asks:
         return min((editor.side for editor in ready), default=None)
 
     def answer(self, side: int, message: Message) -> Optional[tuple[int, Message]]:
-        """An editor's answer as the proxy is to have it. None where it answers a request of
-        lsp_share's own.
+        """An editor's answer as the proxy is to have it. None where it answers nothing that the
+        server asked of it.
         """
         id = message["id"]
         if isinstance(id, str) and id in self._own:
@@ -56,7 +56,7 @@ class Asks:
             return None
         route = self._routes.get(id)
         if route is None or route.asked_side != side:
-            return side, message
+            return None
         del self._routes[id]
         return route.proxy_side, message
 

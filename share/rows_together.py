@@ -50,7 +50,7 @@ def numbers_carried(room: Room) -> None:
     carry.
     """
     first, _ = room.editors(room.share())
-    sent = {"a": 1.25, "b": [2 ** 63, -2 ** 63 - 1, 10 ** 30, 1e300, 0.1], "\ue0f7": "\ue0f71", "c": "\ue0f7\ue0f7", "d": '"\ue0f72\\"'}
+    sent = {"a": 1.25, "b": [2 ** 63, -2 ** 63 - 1, 10 ** 30, 1e300, 0.1], "\ue0f71.5": "\ue0f71", "c": "\ue0f7\ue0f7", "d": '"\ue0f72\\"'}
     wanted(first.ask(1, "test/echo", sent)["result"] == sent, "what was sent comes back")
     first.send(b'Content-Length: 66\r\n\r\n{"jsonrpc":"2.0","id":2,"method":"test/echo","params":["\\ud800x"]}')
     wanted(first.answer(2)["result"] == ["\ufffdx"], "half a pair is replaced")
@@ -126,6 +126,10 @@ def file_handed_on(room: Room) -> None:
     for editor, text, version in ((first, "one", 1), (second, "one", 5), (third, "other", 9)):
         editor.open(URI, text, version)
         editor.settle()
+    third.called("window/showMessage")
+    second.open("file:///room/alone.c", "alone")
+    second.settle()
+    wanted(_hover(third, uri="file:///room/alone.c") == "alone", "the server has another file")
     first.close(URI)
     first.settle()
     wanted(_hover(second) == "one", "the second's hover is whole after the first's didClose")
@@ -133,6 +137,7 @@ def file_handed_on(room: Room) -> None:
     wanted(_hover(second) == "two", "and its changes pass")
     second.leave()
     wanted(_hover(third) == "other", "the third's text is the server's after the second left")
+    wanted(_hover(third, uri="file:///room/alone.c") is None, "the leaver's other file is closed")
     third.close(URI)
     wanted(_hover(third) is None, "the last didClose passes")
 

@@ -43,6 +43,10 @@ class Texts(unittest.TestCase):
         self.assertEqual(self._changed("\U0001f600x", (0, 2), (0, 3), "y"), "\U0001f600y")
         self.assertEqual(self._changed("ab\ncd", (0, 9), (7, 0), "!"), "ab!")
         self.assertEqual(self._changed("", (0, 0), (0, 0), "new"), "new")
+        self.assertEqual(self._changed("a\rb", (1, 0), (1, 0), "\n"), "a\r\nb")
+        self.assertEqual(self._changed("a\n", (1, 0), (1, 0), "b"), "a\nb")
+        self.assertEqual(self._changed("a", (1, 0), (1, 0), "b"), "ab")
+        self.assertEqual(self._changed("a\nb\nc", (2, 1), (0, 0), "!"), "a\nb\nc!")
 
     def test_no_change(self):
         for change in (5, {}, {"text": 1}, {"range": 1, "text": ""}, {"range": _range((0, 0), (0, "x")), "text": ""}):
@@ -60,7 +64,8 @@ class Texts(unittest.TestCase):
             text.change([{"range": _range(*places), "text": new}])
             lines = (lines[:first] + new + lines[last:])[:200]
             text.change([{"text": lines}] if len(lines) == 200 else [])
-        self.assertEqual(text.whole(), lines)
+            self.assertEqual(text.whole(), lines)
+            self.assertTrue(Text(lines).is_same(text))
 
 
 class Documents(unittest.TestCase):
@@ -136,7 +141,11 @@ class Requests(unittest.TestCase):
         asks.register(REGISTER, {"registrations": [{"id": "a"}, {"id": "a", "method": "m"}, 5]})
         copy = asks.replay()
         self.assertIsNone(asks.answer(1, {"id": copy["id"]}))
-        self.assertEqual(asks.answer(1, {"id": copy["id"]}), (1, {"id": copy["id"]}))
+        asks.route(1, 5, "x", [Editor(1, Stage.READY)])
+        self.assertIsNone(asks.answer(2, {"id": 5}))
+        self.assertEqual(asks.answer(1, {"id": 5}), (1, {"id": 5}))
+        self.assertIsNone(asks.answer(1, {"id": 5}))
+        self.assertIsNone(asks.route(1, 6, "x", [Editor(1, Stage.DOWN)]))
 
 
 if __name__ == "__main__":

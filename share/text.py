@@ -4,8 +4,7 @@ units.
 import re
 from typing import Any
 
-_LINE_END = re.compile(r"\r\n|\n|\r")
-_MOST_PENDING = 256
+_LINE = re.compile(r"[^\r\n]*(?:\r\n|\n|\r)|[^\r\n]+")
 
 
 class NoChange(ValueError):
@@ -13,7 +12,8 @@ class NoChange(ValueError):
 
 
 def _units(line: str, units: int) -> int:
-    """How many characters of a line so many code units are."""
+    """How many characters of a line, without its end, so many code units are."""
+    line = line.rstrip("\r\n")
     if line.isascii():
         return min(units, len(line))
     for place, character in enumerate(line):
@@ -23,59 +23,57 @@ def _units(line: str, units: int) -> int:
     return len(line)
 
 
-def _offset(text: str, line: int, units: int) -> int:
-    """Where a position stands in a text; one past the end of a line or of the text is that end."""
-    start = 0
-    for _ in range(line):
-        end = _LINE_END.search(text, start)
-        if end is None:
-            return len(text)
-        start = end.end()
-    end = _LINE_END.search(text, start)
-    return start + _units(text[start:end.start() if end else len(text)], units)
-
-
-def _changed(text: str, change: Any) -> str:
-    """The text after one change, which is the whole text or a range of it and what stands there
-    now.
-    """
-    try:
-        if change.get("range") is None:
-            return change["text"] + ""
-        start, end = change["range"]["start"], change["range"]["end"]
-        first = _offset(text, start["line"], start["character"])
-        last = max(first, _offset(text, end["line"], end["character"]))
-        return text[:first] + change["text"] + text[last:]
-    except (AttributeError, KeyError, TypeError) as why:
-        raise NoChange(repr(why)) from None
-
-
 class Text:
-    """A text, and changes that nobody had to see yet."""
+    """A text as its lines, each with its end, so that a change costs what the lines cost that it is
+    about.
+    """
 
     def __init__(self, text: str) -> None:
-        self._text = text
-        self._pending: list[Any] = []
-
-    def change(self, changes: list[Any]) -> None:
-        """Takes changes, in their order."""
-        self._pending += changes
-        if len(self._pending) > _MOST_PENDING:
-            self.whole()
+        self._lines: list[str] = _LINE.findall(text)
 
     def whole(self) -> str:
-        """The text after all changes. One that is no change leaves it as it was."""
-        for change in self._pending:
-            try:
-                self._text = _changed(self._text, change)
-            except NoChange:
-                pass
-        self._pending.clear()
-        return self._text
+        """The text."""
+        return "".join(self._lines)
 
     def is_same(self, other: "Text") -> bool:
-        """Whether both texts are equal. Equal ones are kept once."""
-        if self.whole() != other.whole():
+        """Whether both texts are equal. Equal lines are kept once."""
+        if self._lines != other._lines:
             return False
-        self._text = other._text
+        self._lines[:] = other._lines
         return True
+
+    def change(self, changes: list[Any]) -> None:
+        """Takes changes, in their order. One that is none leaves the text as it is."""
+        for change in changes:
+            try:
+                self._take(change)
+            except NoChange:
+                pass
+
+    def _take(self, change: Any) -> None:
+        """Takes one change: the whole text, or a range of it and what stands there from now on."""
+        try:
+            if change.get("range") is None:
+                self._lines = _LINE.findall(change["text"])
+                return
+            start, end = change["range"]["start"], change["range"]["end"]
+            self._splice((start["line"], start["character"]), (end["line"], end["character"]), change["text"])
+        except (AttributeError, KeyError, TypeError) as why:
+            raise NoChange(repr(why)) from None
+
+    def _splice(self, start: tuple[int, int], end: tuple[int, int], text: str) -> None:
+        """Puts a text in the place of what stands from start to end. The lines before and after are
+        cut anew as well, since a line end may begin in one and end in the other.
+        """
+        above = min(max(start[0] - 1, 0), len(self._lines))
+        below = max(start[0], end[0]) + 2
+        region = "".join(self._lines[above:below])
+        first = self._offset(above, start)
+        last = max(first, self._offset(above, end))
+        self._lines[above:below] = _LINE.findall(region[:first] + text + region[last:])
+
+    def _offset(self, above: int, position: tuple[int, int]) -> int:
+        """Where a position stands after the beginning of a line. One past an end is that end."""
+        line, units = position
+        before = sum(map(len, self._lines[above:line]))
+        return before + _units(self._lines[line], units) if line < len(self._lines) else before
