@@ -18,8 +18,7 @@ from measured import ROOT
 sys.path.insert(0, os.path.join(ROOT, "share"))
 
 from room import Room
-from rows_bad_input import peak
-from scripted import Editor
+from scripted import Editor, peak
 
 PROXY = os.path.join(ROOT, "crates", "lsp_proxy_main", "out", "lsp_proxy_main")
 CLANGD = ["clangd", "--log=error"]

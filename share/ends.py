@@ -98,7 +98,10 @@ class Child:
             self.signal(signal.SIGTERM)
             self.wait(_PATIENCE)
         self.signal(signal.SIGKILL)
-        return self._process.wait()
+        try:
+            return self._process.wait(_PATIENCE)
+        except subprocess.TimeoutExpired:
+            return -signal.SIGKILL
 
 
 @contextmanager

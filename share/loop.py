@@ -17,6 +17,7 @@ from switch import Switch
 _HIGH = 256 << 10
 # So many bytes may wait for an editor that doesn't read, beside one that does.
 _MOST_UNREAD = 8 << 20
+_MOST_SEATS = 256
 _LOOK = 0.5
 _SOON = 0.02
 _LAST_WORDS = 1.0
@@ -137,7 +138,7 @@ class Loop:
         now = time.monotonic()
         for seat in list(self._seats.values()):
             is_silent = seat.side is None and now - seat.since > _TO_BEGIN
-            if (seat.is_late or is_silent) and not seat.is_closing:
+            if not seat.is_closing and (seat.is_late or is_silent or seat.is_deserted):
                 self._leave(seat)
             if seat.is_done:
                 self._watch(seat.fd, 0)
@@ -176,7 +177,8 @@ class Loop:
         # The server is heard as fast as the fastest editor reads.
         hears = not self._seats or any(seat.outlet.size < _HIGH for seat in self._seats.values())
         for seat in self._seats.values():
-            reads = seat.outlet.size < _HIGH and not (is_proxy_full or is_server_full or seat.is_closing)
+            is_open = seat.outlet.size < _HIGH and not (is_proxy_full or is_server_full)
+            reads = seat.may_read(is_open) and not seat.is_closing
             self._watch(seat.fd, (_READ if reads else 0) | (_WRITE if seat.outlet.size else 0), partial(self._take_editor, seat))
         for ends, take, reads in ((self._proxy, self._take_proxy, True),
                                   (self._server, self._take_server, not is_proxy_full and hears)):
@@ -184,7 +186,7 @@ class Loop:
             self._watch(ends.outlet.fd, _WRITE if ends.outlet.size else 0)
         self._watch(self._signals.fd, _READ, partial(read_some, self._signals.fd))
         if self._listener.is_open:
-            self._watch(self._listener.socket.fileno(), _READ, self._join)
+            self._watch(self._listener.socket.fileno(), _READ if len(self._seats) < _MOST_SEATS else 0, self._join)
 
     def _write(self) -> None:
         self._proxy.outlet.write()

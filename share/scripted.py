@@ -13,6 +13,7 @@ from typing import Any, Optional
 from frames import FrameReader, frame
 
 LIMIT = 10.0
+MB = 1 << 20
 HERE = os.path.dirname(os.path.abspath(__file__))
 ROOT = os.path.dirname(HERE)
 SHARE = os.path.join(ROOT, "lsp_share")
@@ -64,7 +65,8 @@ class Editor:
         self._came: list[Any] = []
         self.process: Optional[subprocess.Popen] = None
         if through_join or command:
-            self.process = subprocess.Popen(command or [JOIN, path], stdin=subprocess.PIPE, stdout=subprocess.PIPE, bufsize=0)
+            self.process = subprocess.Popen(command or [JOIN, path], stdin=subprocess.PIPE,
+                                            stdout=subprocess.PIPE, stderr=subprocess.DEVNULL, bufsize=0)
             self._in, self._out = self.process.stdin.fileno(), self.process.stdout.fileno()
         else:
             self._socket = connected(path)
@@ -74,6 +76,15 @@ class Editor:
         """Sends bytes as they are."""
         while data:
             data = data[os.write(self._in, data):]
+
+    def fill(self) -> int:
+        """Sends notifications until no more is taken for a while, and says how many bytes were."""
+        note = frame(json.dumps({"jsonrpc": "2.0", "method": "x", "params": ["x" * 4000]}).encode("utf-8"))
+        os.set_blocking(self._in, False)
+        count = 0
+        while select.select([], [self._in], [], 0.5)[1]:
+            count += os.write(self._in, note[count % len(note):])
+        return count
 
     def put(self, **members: Any) -> None:
         """Sends a message."""
@@ -200,6 +211,12 @@ class Share:
         except subprocess.TimeoutExpired:
             raise Failure("lsp_share didn't end within %.0f seconds" % limit) from None
 
+    def stays_out(self, status: int, words: str) -> None:
+        """It ends at once with this status, having started nothing."""
+        wanted(self.status() == status, "the status is %d, not %d" % (status, self.process.returncode))
+        wanted(words in self.said(), "%r is said: %s" % (words, self.said()))
+        wanted(self.family() == [], "no process stays")
+
     def family(self) -> list[int]:
         """The processes that carry its mark in their environment, without lsp_share itself."""
         return [pid for pid in marked(self._mark + "\0") if pid != self.process.pid]
@@ -225,3 +242,9 @@ def marked(mark: str) -> list[int]:
         except OSError:
             pass
     return found
+
+
+def peak(pid: int) -> int:
+    """The most memory that a process had, in KiB."""
+    with open("/proc/%d/status" % pid, encoding="utf-8") as file:
+        return next(int(line.split()[1]) for line in file if line.startswith("VmHWM"))

@@ -1,5 +1,6 @@
 """The ends that the loop reads: an editor's connection, and the output of a child."""
 import os
+import select
 import socket
 import time
 from typing import Iterator, Optional, Union
@@ -11,6 +12,7 @@ from queues import Outlet, read_some
 from values import NotJson, TooDeep, read, restore, write
 
 _TO_CLOSE = 3.0
+_TO_BE_READ = 2.0
 
 
 class Inlet:
@@ -45,6 +47,7 @@ class Seat:
         self.outlet = Outlet(connection.fileno())
         self.since = time.monotonic()
         self.is_late = False
+        self._unread_since: Optional[float] = None
         self._closing_since: Optional[float] = None
         self._connection = connection
 
@@ -64,6 +67,20 @@ class Seat:
         if self._closing_since is None:
             return False
         return not self.outlet.size or self.is_late or time.monotonic() - self._closing_since > _TO_CLOSE
+
+    def may_read(self, is_so: bool) -> bool:
+        """Notes whether it may be read now, and says so."""
+        self._unread_since = None if is_so else self._unread_since or time.monotonic()
+        return is_so
+
+    @property
+    def is_deserted(self) -> bool:
+        """Whether the other end has closed, of a connection that hasn't been read for some time."""
+        if self._unread_since is None or time.monotonic() - self._unread_since < _TO_BE_READ:
+            return False
+        poll = select.poll()
+        poll.register(self.fd, select.POLLRDHUP)
+        return bool(poll.poll(0))
 
     def let_go(self) -> None:
         """Lets it go once what was sent is written."""
