@@ -32,7 +32,8 @@ def _length_of(head: bytes) -> Optional[int]:
 class FrameReader:
     """Finds bodies and faults in bytes, however they are cut into pieces."""
 
-    def __init__(self) -> None:
+    def __init__(self, limit: int = BODY_LIMIT) -> None:
+        self._limit = limit
         self._buffer = bytearray()
         self._length: Optional[int] = None
         # After a LONG_BODY nothing more comes.
@@ -70,7 +71,7 @@ class FrameReader:
         del self._buffer[:end + len(_EMPTY_LINE)]
         if length is None:
             return Fault.NO_LENGTH
-        if length > BODY_LIMIT:
+        if length > self._limit:
             self._buffer.clear()
             self.is_spent = True
             return Fault.LONG_BODY

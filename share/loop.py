@@ -5,10 +5,10 @@ import selectors
 import time
 from enum import Enum
 from functools import partial
-from typing import Any, Callable, Iterator, Optional
+from typing import Any, Callable, Optional
 
 from ends import Child, Listener, Signals
-from frames import Fault, frame
+from frames import BODY_LIMIT, Fault, frame
 from queues import read_some
 from seats import ChildEnds, Seat
 from switch import Switch
@@ -53,7 +53,8 @@ class Loop:
         """Carries until there is a reason to end, says what is left to say, and closes every
         socket.
         """
-        self._server, self._proxy = ChildEnds(server), ChildEnds(proxy)
+        # The proxy may put a longer id in the place of a shorter one.
+        self._server, self._proxy = ChildEnds(server), ChildEnds(proxy, 2 * BODY_LIMIT)
         try:
             reason = self._reason()
             while reason is None:

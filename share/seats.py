@@ -6,7 +6,7 @@ import time
 from typing import Iterator, Optional, Union
 
 from ends import Child
-from frames import Fault, FrameReader, frame
+from frames import BODY_LIMIT, Fault, FrameReader, frame
 from messages import Code, Kind, Unfit, failure, kind_of, tidy
 from queues import Outlet, read_some
 from values import NotJson, TooDeep, read, restore, write
@@ -18,10 +18,10 @@ _TO_BE_READ = 2.0
 class Inlet:
     """What is read frame by frame."""
 
-    def __init__(self, fd: int) -> None:
+    def __init__(self, fd: int, limit: int = BODY_LIMIT) -> None:
         self.fd = fd
         self.is_ended = False
-        self._reader = FrameReader()
+        self._reader = FrameReader(limit)
         os.set_blocking(fd, False)
 
     def items(self) -> Iterator[Union[bytes, Fault]]:
@@ -105,9 +105,9 @@ class Seat:
 class ChildEnds:
     """The input and the output of a child."""
 
-    def __init__(self, child: Child) -> None:
+    def __init__(self, child: Child, limit: int = BODY_LIMIT) -> None:
         self.child = child
-        self.inlet = Inlet(child.output)
+        self.inlet = Inlet(child.output, limit)
         self.outlet = Outlet(child.input)
 
     def finish_input(self) -> None:
