@@ -14,6 +14,7 @@ _HIGH = 1 << 20
 # A pipe that can be written takes so many bytes without a wait.
 _PIECE = select.PIPE_BUF
 _AFTER_INPUT = 10.0
+_TO_CONNECT = 10.0
 
 
 class Join:
@@ -96,6 +97,7 @@ def join(words: list[str]) -> int:
         print("Usage: lsp_join SOCKET", file=sys.stderr)
         return 2
     connection = socket.socket(socket.AF_UNIX)
+    connection.settimeout(_TO_CONNECT)
     try:
         connection.connect(words[0])
     except OSError as why:
