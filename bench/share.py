@@ -4,7 +4,7 @@
 Hovers are asked one after the other of a server alone, and of one behind lsp_share, lsp_join and
 lsp_proxy, in turn, with a second editor that has joined too. Then one editor reads none of 80 MB,
 while another's round trips are measured: answers of 100 KB, which it asks for one after the other and
-all at once, and diagnostics that the server sends as fast as they are taken.
+all at once, and diagnostics of 13 KB that the server sends as fast as they are taken.
 
 Usage: bench/share.py [PROXY]     (default: what stands in crates/lsp_proxy_main/out)
 """
@@ -24,7 +24,9 @@ PROXY = os.path.join(ROOT, "crates", "lsp_proxy_main", "out", "lsp_proxy_main")
 CLANGD = ["clangd", "--log=error"]
 TEXT = "int add(int first, int second) { return first + second; }\nint main(void) { return add(1, 2); }\n"
 URI = "file:///unread.c"
-HOVERS, TURNS, UNREAD, SIZE, TRIPS = 300, 3, 800, 100_000, 400
+HOVERS, TURNS, TRIPS = 300, 3, 400
+UNREAD, SIZE = 800, 100_000
+SENT, SENT_SIZE = 6150, 13_000
 
 
 def opened(editor, path):
@@ -58,7 +60,7 @@ def round_trips(proxy, folder):
         file.write(TEXT)
     with Room(proxy, "") as room:
         direct = Editor("", command=CLANGD)
-        share = room.share_of(CLANGD)
+        share = room.share_of(CLANGD, editors=2)
         beside, through = room.editors(share)[0], room.editor(share, True)
         opened(direct, path)
         opened(through, path)
@@ -86,13 +88,13 @@ def is_sent(second, number):
     """Has the server send diagnostics of a file that it alone has open."""
     if not number:
         second.open(URI, "")
-        second.put(id=1, method="test/stream", params={"uri": URI, "count": UNREAD, "size": SIZE})
+        second.put(id=1, method="test/stream", params={"uri": URI, "count": SENT, "size": SENT_SIZE})
 
 
 def unread(proxy, act):
     """Round trips of one editor while another acts so, and reads nothing."""
     with Room(proxy, "") as room:
-        share = room.share()
+        share = room.share(editors=2)
         first, second = room.editors(share)
         trips = []
         for number in range(TRIPS):

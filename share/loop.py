@@ -14,7 +14,7 @@ from seats import ChildEnds, Seat
 from switch import Switch
 
 # Where so many bytes wait, what makes more of them isn't read.
-_HIGH = 256 << 10
+_HIGH = 64 << 10
 # So many bytes may wait for an editor that doesn't read, beside one that does.
 _MOST_UNREAD = 8 << 20
 _MOST_SEATS = 256

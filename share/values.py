@@ -11,9 +11,11 @@ from typing import Any
 DEPTH_LIMIT = 125
 _MARK = "\ue0f7"
 _MARK_BYTES = _MARK.encode("utf-8")
-_MARKED = re.compile(r'(?<!\\)"\ue0f7(?:([-0-9][^"\\]*)"|\ue0f7)')
+_MARKED = re.compile(r'"\ue0f7(?:([-0-9][^"\\]*)"|\ue0f7)')
 _MARK_ESCAPED = re.compile(rb"\\ue0f7", re.IGNORECASE)
-_MANY_DIGITS = re.compile(rb"[0-9]{19}")
+# A number of so many digits may be one of more than 64 bits. This finds them faster than a pattern.
+_MANY_DIGITS = b"0" * 19
+_DIGITS_ALIKE = bytes(ord("0") if chr(code) in "0123456789" else 0 for code in range(256))
 _encoder = json.JSONEncoder(ensure_ascii=False, separators=(",", ":"))
 
 
@@ -37,7 +39,7 @@ def _carried(text: str) -> str:
 
 
 def _is_small(text: str) -> bool:
-    return len(text) <= 20 and -2 ** 63 <= int(text) < 2 ** 63
+    return len(text) < 19 or (len(text) <= 20 and -2 ** 63 <= int(text) < 2 ** 63)
 
 
 def _integer(text: str) -> Any:
@@ -73,7 +75,7 @@ def read(body: bytes) -> Any:
         text = body.decode("utf-8")
         if _MARK_BYTES in body or _MARK_ESCAPED.search(body):
             return _escaped(json.loads(text, parse_float=_Number, parse_int=_integer_or_number, parse_constant=_refuse_constant))
-        parse_int = _integer if _MANY_DIGITS.search(body) else None
+        parse_int = _integer if _MANY_DIGITS in body.translate(_DIGITS_ALIKE) else None
         return json.loads(text, parse_float=_carried, parse_int=parse_int, parse_constant=_refuse_constant)
     except RecursionError:
         raise TooDeep() from None
@@ -97,12 +99,19 @@ def write(value: Any) -> bytes:
         return text.encode("utf-16", "surrogatepass").decode("utf-16", "replace").encode("utf-8")
 
 
+def _unmarked(found: re.Match) -> str:
+    """What stands in the place of a mark. A quote after a backslash begins no text."""
+    if found.string[found.start() - 1] == "\\":
+        return found[0]
+    return found[1] or '"' + _MARK
+
+
 def restore(body: bytes) -> bytes:
     """A text that came out of the proxy, with each number as it was written."""
     if _MARK_BYTES not in body:
         return body
     text = body.decode("utf-8")
-    return _MARKED.sub(lambda found: found[1] or '"' + _MARK, text).encode("utf-8")
+    return _MARKED.sub(_unmarked, text).encode("utf-8")
 
 
 def check_depth(value: Any, body: bytes) -> None:
