@@ -60,7 +60,7 @@ def round_trips(proxy, folder):
         file.write(TEXT)
     with Room(proxy, "") as room:
         direct = Editor("", command=CLANGD)
-        share = room.share_of(CLANGD, editors=2)
+        share = room.share_of(CLANGD, editors=3)
         beside, through = room.editors(share)[0], room.editor(share, True)
         opened(direct, path)
         opened(through, path)

@@ -11,13 +11,37 @@ import subprocess
 import sys
 import threading
 import time
+from collections import deque
 from typing import Any, Callable, Optional
 
 from frames import FrameReader, frame
 from text import Text
 
 
-_writes = threading.Lock()
+class Turns:
+    """A lock that is given in the order in which it was asked for."""
+
+    def __init__(self) -> None:
+        self._lock = threading.Lock()
+        self._gates: deque = deque()
+
+    def __enter__(self) -> None:
+        gate = threading.Lock()
+        gate.acquire()
+        with self._lock:
+            self._gates.append(gate)
+            if len(self._gates) == 1:
+                gate.release()
+        gate.acquire()
+
+    def __exit__(self, *_: Any) -> None:
+        with self._lock:
+            self._gates.popleft()
+            if self._gates:
+                self._gates[0].release()
+
+
+_writes = Turns()
 
 
 class Unruly:
