@@ -31,6 +31,7 @@ def editor_says_all_at_once(room: Room) -> None:
     second.send(b"".join(frame(b'{"id":%d,"method":"test/big","params":%d}' % (id, MB)) for id in range(24)))
     until(lambda: "doesn't read" in share.said(), "it is let go")
     wanted(first.ask(1, "test/echo", [1])["result"] == [1], "the other goes on")
+    second.ended()
     wanted(peak(share.process.pid) < 64 << 10, "under 64 MiB: %d KiB" % peak(share.process.pid))
 
 

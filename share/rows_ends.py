@@ -81,7 +81,9 @@ def signal_at_any_time(room: Room) -> None:
     """SIGTERM at any time from the start on: no process stays, and no socket."""
     for step in range(16):
         share = Share(room.folder, room.proxy, UNRULY)
-        time.sleep(step * 0.015)
+        if step >= 8:
+            share.ready()
+        time.sleep(step % 8 * 0.02)
         share.kill(signal.SIGTERM)
         wanted(share.status() in (128 + signal.SIGTERM, -signal.SIGTERM), "the status is %s" % share.process.returncode)
         share.left_nothing()

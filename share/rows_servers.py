@@ -3,12 +3,12 @@ import os
 import signal
 
 from room import Room
-from scripted import MB, peak, wanted
+from scripted import MB, UNRULY, peak, wanted
 
 
 def server_missing(room: Room) -> None:
     """A server that isn't there, and a proxy that isn't, give status 69, and no socket stays."""
-    for options in ({"server": ["/nowhere/server"]}, {"server": [room.folder]}, {"server": ["cat"], "proxy": "/nowhere/proxy"}):
+    for options in ({"server": ["/nowhere/server"]}, {"server": [room.folder]}, {"server": [*UNRULY, "deaf"], "proxy": "/nowhere/proxy"}):
         share = room.share_of(**options)
         share.stays_out(69, "can't be started")
         share.left_nothing()

@@ -27,7 +27,6 @@ def sample_shared(room: Room) -> None:
     share = room.share_of([room.sample])
     first, second = room.editors(share)
     first.called("window/logMessage")
-    second.called("window/logMessage")
     for id in range(50):
         _echoed(first, id, "first %d" % id)
         _echoed(second, id, "second %d" % id)

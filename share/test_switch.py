@@ -3,6 +3,7 @@ import json
 import unittest
 
 from messages import failure, notification, request
+from sides import folders_of
 from switch import Switch
 
 
@@ -122,6 +123,12 @@ class Switches(unittest.TestCase):
         self.switch.from_proxy(_out(1, {"jsonrpc": "2.0", "id": 1, "result": 5}))
         self.switch.ended("gone")
         self.assertEqual([message["id"] for _, _, message in self.ports.sent], [1, "1", 1.5, None])
+
+    def test_folders(self):
+        uri = "file:///a/b"
+        for params, wanted in (({"rootUri": uri}, [{"uri": uri, "name": "b"}]), ({"rootUri": None}, []), ({}, []), (None, []),
+                               ({"rootUri": uri, "workspaceFolders": [{"uri": "x", "name": "y"}, 5]}, [{"uri": "x", "name": "y"}])):
+            self.assertEqual(folders_of(request(1, "initialize", params)), wanted)
 
     def test_lost_messages(self):
         self._join()
