@@ -124,3 +124,26 @@ fn opened_once_and_shut_down(rt: HostRuntime) -> Result<(), RowError> {
     );
     trial.end()
 }
+
+#[test]
+fn a_notification_to_all(rt: HostRuntime) -> Result<(), RowError> {
+    let alloc = rt.alloc();
+    let mut proxy = Proxy::new(alloc, 2)?;
+    let mut trial = Trial::new(alloc);
+    let sent = proxy.server(note(alloc, "n")?);
+    trial.text(
+        "to each",
+        shown(alloc, sent),
+        concat!(
+            "[(Editor(0), Request(Request { method: \"n\", params: None, id: None })), ",
+            "(Editor(1), Request(Request { method: \"n\", params: None, id: None }))]"
+        ),
+    );
+    let outgoing = proxy.server_outgoing(note(alloc, "n")?);
+    trial.shows(
+        "once",
+        outgoing,
+        "Ok(Broadcast([0, 1], Request { method: \"n\", params: None, id: None }))",
+    );
+    trial.end()
+}
