@@ -1,3 +1,4 @@
+ghost use Rattle.lsp_frame.specs.Items.{AreLimits};
 ghost use Rattle.lsp_frame.specs.Shown.{IsFloatFree};
 
 use bytes::BytesMut;
@@ -52,7 +53,9 @@ fn try_stream(
     alloc: Global,
     limits: Limits,
     row: &Stream,
-) -> Result<(), NoMemory> {
+) -> Result<(), NoMemory>
+    requires { AreLimits limits }
+{
     let mut codec = LanguageServerCodec::with_limits(alloc, limits);
     for piece in row.pieces {
         codec.feed(piece)?;
