@@ -164,24 +164,21 @@ fn values_pass(rt: HostRuntime) -> Result<(), RowError> {
 fn failures(rt: HostRuntime) -> Result<(), Fail> {
     let alloc = rt.alloc();
     let mut trial = Trial::new(alloc);
+    let sent = framed(alloc, SENT)?;
     // Reads, and writes with flushes, are numbered from 1. A first read of 200 bytes tells one
-    // message.
+    // message, whose frame has 129 bytes when it is sent.
     for (failing_read, failing_call, reads, written, error) in [
-        (2, 0, 9, 1, ServeError::ReadFault),
+        (2, 0, 9, 129, ServeError::ReadFault),
         (0, 1, 9, 0, ServeError::WriteFault),
-        (0, 2, 9, 1, ServeError::WriteFault),
-        (0, 0, 1, 1, ServeError::ReadsSpent),
+        (0, 2, 9, 129, ServeError::WriteFault),
+        (0, 0, 1, 129, ServeError::ReadsSpent),
     ] {
-        let sent = framed(alloc, ASKED)?;
-        let mut source = MemorySource::new(sent, 200, vec![in alloc; failing_read]?);
+        let asked = framed(alloc, ASKED)?;
+        let mut source = MemorySource::new(asked, 200, vec![in alloc; failing_read]?);
         let mut sink = MemorySink::new(alloc, vec![in alloc; failing_call]?);
         let answer = relay(alloc, 2, &mut source, &mut sink, reads);
-        let wanted = framed(alloc, SENT.get(..written).unwrap_or(&[]))?;
-        trial.same(
-            format_args!("before {error:?}"),
-            sink.bytes(),
-            wanted.as_slice(),
-        );
+        let wanted: &[u8] = sent.as_slice().get(..written).unwrap_or(&[]);
+        trial.same(format_args!("before {error:?}"), sink.bytes(), wanted);
         trial.same("the error", answer, Err(error));
     }
     Ok(trial.end()?)
