@@ -12,7 +12,7 @@ from typing import Any, Optional
 
 from frames import FrameReader, frame
 
-LIMIT = 10.0
+LIMIT = 30.0
 MB = 1 << 20
 HERE = os.path.dirname(os.path.abspath(__file__))
 ROOT = os.path.dirname(HERE)
