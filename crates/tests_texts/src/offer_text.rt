@@ -14,7 +14,7 @@ use lsp_offer_text::{
     TextDocumentSyncCapability, TextDocumentSyncOptions, TextDocumentSyncSaveOptions,
     TypeDefinitionProviderCapability, WorkspaceSymbolOptions,
 };
-use lsp_rows::{RowError, Trial};
+use lsp_rows::{RowError, Trial, text_of};
 
 const TEXT_DOCUMENT_SYNC_CAPABILITY: &str = r#"
 142 :: Kind(TextDocumentSyncKind(142))
@@ -362,7 +362,12 @@ fn rows_4(rt: HostRuntime) -> Result<(), RowError> {
 fn defaults(rt: HostRuntime) -> Result<(), RowError> {
     let alloc = rt.alloc();
     let mut trial = Trial::new(alloc);
-    trial.is_written(TextDocumentSyncOptions::default(), r#"{}"#);
+    // Lent, since the prover makes no plan for a call that takes it.
+    trial.text(
+        "TextDocumentSyncOptions",
+        text_of(alloc, &TextDocumentSyncOptions::default()),
+        r#"{}"#,
+    );
     trial.is_written(SaveOptions::default(), r#"{}"#);
     trial.is_written(CompletionOptions::default(), r#"{}"#);
     trial.is_written(CompletionOptionsCompletionItem::default(), r#"{}"#);
