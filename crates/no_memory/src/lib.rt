@@ -1,12 +1,14 @@
 //! The answer of a call that was out of memory.
 #![tactic(auto)]
 
-ghost use Rattle.std.specs.Prelude.{Some, codes};
+ghost use Rattle.std.specs.IoError.{error_kind};
+ghost use Rattle.std.specs.declared.io.ErrorKind.TheVariants.{OutOfMemory};
+ghost use Rattle.std.specs.Prelude.{◌≡◌, Some, codes};
 
 use std::alloc::{AllocError, AllocFailed};
 use std::convert::From;
 use std::error::Error;
-use std::fmt;
+use std::{fmt, io};
 
 /// An allocation was refused.
 #[derive(Clone, Copy, Debug, PartialEq, Eq)]
@@ -21,6 +23,15 @@ impl From<AllocError> for NoMemory {
 impl<T: Drop> From<AllocFailed<T>> for NoMemory {
     fn from(_: AllocFailed<T>) -> NoMemory {
         NoMemory
+    }
+}
+
+/// The error of kind `OutOfMemory`, as that of the allocator, so that `?` carries it on.
+impl From<NoMemory> for io::Error {
+    ghost from_gives = { λ _ e. error_kind e ≡ OutOfMemory };
+
+    fn from(_: NoMemory) -> io::Error {
+        io::Error::from(AllocError)
     }
 }
 
