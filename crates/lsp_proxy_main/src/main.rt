@@ -1,31 +1,17 @@
 //! Relays between several editors and one language server, over standard input and output.
 #![tactic(auto)]
 
-use lsp_relay::{Status, run_proxy};
+use lsp_program::{Status, words};
+use lsp_relay::run_proxy;
 use lsp_server::{ReadSource, Sink, WriteSink};
-use std::alloc::Global;
-use std::io::{BufWriter, ErrorKind};
+use std::env;
+use std::io::BufWriter;
 use std::process::ExitCode;
-use std::rt::Env;
-use std::{env, io};
-
-/// The program's arguments, without its own name.
-fn program_arguments(rt: &(impl Env + Alloc<A = Global>)) -> io::Result<Vec<String>> {
-    let mut arguments = Vec::new(rt.alloc());
-    for argument in env::args(rt)?.skip(1) {
-        arguments.push(argument)?;
-    }
-    Ok(arguments)
-}
 
 fn main(rt: HostRuntime) -> ExitCode {
-    let arguments = match program_arguments(&rt) {
+    let arguments = match words(rt.alloc(), env::args(&rt)) {
         Ok(arguments) => arguments,
-        // An argument that isn't UTF-8 is none of the program's.
-        Err(error) if error.kind() == ErrorKind::InvalidData => {
-            return ExitCode::from(Status::Usage as u8);
-        }
-        Err(_) => return ExitCode::from(Status::NoMemory as u8),
+        Err(status) => return ExitCode::from(status as u8),
     };
     let Ok(output) = BufWriter::new(rt.alloc(), rt.stdout()) else {
         return ExitCode::from(Status::NoMemory as u8);

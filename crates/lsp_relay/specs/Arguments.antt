@@ -1,18 +1,9 @@
 -- The arguments of the program, and how it ends.
-use Rattle.std.specs.Prelude.{ℕ, ◌^◌, ◌&&◌, List, [], ◌∷◌, length, nat_lt, nat_le, if◌then◌else◌, Option, Some, None, IfSome, option_and_then, map, String, string_bytes}
+use Rattle.std.specs.Prelude.{ℕ, ◌&&◌, List, [], ◌∷◌, nat_le, if◌then◌else◌, Option, Some, None, IfSome, option_and_then, map, String, string_bytes}
 use Rattle.std.specs.declared.alloc.Global.{Global}
-use Rattle.std.specs.Str.{all_ascii_digits}
-use Rattle.std.specs.Str.Parse.{digits_value}
 use Rattle.lsp_server.specs.Served.{CallBytes}
-use Rattle.lsp_server.specs.declared.step.ServeError.{ServeError}
-use Rattle.lsp_server.specs.declared.step.ServeError.TheVariants.{ReadFault, WriteFault, ReadsSpent, NoMemory, DeskSpent}
+use Rattle.lsp_program.specs.Number.{number_of}
 use Rattle.lsp_relay.specs.Relay.{IsRelayed}
-
--- the number of a argument of decimal digits alone, where it fits 64 bits
-abbrev pub number_of : List ℕ → Option ℕ
-number_of argument =
-    if (nat_lt 0 (length argument) && all_ascii_digits argument) && nat_lt (digits_value 10 argument) (2 ^ 64)
-    then Some (digits_value 10 argument) else None
 
 -- a number from 1 to 64
 abbrev pub up_to_64 : ℕ → Option ℕ
@@ -36,14 +27,6 @@ pub record HasRelayed (editors : ℕ) (call : CallBytes) : Type 0 where
   pub passed : ℕ
   pub dropped : ℕ
   pub relayed : IsRelayed editors call passed dropped
-
--- the exit status by the error; a relay has no desk that could be spent
-abbrev pub status_of : ServeError → ℕ
-status_of ReadFault = 3
-status_of WriteFault = 4
-status_of ReadsSpent = 5
-status_of NoMemory = 6
-status_of (DeskSpent n) = 7
 
 -- the arguments ask for editors, over a source that tells its bytes: this holds of their number and these bytes
 abbrev pub WhereTold : List (String Global) → Option (List ℕ) → (ℕ → List ℕ → Type 0) → Type 0

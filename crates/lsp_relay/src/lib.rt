@@ -14,5 +14,6 @@ mod run;
 mod value;
 mod write;
 
+pub use lsp_program::Status;
 pub use reads::{Relayed, relay, relay_over};
-pub use run::{Status, run_proxy};
+pub use run::run_proxy;

@@ -3,28 +3,12 @@ ghost use Rattle.std.specs.Prelude.{◌≡◌, ◌≢◌, ℕ, ◌≤◌, ◌<�
 ghost use Rattle.lsp_server.specs.SourceSink.{CountRose, IsFlushed};
 ghost use Rattle.lsp_server.specs.Served.{call_bytes};
 ghost use Rattle.lsp_relay.specs.Relay.{WroteTold, WrotePart};
-ghost use Rattle.lsp_relay.specs.Arguments.{asked, editors_of, number_of, status_of as status_of_lem, HasRelayed, WhereTold};
+ghost use Rattle.lsp_relay.specs.Arguments.{asked, editors_of, HasRelayed, WhereTold};
 
 use crate::reads::relay;
-use lsp_server::{ServeError, Sink, Source};
+use lsp_program::{Status, number, status_of};
+use lsp_server::{Sink, Source};
 use std::alloc::Global;
-
-/// How the program ends: its exit status.
-#[derive(Clone, Copy, Debug, PartialEq, Eq)]
-pub enum Status {
-    /// The input was relayed to its end.
-    Done = 0,
-    /// The arguments are not one number of editors.
-    Usage = 2,
-    /// A read failed.
-    ReadFault = 3,
-    /// A write failed.
-    WriteFault = 4,
-    /// The most reads that can be counted were made.
-    ReadsSpent = 5,
-    /// Out of memory.
-    NoMemory = 6,
-}
 
 /// Runs the program over a source and a sink, and answers its exit status.
 ///
@@ -82,7 +66,9 @@ pub fn run_proxy<I: Source, O: Sink>(
     }
 }
 
-// Relays between so many editors, with all the reads that can be counted.
+// Relays between so many editors, with all the reads that can be counted. A relay has no desk that
+// could be spent.
+#[tactic(auto, using(lsp_program::proofs::StatusLemmas::status_known))]
 fn relay_all<I: Source, O: Sink>(alloc: Global, editors: u32, source: &mut I, sink: &mut O) -> u8
     requires { 1 ≤ editors }
     ensures known { (result ≤ 6) × (result ≢ 1) × (result ≢ 2) }
@@ -112,20 +98,6 @@ fn relay_all<I: Source, O: Sink>(alloc: Global, editors: u32, source: &mut I, si
     }
 }
 
-// A relay has no desk that could be spent.
-fn status_of(error: ServeError) -> u8
-    requires { (n : ℕ) → error ≢ ServeError.DeskSpent n }
-    ensures { result ≡ status_of_lem error }
-{
-    match error {
-        ServeError::ReadFault => Status::ReadFault as u8,
-        ServeError::WriteFault => Status::WriteFault as u8,
-        ServeError::ReadsSpent => Status::ReadsSpent as u8,
-        ServeError::NoMemory => Status::NoMemory as u8,
-        ServeError::DeskSpent(_) => unreachable!(),
-    }
-}
-
 // How many editors the arguments ask for: one argument.
 fn read_arguments(arguments: &Vec<String>) -> Option<u32>
     ensures value { result ≡ asked arguments.now.items }
@@ -144,16 +116,5 @@ fn read_argument(argument: &str) -> Option<u32>
     match number(argument) {
         Some(n) if 1 <= n && n <= 64 => Some(n as u32),
         _ => None,
-    }
-}
-
-// The number that is written in decimal digits alone. Std's reader takes a plus sign too.
-fn number(argument: &str) -> Option<u64>
-    ensures { result ≡ number_of argument.now }
-{
-    if argument.as_bytes().starts_with(b"+") {
-        None
-    } else {
-        argument.parse::<u64>().ok()
     }
 }

@@ -11,19 +11,19 @@ use Rattle.lsp_sample.specs.declared.arguments.Setting.{Setting}
 use Rattle.lsp_sample.specs.declared.arguments.MadeUp.{MadeUp}
 use Rattle.lsp_sample.specs.Arguments.{default_setting}
 use Rattle.lsp_sample.specs.Run.{Served, IsShutDown, IsNotShutDown}
-use Rattle.lsp_sample.specs.Bulk.{next_drawn, drawn, body_of, bodies, generated, summary, Writes, IsSummary}
+use Rattle.lsp_sample.specs.Bulk.{next_drawn, number_drawn, body_of, bodies, generated, summary, Writes, IsSummary}
 use Rattle.lsp_sample.proofs.RunLemmas.{on_some}
 use Rattle.lsp_sample.specs.Tally.{one, counts}
 
 -- ---- what is made up
 
-pub drawn_next : (seed k x y : ℕ) → x ≡ drawn seed k → y ≡ next_drawn x → y ≡ drawn seed (k + 1)
+pub drawn_next : (seed k x y : ℕ) → x ≡ number_drawn seed k → y ≡ next_drawn x → y ≡ number_drawn seed (k + 1)
 drawn_next seed k x y is next = rw add-one (next ∙ ap next_drawn is)
 
-bodies_one : (seed k : ℕ) (head : List ℕ) → head ++ (bodies seed k ++ framed (body_of (k + 1) (drawn seed (k + 1)))) ≡ head ++ bodies seed (k + 1)
+bodies_one : (seed k : ℕ) (head : List ℕ) → head ++ (bodies seed k ++ framed (body_of (k + 1) (number_drawn seed (k + 1)))) ≡ head ++ bodies seed (k + 1)
 bodies_one seed k head = rw add-one refl
 
-pub bodies_next : (seed k y : ℕ) (head old new : List ℕ) → old ≡ head ++ bodies seed k → y ≡ drawn seed (k + 1) → new ≡ old ++ framed (body_of (k + 1) y) → new ≡ head ++ bodies seed (k + 1)
+pub bodies_next : (seed k y : ℕ) (head old new : List ℕ) → old ≡ head ++ bodies seed k → y ≡ number_drawn seed (k + 1) → new ≡ old ++ framed (body_of (k + 1) y) → new ≡ head ++ bodies seed (k + 1)
 bodies_next seed k y head old new was is more =
     more ∙ ap (λ l. l ++ framed (body_of (k + 1) y)) was ∙ append_assoc head (bodies seed k) (framed (body_of (k + 1) y))
     ∙ ap (λ z. head ++ (bodies seed k ++ framed (body_of (k + 1) z))) is ∙ bodies_one seed k head

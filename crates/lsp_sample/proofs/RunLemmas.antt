@@ -1,11 +1,8 @@
--- The exit status, the life that stood at `exit`, and the error that a server stopped for.
+-- The exit status and the life that stood at `exit`; what the sample is served with.
 use Rattle.std.proofs.Common.{◌≡◌, ◌≢◌, ◌≤◌, ◌⊎◌, ℕ, true, refl, subst, arith}
 use Rattle.std.specs.Prelude.{Option, Some, None, IfSome, ⊤}
 use Rattle.lsp_desk.specs.declared.life.Life.{Life}
 use Rattle.lsp_desk.specs.declared.life.Life.TheVariants.{Uninitialized, Initializing, Initialized, ShutDown, Exited}
-use Rattle.lsp_server.specs.declared.step.ServeError.{ServeError}
-use Rattle.lsp_server.specs.declared.step.ServeError.TheVariants.{ReadFault, WriteFault, ReadsSpent, NoMemory, DeskSpent}
-use Rattle.lsp_server.specs.Errors.{IsBetweenReads, ComesUnfailed}
 use Rattle.lsp_desk.specs.declared.plain.PlainDesk.{PlainDesk}
 use Rattle.lsp_frame.specs.declared.limits.Limits.{Limits}
 use Rattle.lsp_frame.specs.Codec.{default_limits}
@@ -17,7 +14,7 @@ use Rattle.lsp_server.specs.Served as server
 use Rattle.lsp_server.specs.Served.{CallBytes, ServedView}
 use Rattle.lsp_sample.specs.declared.arguments.Setting.{Setting}
 use Rattle.lsp_sample.specs.Sample.{sample_semantics}
-use Rattle.lsp_sample.specs.Run.{sample, SampleState, in_order, server_setting, Served, WroteTold, WrotePart, status_at, status_of, IsShutDown, IsNotShutDown}
+use Rattle.lsp_sample.specs.Run.{sample, SampleState, in_order, server_setting, Served, SampleWroteTold, SampleWrotePart, status_at, IsShutDown, IsNotShutDown}
 
 -- ---- the life
 
@@ -45,58 +42,6 @@ status_at_low (Some Initialized) = omega arith
 status_at_low (Some ShutDown) = omega arith
 status_at_low (Some Exited) = omega arith
 
--- ---- the error
-
-pub status_of_high : (e : ServeError) → 3 ≤ status_of e
-status_of_high ReadFault = omega arith
-status_of_high WriteFault = omega arith
-status_of_high ReadsSpent = omega arith
-status_of_high NoMemory = omega arith
-status_of_high (DeskSpent n) = omega arith
-
-pub status_three : (e : ServeError) → status_of e ≡ 3 → e ≡ ReadFault
-status_three ReadFault h = refl
-status_three WriteFault h = cc
-status_three ReadsSpent h = cc
-status_three NoMemory h = cc
-status_three (DeskSpent n) h = cc
-
-pub status_four : (e : ServeError) → status_of e ≡ 4 → e ≡ WriteFault
-status_four ReadFault h = cc
-status_four WriteFault h = refl
-status_four ReadsSpent h = cc
-status_four NoMemory h = cc
-status_four (DeskSpent n) h = cc
-
-pub status_five : (e : ServeError) → status_of e ≡ 5 → e ≡ ReadsSpent
-status_five ReadFault h = cc
-status_five WriteFault h = cc
-status_five ReadsSpent h = refl
-status_five NoMemory h = cc
-status_five (DeskSpent n) h = cc
-
-pub status_between : (e : ServeError) → (status_of e ≡ 3) ⊎ (status_of e ≡ 5) → IsBetweenReads e
-status_between ReadFault h = tt
-status_between WriteFault h = omega arith
-status_between ReadsSpent h = tt
-status_between NoMemory h = omega arith
-status_between (DeskSpent n) h = omega arith
-
--- a desk of one's own is never spent
-pub status_known : (e : ServeError) → ((n : ℕ) → e ≢ DeskSpent n) → status_of e ≤ 6
-status_known ReadFault h = omega arith
-status_known WriteFault h = omega arith
-status_known ReadsSpent h = omega arith
-status_known NoMemory h = omega arith
-status_known (DeskSpent n) h = absurd (h n refl)
-
-pub status_unfailed : (e : ServeError) → ComesUnfailed true e → status_of e ≡ 6
-status_unfailed ReadFault h = absurd h
-status_unfailed WriteFault h = absurd h
-status_unfailed ReadsSpent h = absurd h
-status_unfailed NoMemory h = refl
-status_unfailed (DeskSpent n) h = cc
-
 -- ---- what the sample is served with
 
 abbrev pub server_setting_from : PlainDesk → ℕ → ℕ → ℕ → Limits → server_course.Setting Sample PlainDesk ⊤
@@ -123,11 +68,11 @@ served_as setting desk s call view P new is serves enough ends = record {
 }
 
 pub told_as : (setting : Setting) (desk : PlainDesk) (s : server_course.Setting Sample PlainDesk ⊤) (call : CallBytes) (last : PlainDesk)
-    → IsOpening plain_meaning desk → s ≡ server_setting desk setting.max setting.rounds → server.WroteTold (course_of s) call last → WroteTold setting call
+    → IsOpening plain_meaning desk → s ≡ server_setting desk setting.max setting.rounds → server.WroteTold (course_of s) call last → SampleWroteTold setting call
 told_as setting desk s call last new is wrote = record { desk = desk; opening = new; last_desk = last; wrote = subst (λ x. server.WroteTold (course_of x) call last) is wrote }
 
 pub part_as : (setting : Setting) (desk : PlainDesk) (s : server_course.Setting Sample PlainDesk ⊤) (call : CallBytes)
-    → IsOpening plain_meaning desk → s ≡ server_setting desk setting.max setting.rounds → server.WrotePart (course_of s) call 4096 → WrotePart setting call
+    → IsOpening plain_meaning desk → s ≡ server_setting desk setting.max setting.rounds → server.WrotePart (course_of s) call 4096 → SampleWrotePart setting call
 part_as setting desk s call new is wrote = record { desk = desk; opening = new; wrote = subst (λ x. server.WrotePart (course_of x) call 4096) is wrote }
 
 -- ---- what is told of a source's bytes

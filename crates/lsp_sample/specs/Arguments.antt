@@ -1,16 +1,11 @@
 -- The forms of the program's arguments.
-use Rattle.std.specs.Prelude.{ℕ, ◌^◌, ◌≤◌, ◌&&◌, List, [], ◌∷◌, length, nat_lt, if◌then◌else◌, bytes_eq, codes, Option, Some, None, option_and_then, option_map, map, String, string_bytes}
+use Rattle.std.specs.Prelude.{ℕ, ◌≤◌, List, [], ◌∷◌, nat_lt, if◌then◌else◌, bytes_eq, codes, Option, Some, None, option_and_then, option_map, map, String, string_bytes}
 use Rattle.std.specs.declared.alloc.Global.{Global}
-use Rattle.std.specs.Str.{all_ascii_digits}
-use Rattle.std.specs.Str.Parse.{digits_value}
+use Rattle.lsp_program.specs.Number.{number_of}
 use Rattle.lsp_sample.specs.declared.arguments.Setting.{Setting}
 use Rattle.lsp_sample.specs.declared.arguments.MadeUp.{MadeUp}
 use Rattle.lsp_sample.specs.declared.arguments.Form.{Form}
 use Rattle.lsp_sample.specs.declared.arguments.Form.TheVariants.{Serve, Bulk}
-
--- decimal digits alone, at least one, of a number within 64 bits
-abbrev pub number_of : List ℕ → Option ℕ
-number_of argument = if (nat_lt 0 (length argument) && all_ascii_digits argument) && nat_lt (digits_value 10 argument) (2 ^ 64) then Some (digits_value 10 argument) else None
 
 -- a number that is at least 1
 abbrev pub from_one : ℕ → Option ℕ
@@ -45,8 +40,8 @@ form_of (argument ∷ first ∷ second ∷ []) =
 form_of (argument ∷ first ∷ second ∷ more ∷ arguments) = None
 
 -- what the arguments ask for
-abbrev pub asked : List (String Global) → Option Form
-asked arguments = form_of (map string_bytes arguments)
+abbrev pub form_asked : List (String Global) → Option Form
+form_asked arguments = form_of (map string_bytes arguments)
 
 -- the numbers are within their bounds
 abbrev pub IsForm : Form → Type 0

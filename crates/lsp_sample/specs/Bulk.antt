@@ -17,9 +17,9 @@ abbrev pub next_drawn : ℕ → ℕ
 next_drawn x = (x * 1103515245 + 12345) % 2147483648
 
 -- the k-th number that is drawn from a seed
-abbrev pub drawn : ℕ → ℕ → ℕ
-drawn seed zero = seed % 2147483648
-drawn seed (suc k) = next_drawn (drawn seed k)
+abbrev pub number_drawn : ℕ → ℕ → ℕ
+number_drawn seed zero = seed % 2147483648
+number_drawn seed (suc k) = next_drawn (number_drawn seed k)
 
 -- `workspace/executeCommand` with a command and, where there is one, its one argument
 abbrev pub execute : ℕ → List ℕ → List ℕ
@@ -32,24 +32,24 @@ abbrev pub wait : ℕ → ℕ → List ℕ
 wait k polls = execute k (codes "wait\",\"arguments\":[" ++ decimal polls ++ codes "]")
 
 -- a method that no server has
-abbrev pub unknown_method : ℕ → List ℕ
-unknown_method k = codes "{\"jsonrpc\":\"2.0\",\"method\":\"bulk/none\",\"id\":" ++ decimal k ++ codes "}"
+abbrev pub unknown_text : ℕ → List ℕ
+unknown_text k = codes "{\"jsonrpc\":\"2.0\",\"method\":\"bulk/none\",\"id\":" ++ decimal k ++ codes "}"
 
 -- a command that the sample doesn't have
 abbrev pub unknown_command : ℕ → List ℕ
 unknown_command k = execute k (codes "none\"")
 
-abbrev pub initialized : List ℕ
-initialized = codes "{\"jsonrpc\":\"2.0\",\"method\":\"initialized\",\"params\":{}}"
+abbrev pub initialized_text : List ℕ
+initialized_text = codes "{\"jsonrpc\":\"2.0\",\"method\":\"initialized\",\"params\":{}}"
 
 -- the kinds of messages, each as likely as another
 abbrev pub by_kind : ℕ → ℕ → ℕ → List ℕ
 by_kind kind k x =
     if kind == 0 then echo k
     else (if kind == 1 then wait k (x % 4)
-    else (if kind == 2 then unknown_method k
+    else (if kind == 2 then unknown_text k
     else (if kind == 3 then unknown_command k
-    else initialized)))
+    else initialized_text)))
 
 -- the k-th message, where x was drawn for it
 abbrev pub body_of : ℕ → ℕ → List ℕ
@@ -58,10 +58,10 @@ body_of k x = by_kind ((x / 65536) % 5) k x
 -- the frames of the first so many messages
 abbrev pub bodies : ℕ → ℕ → List ℕ
 bodies seed zero = []
-bodies seed (suc k) = bodies seed k ++ framed (body_of (suc k) (drawn seed (suc k)))
+bodies seed (suc k) = bodies seed k ++ framed (body_of (suc k) (number_drawn seed (suc k)))
 
-abbrev pub initialize : List ℕ
-initialize = codes "{\"jsonrpc\":\"2.0\",\"method\":\"initialize\",\"params\":{\"capabilities\":{}},\"id\":0}"
+abbrev pub initialize_text : List ℕ
+initialize_text = codes "{\"jsonrpc\":\"2.0\",\"method\":\"initialize\",\"params\":{\"capabilities\":{}},\"id\":0}"
 
 abbrev pub shutdown : ℕ → List ℕ
 shutdown k = codes "{\"jsonrpc\":\"2.0\",\"method\":\"shutdown\",\"id\":" ++ decimal k ++ codes "}"
@@ -71,7 +71,7 @@ exit = codes "{\"jsonrpc\":\"2.0\",\"method\":\"exit\"}"
 
 -- `initialize`, so many messages, `shutdown` and `exit`
 abbrev pub generated : MadeUp → List ℕ
-generated s = framed initialize ++ bodies s.seed s.count ++ framed (shutdown (s.count + 1)) ++ framed exit
+generated s = framed initialize_text ++ bodies s.seed s.count ++ framed (shutdown (s.count + 1)) ++ framed exit
 
 -- ---- the summary of what the server writes
 

@@ -9,8 +9,6 @@ use Rattle.lsp_desk.specs.Plain.{plain_meaning}
 use Rattle.lsp_frame.specs.Codec.{default_limits}
 use Rattle.lsp_session.specs.State.{State}
 use Rattle.lsp_session.specs.Run.{Order, Picked, order_by}
-use Rattle.lsp_server.specs.declared.step.ServeError.{ServeError}
-use Rattle.lsp_server.specs.declared.step.ServeError.TheVariants.{ReadFault, WriteFault, ReadsSpent, NoMemory, DeskSpent}
 use Rattle.lsp_server.specs.Course.{Course, course}
 use Rattle.lsp_server.specs.Course as server_course
 use Rattle.lsp_server.specs.Served as server
@@ -23,7 +21,7 @@ use Rattle.lsp_sample.specs.declared.arguments.Form.{Form}
 use Rattle.lsp_sample.specs.declared.arguments.Form.TheVariants.{Serve, Bulk}
 use Rattle.lsp_sample.specs.Calls.{CallData}
 use Rattle.lsp_sample.specs.Sample.{sample_semantics}
-use Rattle.lsp_sample.specs.Arguments.{asked}
+use Rattle.lsp_sample.specs.Arguments.{form_asked}
 
 abbrev pub sample : Sample
 sample = record {}
@@ -54,25 +52,17 @@ pub record Served (setting : Setting) (call : CallBytes) (P : Option Life → Ty
   pub ends : P view.exited
 
 -- what was written is that of the sample's session over the items told by the bytes read
-pub record WroteTold (setting : Setting) (call : CallBytes) : Type 0 where
+pub record SampleWroteTold (setting : Setting) (call : CallBytes) : Type 0 where
   pub desk : PlainDesk
   pub opening : IsOpening plain_meaning desk
   pub last_desk : PlainDesk
   pub wrote : server.WroteTold (sample_course setting desk) call last_desk
 
 -- what was written begins the output of the sample's session over all these bytes
-pub record WrotePart (setting : Setting) (call : CallBytes) : Type 0 where
+pub record SampleWrotePart (setting : Setting) (call : CallBytes) : Type 0 where
   pub desk : PlainDesk
   pub opening : IsOpening plain_meaning desk
   pub wrote : server.WrotePart (sample_course setting desk) call 4096
-
--- the exit status by the error
-abbrev pub status_of : ServeError → ℕ
-status_of ReadFault = 3
-status_of WriteFault = 4
-status_of ReadsSpent = 5
-status_of NoMemory = 6
-status_of (DeskSpent n) = 7
 
 -- the exit status by the life that stood at `exit`
 abbrev pub status_at : Option Life → ℕ
@@ -100,9 +90,9 @@ OfMadeUp P (Serve setting) = Unit {0}
 OfMadeUp P (Bulk session) = P session
 
 -- the arguments are a form of serving, over a source that tells its bytes: this holds of their setting and these bytes
-abbrev pub WhereTold : List (String Global) → Option (List ℕ) → (Setting → List ℕ → Type 0) → Type 0
-WhereTold arguments left P = IfSome (asked arguments) (OfServing left P)
+abbrev pub WhereServing : List (String Global) → Option (List ℕ) → (Setting → List ℕ → Type 0) → Type 0
+WhereServing arguments left P = IfSome (form_asked arguments) (OfServing left P)
 
 -- the arguments are those of a made-up session, of which this holds
 abbrev pub WhereMadeUp : List (String Global) → (MadeUp → Type 0) → Type 0
-WhereMadeUp arguments P = IfSome (asked arguments) (OfMadeUp P)
+WhereMadeUp arguments P = IfSome (form_asked arguments) (OfMadeUp P)

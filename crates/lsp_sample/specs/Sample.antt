@@ -75,17 +75,17 @@ abbrev pub waits : ℕ → ℕ → Progress Waiting
 waits left polls = if left == 0 then Done (Ok (number (unsigned polls))) else Pending (record { left = left - 1; polls = polls })
 
 -- a call ends at its first poll, unless it is a wait
-abbrev pub first : CallData → Progress Waiting
-first Initialize = Done (outcome_of Initialize)
-first Initialized = Done (outcome_of Initialized)
-first Shutdown = Done (outcome_of Shutdown)
-first (Execute (Wait polls)) = waits polls polls
-first (Execute other) = Done (outcome_of (Execute other))
+abbrev pub first_poll : CallData → Progress Waiting
+first_poll Initialize = Done (outcome_of Initialize)
+first_poll Initialized = Done (outcome_of Initialized)
+first_poll Shutdown = Done (outcome_of Shutdown)
+first_poll (Execute (Wait polls)) = waits polls polls
+first_poll (Execute other) = Done (outcome_of (Execute other))
 
-pub record Begins (s : Sample) (c : CallData) (asked : List DeskEntry) (s2 : Sample) (progress : Progress Waiting) : Type 0 where
+pub record BeginsCall (s : Sample) (c : CallData) (asked : List DeskEntry) (s2 : Sample) (progress : Progress Waiting) : Type 0 where
   pub same : s2 ≡ s
   pub asks : Asks c asked
-  pub gives : progress ≡ first c
+  pub gives : progress ≡ first_poll c
 
 pub record Resumes (s : Sample) (t : Waiting) (asked : List DeskEntry) (s2 : Sample) (progress : Progress Waiting) : Type 0 where
   pub same : s2 ≡ s
@@ -105,7 +105,7 @@ sample_semantics = record {
   find = λ s name. sample_find name;
   reads = λ entry params. read_by entry.layer entry.kind params;
   is_sound = is_sound;
-  begins = Begins;
+  begins = BeginsCall;
   resumes = Resumes;
   answers = λ c outcome. outcome ≡ outcome_of c;
 }

@@ -16,7 +16,7 @@ use Rattle.lsp_sample.specs.declared.sample.Sample.{Sample}
 use Rattle.lsp_sample.specs.declared.command.Waiting.{Waiting}
 use Rattle.lsp_sample.specs.Calls.{CommandData, Echo, Wait, Unknown, CallData, Initialize, Initialized, Shutdown, Execute, outcome_of, is_sound}
 use Rattle.lsp_sample.specs.Params.{is_object, has_capabilities, sole, echo, wait_for, command, command_with, command_in}
-use Rattle.lsp_sample.specs.Sample.{Asks, waits, first, call_of_wait, read_by, executes, sample_semantics}
+use Rattle.lsp_sample.specs.Sample.{Asks, waits, first_poll, call_of_wait, read_by, executes, sample_semantics}
 
 -- ---- what is read may be begun
 
@@ -109,7 +109,7 @@ comes_if false left polls = refl
 comes_waiting : (left polls : ℕ) → Comes (Execute (Wait polls)) (waits left polls)
 comes_waiting left polls = comes_if (left == 0) (left - 1) polls
 
-comes_first : (c : CallData) → Comes c (first c)
+comes_first : (c : CallData) → Comes c (first_poll c)
 comes_first Initialize = refl
 comes_first Initialized = refl
 comes_first Shutdown = refl

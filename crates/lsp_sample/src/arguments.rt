@@ -1,6 +1,8 @@
 // What the program's arguments ask for.
 ghost use Rattle.std.specs.Prelude.{◌≡◌, ◌≤◌, IfSome};
-ghost use Rattle.lsp_sample.specs.Arguments.{number_of, positive_of, count_of, numbers_of, session_of, asked, IsForm};
+ghost use Rattle.lsp_sample.specs.Arguments.{positive_of, count_of, numbers_of, session_of, form_asked, IsForm};
+
+use lsp_program::number;
 
 /// How a session is served.
 #[derive(Clone, Copy, Debug, PartialEq, Eq)]
@@ -37,7 +39,7 @@ pub const MOST: u64 = 100_000;
 /// What the arguments ask for: none, `serve`, `serve MAX ROUNDS`, or `bulk SEED COUNT`, where all
 /// are decimal numbers, MAX and ROUNDS of at least 1 and COUNT from 1 to [`MOST`].
 pub(crate) fn read_arguments(arguments: &Vec<String>) -> Option<Form>
-    ensures value { result ≡ asked arguments.now.items }
+    ensures value { result ≡ form_asked arguments.now.items }
     ensures form { IfSome result IsForm }
 {
     match arguments.as_slice() {
@@ -93,16 +95,5 @@ fn positive(argument: &str) -> Option<u64>
     match number(argument) {
         Some(n) if n > 0 => Some(n),
         _ => None,
-    }
-}
-
-// Std's reader takes a plus sign too.
-fn number(argument: &str) -> Option<u64>
-    ensures { result ≡ number_of argument.now }
-{
-    if argument.as_bytes().starts_with(b"+") {
-        None
-    } else {
-        argument.parse::<u64>().ok()
     }
 }

@@ -5,7 +5,7 @@ ghost use Rattle.lsp_sample.specs.Tally.{IsCounted};
 ghost use Rattle.lsp_frame.specs.Codec.{shown, message as message_item};
 ghost use Rattle.lsp_frame.specs.Frames.{framed};
 ghost use Rattle.lsp_server.specs.SourceSink.{CountRose, IsFlushed};
-ghost use Rattle.lsp_sample.specs.Bulk.{next_drawn, body_of, bodies, echo as echo_lem, wait as wait_lem, unknown_method as unknown_method_lem, unknown_command as unknown_command_lem, shutdown as shutdown_lem, generated, read_of, is_reply, is_error, is_own, summary as summary_lem, IsSummary, WroteSummary, WroteSome};
+ghost use Rattle.lsp_sample.specs.Bulk.{next_drawn, body_of, bodies, echo as echo_lem, wait as wait_lem, unknown_text as unknown_method_lem, unknown_command as unknown_command_lem, shutdown as shutdown_lem, generated, read_of, is_reply, is_error, is_own, summary as summary_lem, IsSummary, WroteSummary, WroteSome};
 
 use crate::arguments::{DEFAULT, MadeUp};
 use crate::line::write_line;

@@ -4,7 +4,7 @@ ghost use Rattle.std.specs.Io.KnownBytes.{Appends};
 ghost use Rattle.lsp_server.specs.SourceSink.{CountRose, IsFlushed};
 ghost use Rattle.lsp_server.specs.Written.{IsPrefixOf};
 
-use crate::run::Status;
+use lsp_program::Status;
 use lsp_server::{Refused, Sink, write_all};
 
 /// Writes and flushes the line, and answers the exit status.

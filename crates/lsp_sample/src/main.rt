@@ -14,32 +14,19 @@ mod tests;
 
 pub use arguments::{Form, MOST, MadeUp, Setting};
 pub use command::{Command, Waiting};
+use lsp_program::words;
+pub use lsp_program::Status;
 use lsp_server::{ReadSource, Sink, WriteSink};
-pub use run::{Status, run};
+pub use run::run;
 pub use sample::{Sample, SampleCall};
-use std::alloc::Global;
-use std::io::{BufWriter, ErrorKind};
+use std::env;
+use std::io::BufWriter;
 use std::process::ExitCode;
-use std::rt::Env;
-use std::{env, io};
-
-/// The program's arguments, without its own name.
-fn program_arguments(rt: &(impl Env + Alloc<A = Global>)) -> io::Result<Vec<String>> {
-    let mut arguments = Vec::new(rt.alloc());
-    for argument in env::args(rt)?.skip(1) {
-        arguments.push(argument)?;
-    }
-    Ok(arguments)
-}
 
 fn main(rt: HostRuntime) -> ExitCode {
-    let arguments = match program_arguments(&rt) {
+    let arguments = match words(rt.alloc(), env::args(&rt)) {
         Ok(arguments) => arguments,
-        // An argument that isn't UTF-8 is none of the program's.
-        Err(error) if error.kind() == ErrorKind::InvalidData => {
-            return ExitCode::from(Status::Usage as u8);
-        }
-        Err(_) => return ExitCode::from(Status::NoMemory as u8),
+        Err(status) => return ExitCode::from(status as u8),
     };
     let Ok(output) = BufWriter::new(rt.alloc(), rt.stdout()) else {
         return ExitCode::from(Status::NoMemory as u8);

@@ -5,39 +5,18 @@ ghost use Rattle.lsp_desk.specs.Meaning.{IsOpening};
 ghost use Rattle.lsp_desk.specs.Plain.{plain_meaning};
 ghost use Rattle.lsp_server.specs.Served.{call_bytes};
 ghost use Rattle.lsp_server.specs.ServerView.{server_desk, setting as setting_lem};
-ghost use Rattle.lsp_sample.specs.Arguments.{asked};
+ghost use Rattle.lsp_sample.specs.Arguments.{form_asked};
 ghost use Rattle.lsp_sample.specs.Bulk.{WroteSummary, WroteSome};
-ghost use Rattle.lsp_sample.specs.Run.{sample, server_setting, status_at as status_at_lem, status_of as status_of_lem, Served as SampleServed, WhereTold, WhereMadeUp, IsShutDown, IsNotShutDown, WroteTold, WrotePart};
+ghost use Rattle.lsp_sample.specs.Run.{sample, server_setting, status_at as status_at_lem, Served as SampleServed, WhereServing, WhereMadeUp, IsShutDown, IsNotShutDown, SampleWroteTold, SampleWrotePart};
 
 use crate::arguments::{Form, read_arguments};
 use crate::bulk::bulk;
 use crate::{Sample, Setting};
 use lsp_desk::{ClientSocket, PlainDesk};
-use lsp_server::{ServeError, Server, Sink, Source};
+use lsp_program::{Status, status_of};
+use lsp_server::{Server, Sink, Source};
 use lsp_session::{InOrder, Life};
 use std::alloc::Global;
-
-/// How the program ends: its exit status.
-#[derive(Clone, Copy, Debug, PartialEq, Eq)]
-#[repr(u8)]
-pub enum Status {
-    /// `exit` came after `shutdown`.
-    Done = 0,
-    /// `exit` came without `shutdown`, or the input ended before it.
-    Unfinished = 1,
-    /// The arguments are none of the forms.
-    Usage = 2,
-    /// A read failed.
-    ReadFault = 3,
-    /// A write failed.
-    WriteFault = 4,
-    /// The most reads that can be counted were made.
-    ReadsSpent = 5,
-    /// Out of memory.
-    NoMemory = 6,
-    /// The desk had no turns left. `run` never ends so: its desk is its own.
-    DeskSpent = 7,
-}
 
 /// Runs the program over a source and a sink, and answers its exit status.
 ///
@@ -55,16 +34,16 @@ pub fn run<I: Source, O: Sink>(
     ensures known { result ≤ 6 }
 
     // The arguments.
-    ensures usage { (result ≡ 2) ↔ (asked arguments.now.items ≡ None) }
-    ensures untouched { asked arguments.now.items ≡ None → (source.new ≡ source.old)
+    ensures usage { (result ≡ 2) ↔ (form_asked arguments.now.items ≡ None) }
+    ensures untouched { form_asked arguments.now.items ≡ None → (source.new ≡ source.old)
         × (sink.new ≡ sink.old) }
 
     // What is written is a session over all the source's bytes.
-    ensures done { result ≡ 0 → WhereTold arguments.now.items (I.left source.old) (λ setting bytes.
+    ensures done { result ≡ 0 → WhereServing arguments.now.items (I.left source.old) (λ setting bytes.
         SampleServed setting (call_bytes bytes (I.left source.new) (O.taken sink.old)
         (O.taken sink.new)) IsShutDown) }
     ensures unfinished { result ≡ 1
-        → WhereTold arguments.now.items (I.left source.old) (λ setting bytes.
+        → WhereServing arguments.now.items (I.left source.old) (λ setting bytes.
         SampleServed setting (call_bytes bytes (I.left source.new) (O.taken sink.old)
         (O.taken sink.new)) IsNotShutDown) }
 
@@ -83,7 +62,7 @@ pub fn run<I: Source, O: Sink>(
     ensures write_told { O.faults sink.old < O.faults sink.new → result ≡ 4 }
 
     // So with no failure, and with fewer bytes than reads, only `NoMemory` may come.
-    ensures complete { WhereTold arguments.now.items (I.left source.old)
+    ensures complete { WhereServing arguments.now.items (I.left source.old)
         (λ _ bytes. length bytes < 2 ^ 64 - 1
         → ¬ CountRose (I.faults source.old) (I.faults source.new)
         → ¬ CountRose (O.faults sink.old) (O.faults sink.new)
@@ -91,11 +70,11 @@ pub fn run<I: Source, O: Sink>(
 
     // What was written by then.
     ensures exact { (result ≡ 3) ⊎ (result ≡ 5)
-        → WhereTold arguments.now.items (I.left source.old) (λ setting bytes.
-        WroteTold setting (call_bytes bytes (I.left source.new) (O.taken sink.old)
+        → WhereServing arguments.now.items (I.left source.old) (λ setting bytes.
+        SampleWroteTold setting (call_bytes bytes (I.left source.new) (O.taken sink.old)
         (O.taken sink.new))) }
-    ensures part { 3 ≤ result → WhereTold arguments.now.items (I.left source.old) (λ setting bytes.
-        WrotePart setting (call_bytes bytes (I.left source.new) (O.taken sink.old)
+    ensures part { 3 ≤ result → WhereServing arguments.now.items (I.left source.old) (λ setting bytes.
+        SampleWrotePart setting (call_bytes bytes (I.left source.new) (O.taken sink.old)
         (O.taken sink.new))) }
 
     // A made-up session is served in memory, and its summary is written.
@@ -151,10 +130,10 @@ pub(crate) fn serve<I: Source, O: Sink>(
         → ¬ CountRose (O.faults sink.old) (O.faults sink.new)
         → (result ≤ 1) ⊎ (result ≡ 6)) }
     ensures exact { (result ≡ 3) ⊎ (result ≡ 5)
-        → IfSome (I.left source.old) (λ bytes. WroteTold setting
+        → IfSome (I.left source.old) (λ bytes. SampleWroteTold setting
         (call_bytes bytes (I.left source.new) (O.taken sink.old) (O.taken sink.new))) }
     ensures part { 3 ≤ result
-        → IfSome (I.left source.old) (λ bytes. WrotePart setting
+        → IfSome (I.left source.old) (λ bytes. SampleWrotePart setting
         (call_bytes bytes (I.left source.new) (O.taken sink.old) (O.taken sink.new))) }
 {
     match sample_server(alloc, setting.max).serve(
@@ -188,17 +167,5 @@ fn status_at(exited: Option<Life>) -> u8
     match exited {
         Some(Life::ShutDown) => Status::Done as u8,
         _ => Status::Unfinished as u8,
-    }
-}
-
-fn status_of(error: ServeError) -> u8
-    ensures { result ≡ status_of_lem error }
-{
-    match error {
-        ServeError::ReadFault => Status::ReadFault as u8,
-        ServeError::WriteFault => Status::WriteFault as u8,
-        ServeError::ReadsSpent => Status::ReadsSpent as u8,
-        ServeError::NoMemory => Status::NoMemory as u8,
-        ServeError::DeskSpent(_) => Status::DeskSpent as u8,
     }
 }

@@ -8,7 +8,7 @@ ghost use Rattle.lsp_session.specs.Fails.{PollFails};
 ghost use Rattle.lsp_session.specs.Progress.{show_progress};
 ghost use Rattle.lsp_sample.specs.Calls.{initialize_result, greeting as greeting_lem, Initialized, Execute};
 ghost use Rattle.lsp_sample.specs.Params.{has_capabilities as has_capabilities_lem};
-ghost use Rattle.lsp_sample.specs.Sample.{sample_semantics, Asks, first, waits as waits_lem};
+ghost use Rattle.lsp_sample.specs.Sample.{sample_semantics, Asks, first_poll, waits as waits_lem};
 ghost use Rattle.lsp_sample.specs.Shown.{show_command};
 
 use crate::command::read_command;
@@ -166,7 +166,7 @@ fn greeting(alloc: Global) -> Result<ClientCall, NoMemory>
 // What the first poll of a command comes to.
 fn execute(alloc: Global, command: Command) -> Result<Progress<Waiting>, NoMemory>
     ensures { IfOk result (λ progress. show_progress sample_semantics progress
-        ≡ first (Execute (show_command command))) }
+        ≡ first_poll (Execute (show_command command))) }
 {
     match command {
         Command::Echo(value) => Ok(Progress::Done(Ok(value))),

@@ -2,7 +2,8 @@
 use Rattle.std.proofs.Common.{◌≡◌, ◌⊎◌, ℕ, sym, subst, ◌∙◌}
 use Rattle.lsp_server.specs.ServedView.{show_served}
 use Rattle.lsp_sample.specs.Run.{IsShutDown, IsNotShutDown}
-use Rattle.lsp_sample.proofs.RunLemmas.{served_as, told_as, part_as, on_some, on_both, status_zero, status_one, status_between}
+use Rattle.lsp_program.proofs.StatusLemmas.{status_between}
+use Rattle.lsp_sample.proofs.RunLemmas.{served_as, told_as, part_as, on_some, on_both, status_zero, status_one}
 use Rattle.lsp_sample.proofs.run.serve.Goals as goal
 
 pub returns-in-Ok-clause-done : goal.returns-in-Ok-clause-done

@@ -1,7 +1,7 @@
 use Rattle.std.proofs.Common.{[], refl, sym, ap, ◌∙◌}
 use Rattle.lsp_desk.proofs.TraceLemmas.{grows_none}
 use Rattle.lsp_sample.specs.Shown.{show_call}
-use Rattle.lsp_sample.specs.Sample.{first}
+use Rattle.lsp_sample.specs.Sample.{first_poll}
 use Rattle.lsp_sample.proofs.sample.SampleHandlers.begin.Goals as goal
 
 pub returns-in_ok-execute-in-ExecuteCommand-clause-begun : goal.returns-in_ok-execute-in-ExecuteCommand-clause-begun
@@ -11,6 +11,6 @@ returns-in_ok-execute-in-ExecuteCommand-clause-begun g c = record {
   holds = record {
     same = refl;
     asks = rw c.in-ExecuteCommand.is refl;
-    gives = c.in_ok-execute-in-ExecuteCommand.ensures ∙ ap (λ call. first (show_call call)) (sym c.in-ExecuteCommand.is);
+    gives = c.in_ok-execute-in-ExecuteCommand.ensures ∙ ap (λ call. first_poll (show_call call)) (sym c.in-ExecuteCommand.is);
   };
 }

@@ -4,8 +4,8 @@ use Rattle.std.specs.List.{starts_with}
 use Rattle.std.specs.Str.Parse.{without_leading_plus}
 use Rattle.lsp_frame.specs.Headers.{length_of}
 use Rattle.lsp_frame.proofs.LengthParse.{length_of_parse}
-use Rattle.lsp_relay.specs.Arguments.{number_of}
-use Rattle.lsp_relay.proofs.run.number.Goals as goal
+use Rattle.lsp_program.specs.Number.{number_of}
+use Rattle.lsp_program.proofs.number.number.Goals as goal
 
 no_plus : (argument : List ℕ) → starts_with nat_eq argument (codes "+") ≡ false → without_leading_plus argument ≡ argument
 no_plus [] h = refl
