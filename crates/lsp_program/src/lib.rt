@@ -1,10 +1,10 @@
 //! What the programs share: how they read their arguments, and how they end.
 #![tactic(auto)]
 
-mod number;
+mod arguments;
+mod numbers;
 mod status;
-mod words;
 
-pub use number::number;
+pub use arguments::words;
+pub use numbers::number;
 pub use status::{Status, status_of};
-pub use words::words;

@@ -14,8 +14,8 @@ mod tests;
 
 pub use arguments::{Form, MOST, MadeUp, Setting};
 pub use command::{Command, Waiting};
-use lsp_program::words;
 pub use lsp_program::Status;
+use lsp_program::words;
 use lsp_server::{ReadSource, Sink, WriteSink};
 pub use run::run;
 pub use sample::{Sample, SampleCall};

@@ -1,7 +1,7 @@
 use Rattle.std.proofs.Common.{refl}
 use Rattle.std.proofs.lemmas.Iterator.{items_from_collect}
 use Rattle.std.proofs.lemmas.Iterator.Adapters.{YieldsList-from_vec}
-use Rattle.lsp_program.proofs.words.collected.Goals as goal
+use Rattle.lsp_program.proofs.arguments.collected.Goals as goal
 
 pub returns : goal.returns
 returns c =

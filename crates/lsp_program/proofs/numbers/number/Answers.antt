@@ -5,7 +5,7 @@ use Rattle.std.specs.Str.Parse.{without_leading_plus}
 use Rattle.lsp_frame.specs.Headers.{length_of}
 use Rattle.lsp_frame.proofs.LengthParse.{length_of_parse}
 use Rattle.lsp_program.specs.Number.{number_of}
-use Rattle.lsp_program.proofs.number.number.Goals as goal
+use Rattle.lsp_program.proofs.numbers.number.Goals as goal
 
 no_plus : (argument : List ℕ) → starts_with nat_eq argument (codes "+") ≡ false → without_leading_plus argument ≡ argument
 no_plus [] h = refl
