@@ -1,30 +1,26 @@
 #!/usr/bin/env python3
 """Measures the codec of lsp_frame on large heads and bodies, on garbage and on empty frames.
 
-The words of the server's program set no limits, so this makes a small program over the codec in a
-temporary folder, beside copies of the crates that it stands on, and builds it with `rt run`, which
-proves them. It takes the limits of a head and a body in bytes, feeds the codec what comes on
-standard input in pieces of 4,096 bytes, decodes after each, and prints how many items were told and
-how many bytes were held at most after `More`.
+The words of the server's program set no limits, so --build makes a small program over the codec, bench/out/frame_bench.
+It takes the limits of a head and a body in bytes, feeds the codec what comes on standard input in
+pieces of 4,096 bytes, decodes after each, and prints how many items were told and how many bytes were held
+at most after `More`.
 
-Each input is run five times, and the least time of the processor counts. Printed are the cost of a
-byte, that cost against the one at the smallest size of its kind, and the peak memory.
-
-Usage: bench/frame.py [PROGRAM]     (`rt` has to be on the path, and GNU `time` in /usr/bin; PROGRAM: one
-that was built before)
+Usage: bench/frame.py [PROGRAM [PROGRAM]]
+       bench/frame.py --build     (`rt` has to be on the path)
 """
 import os
-import shutil
-import subprocess
 import sys
-import tempfile
 
-ROOT = os.path.dirname(os.path.dirname(os.path.realpath(__file__)))
-TRIES = 5
+import built
+import measured
+from measured import Figure, Row
+from sessions import frame
+
 CRATES = ["no_memory", "lsp_rpc", "lsp_frame"]
 MIB = 1 << 20
 
-PROGRAM = """//! Feeds a codec what standard input gives, and prints what it told and held.
+SOURCE = """//! Feeds a codec what standard input gives, and prints what it told and held.
 #![tactic(auto)]
 ghost use Rattle.std.specs.Prelude.{◌≤◌};
 
@@ -86,92 +82,56 @@ fn main(rt: HostRuntime) -> ExitCode {
 """
 
 
-def build(folder):
-    """The path of the program, built in this folder."""
-    shutil.copy(os.path.join(ROOT, "HANDLES"), folder)
-    for name in CRATES:
-        for part in ("src", "specs", "proofs"):
-            path = os.path.join("crates", name, part)
-            if os.path.exists(os.path.join(ROOT, path)):
-                shutil.copytree(os.path.join(ROOT, path), os.path.join(folder, path))
-    with open(os.path.join(ROOT, "crates.txt")) as file:
-        lines = [line for line in file if line.split(":")[0] in CRATES]
-    with open(os.path.join(folder, "crates.txt"), "w") as out:
-        out.writelines(lines)
-        out.write("frame_bench: lsp_frame no_memory\n")
-    crate = os.path.join(folder, "crates", "frame_bench")
-    os.makedirs(os.path.join(crate, "src"))
-    with open(os.path.join(crate, "src", "main.rt"), "w") as out:
-        out.write(PROGRAM)
-    subprocess.run(["rt", "run", "--", "1", "1"], cwd=crate, check=True, stdin=subprocess.DEVNULL,
-                   stdout=subprocess.DEVNULL)
-    return os.path.join(crate, "out", "frame_bench")
-
-
-def frame(body):
-    return b"Content-Length: %d\r\n\r\n%s" % (len(body), body)
-
-
 def filled(start, end, size):
     """So many bytes: a start, an end, and letters between."""
     return start + b"a" * (size - len(start) - len(end)) + end
 
 
-def inputs():
-    """Of each input its kind, its limits, and its bytes."""
-    head_end = b"\r\nContent-Length: 2\r\n\r\n"
-    for size in (1, 2, 4, 8):
-        yield "one head", 16 * MIB, 1, filled(b"X: ", head_end, size * MIB) + b"{}"
-    for size in (1, 2, 4, 8):
-        yield "one head of short lines", 16 * MIB, 1, b"X: aaaa\n" * (size * MIB // 8)
-    for size in (1, 8, 64):
-        body = filled(b'{"jsonrpc":"2.0","method":"', b'"}', size * MIB)
-        yield "one body", 8192, 64 * MIB, frame(body)
-    yield "garbage", 8192, 64 * MIB, b"x" * 10_000_000
-    yield "empty frames", 8192, 64 * MIB, frame(b"") * 1_000_000
-    for size in (256 * 1024, 2 * MIB):
-        yield "`Content-Length` again and again", 8192, 64 * MIB, b"Content-Length" * (size // 14)
-    for size in (256 * 1024, 2 * MIB):
-        block = b"Content-Length" * 584 + b"\r\n\r\n"
-        yield "the same in heads at the limit", 8192, 64 * MIB, block * (size // len(block))
+def whole_body(size):
+    return frame(filled(b'{"jsonrpc":"2.0","method":"', b'"}', size))
 
 
-def run(words, path):
-    """The processor's seconds, and what the program printed."""
-    with open(path, "rb") as given:
-        child = subprocess.Popen(words, stdin=given, stdout=subprocess.PIPE)
-    printed = child.stdout.read().decode().split()
-    _, status, usage = os.wait4(child.pid, 0)
-    if os.waitstatus_to_exitcode(status) != 0:
-        sys.exit("the program ended with status %d" % os.waitstatus_to_exitcode(status))
-    return usage.ru_utime + usage.ru_stime, printed
+def heads(size):
+    """Heads of 8,180 bytes."""
+    block = b"Content-Length" * 584 + b"\r\n\r\n"
+    return block * (size // len(block))
 
 
-def peak(words, path):
-    """The most kilobytes that the program holds. (What wait4 tells counts this program's too.)"""
-    with open(path, "rb") as given:
-        done = subprocess.run(["/usr/bin/time", "-f", "%M"] + words, stdin=given, text=True,
-                              stdout=subprocess.DEVNULL, stderr=subprocess.PIPE)
-    return int(done.stderr)
+# Of each kind what it is, the limits of a head and a body, what makes so many bytes of it, and the sizes.
+KINDS = [
+    ("one head", 16 * MIB, 1, lambda size: filled(b"X: ", b"\r\nContent-Length: 2\r\n\r\n", size) + b"{}",
+     [1 * MIB, 2 * MIB, 4 * MIB, 8 * MIB]),
+    ("one head of short lines", 16 * MIB, 1, lambda size: b"X: aaaa\n" * (size // 8),
+     [1 * MIB, 2 * MIB, 4 * MIB, 8 * MIB]),
+    ("one body, a message", 8192, 64 * MIB, whole_body, [1 * MIB, 8 * MIB, 64 * MIB]),
+    ("garbage without `Content-Length`", 8192, 64 * MIB, lambda size: b"x" * size, [10_000_000]),
+    ("empty frames", 8192, 64 * MIB, lambda size: frame(b"") * (size // 21), [21_000_000]),
+    ("`Content-Length` again and again", 8192, 64 * MIB, lambda size: b"Content-Length" * (size // 14),
+     [256 * 1024, 2 * MIB]),
+    ("the same in heads at the limit", 8192, 64 * MIB, heads, [256 * 1024, 2 * MIB]),
+]
 
 
-def main():
-    with tempfile.TemporaryDirectory() as folder:
-        program = sys.argv[1] if len(sys.argv) > 1 else build(folder)
-        path = os.path.join(folder, "input")
-        smallest = {}
-        print("bytes       ns a byte   against   peak KiB   most held     items   input")
-        for kind, head, body, given in inputs():
-            with open(path, "wb") as out:
-                out.write(given)
-            words = [program, str(head), str(body)]
-            tries = [run(words, path) for _ in range(TRIES)]
-            cost = min(seconds for seconds, _ in tries) * 1e9 / len(given)
-            items, held = tries[0][1]
-            against = cost / smallest.setdefault(kind, cost)
-            print("%-11d %9.2f   %7.2f   %8d   %9s   %7s   %s"
-                  % (len(given), cost, against, peak(words, path), held, items, kind), flush=True)
+def rows_of(title, limits, write):
+    """The rows of an input."""
+    def time(program, path):
+        return [measured.spent([program] + limits, path)[0] * 1e9 / os.path.getsize(path)]
+
+    def memory(program, path):
+        return [measured.most_memory([program] + limits, path)]
+    yield Row("frame/time", "frame_bench", [Figure(title, "ns a byte")], time, [write])
+    yield Row("frame/memory", "frame_bench", [Figure(title, "peak KiB", max)], memory, [write], 1)
+
+
+def rows(_):
+    for kind, head, body, made, sizes in KINDS:
+        for size in sizes:
+            title = "{}, {:,} bytes".format(kind, size)
+            yield from rows_of(title, [str(head), str(body)], lambda file, made=made, size=size: file.write(made(size)))
 
 
 if __name__ == "__main__":
-    main()
+    if sys.argv[1:] == ["--build"]:
+        built.build("frame_bench", CRATES, ["lsp_frame", "no_memory"], SOURCE, "1", "1")
+    else:
+        measured.main(rows, __doc__)

@@ -1,26 +1,20 @@
 #!/usr/bin/env python3
-"""Measures the entries of an index on dumps of 1,000, 10,000 and 100,000 lines.
+"""Measures the entries of an index on dumps of 1,005, 10,005 and 100,005 lines.
 
 The dumps are those of the test in tests_texts_top, by its text: a project, and documents of 50 lines each.
-The program that reading.py builds reads each line as an entry, and prints what is written of it. What it
-prints has to be the dump.
+The program of reading.py reads each line as an entry, and what it prints has to be the dump. Each is read
+three times.
 
-Each dump is read three times, and the least time of the processor counts. Printed are the lines and the
-megabytes a second, the cost of a line against the one of the smallest dump, and the peak memory.
-
-Usage: bench/lsif.py [PROGRAM]     (`rt` has to be on the path, and GNU `time` in /usr/bin; PROGRAM: one
-that was built before)
+Usage: bench/lsif.py [PROGRAM [PROGRAM]]     (bench/large_values.py --build builds the program)
 """
 import os
 import re
-import sys
-import tempfile
 
+import measured
 import reading
+from measured import ROOT
 
-CRATES = ["lsp_lang_goto", "lsp_tokens", "lsp_lsif"]
-TYPES = {"entry": "lsp_lsif::Entry"}
-DUMP = os.path.join(reading.ROOT, "crates", "tests_texts_top", "src", "lsif", "dump.rt")
+DUMP = os.path.join(ROOT, "crates", "tests_texts_top", "src", "lsif", "dump.rt")
 
 
 def constant(name):
@@ -46,22 +40,11 @@ def dump(documents):
         % (last, ",".join(map(str, firsts)), last + 1))
 
 
-def main():
-    with tempfile.TemporaryDirectory() as folder:
-        program = sys.argv[1] if len(sys.argv) > 1 else reading.build(folder, CRATES, TYPES)
-        path = os.path.join(folder, "input")
-        smallest = None
-        print("     lines      bytes   lines a second   MB a second   against   peak KiB")
-        for documents in (20, 200, 2_000):
-            text = dump(documents).encode()
-            lines = text.count(b"\n")
-            seconds, kilobytes = reading.measured([program, "entry"], path, text)
-            cost = seconds / lines
-            smallest = smallest or cost
-            print("%10d %10d   %14.0f   %11.1f   %7.2f   %8d"
-                  % (lines, len(text), lines / seconds, len(text) / seconds / 1e6, cost / smallest, kilobytes),
-                  flush=True)
+def rows(_):
+    for documents in (20, 200, 2_000):
+        title = "an index of {:,} lines".format(50 * documents + 5)
+        yield from reading.rows_of("lsif", "entry", title, lambda documents=documents: dump(documents))
 
 
 if __name__ == "__main__":
-    main()
+    measured.main(rows, __doc__)

@@ -1,20 +1,25 @@
-"""Builds a program that reads each line of standard input as a type and prints what is written of it,
-and measures the time it takes and the memory it holds.
+"""A program that reads each line of standard input as a type, and prints what is written of it: bench/out/types_bench.
 
-No program of the repository reads the types alone. So this one is made in a temporary folder, beside
-copies of the crates that it stands on, and built with `rt run`, which proves them.
+No program of the repository reads the types alone.
 """
-import os
-import shutil
 import subprocess
-import sys
 
-ROOT = os.path.dirname(os.path.dirname(os.path.realpath(__file__)))
+import built
+import measured
+from measured import Figure, Row
+
 TRIES = 3
-# What every program of types stands on.
-BASE = ["no_memory", "lsp_rpc", "lsp_shape", "lsp_uri", "lsp_kinds", "lsp_names", "lsp_base"]
+CRATES = ["no_memory", "lsp_rpc", "lsp_shape", "lsp_uri", "lsp_kinds", "lsp_names", "lsp_base", "lsp_lang_goto",
+          "lsp_lang_item", "lsp_tokens", "lsp_lsif"]
+# The types by the names that the argument may be.
+TYPES = {
+    "completion": "lsp_lang_item::CompletionResponse",
+    "symbols": "lsp_lang_goto::DocumentSymbolResponse",
+    "tokens": "lsp_tokens::SemanticTokensResult",
+    "entry": "lsp_lsif::Entry",
+}
 
-PROGRAM = """//! Reads each line as the type that the argument names, and prints what is written of it.
+SOURCE = """//! Reads each line as the type that the argument names, and prints what is written of it.
 #![tactic(auto)]
 
 use lsp_shape::{Wire, trimmed};
@@ -61,54 +66,30 @@ fn main(rt: HostRuntime) -> ExitCode {
 """
 
 
-def build(folder, crates, types):
-    """The path of the program, built in this folder. `types` has the paths of the types by the names that the
-    argument may be, and `crates` what they stand on beyond BASE."""
-    shutil.copy(os.path.join(ROOT, "HANDLES"), folder)
-    for name in BASE + crates:
-        for part in ("src", "specs", "proofs"):
-            path = os.path.join("crates", name, part)
-            if os.path.exists(os.path.join(ROOT, path)):
-                shutil.copytree(os.path.join(ROOT, path), os.path.join(folder, path))
-    with open(os.path.join(ROOT, "crates.txt")) as file:
-        lines = [line for line in file if line.split(":")[0] in BASE + crates]
-    used = sorted({path.split("::")[0] for path in types.values()})
-    with open(os.path.join(folder, "crates.txt"), "w") as out:
-        out.writelines(lines)
-        out.write("types_bench: %s lsp_shape no_memory serde_json\n" % " ".join(used))
-    crate = os.path.join(folder, "crates", "types_bench")
-    os.makedirs(os.path.join(crate, "src"))
-    arms = "".join('        "%s" => written::<%s>(alloc, text),\n' % it for it in types.items())
-    with open(os.path.join(crate, "src", "main.rt"), "w") as out:
-        out.write(PROGRAM.replace("ARMS", arms))
-    subprocess.run(["rt", "run", "--", next(iter(types))], cwd=crate, check=True, stdin=subprocess.DEVNULL,
-                   stdout=subprocess.DEVNULL)
-    return os.path.join(crate, "out", "types_bench")
+def build():
+    used = sorted({path.split("::")[0] for path in TYPES.values()})
+    arms = "".join('        "%s" => written::<%s>(alloc, text),\n' % it for it in TYPES.items())
+    built.build("types_bench", CRATES, used + ["lsp_shape", "no_memory", "serde_json"], SOURCE.replace("ARMS", arms),
+                "completion")
 
 
-def run(words, path, text):
-    """The processor's seconds. What is printed has to be the input."""
+def megabytes(program, kind, path):
+    """Megabytes a second of one run. What is printed has to be the input."""
+    seconds, printed = measured.spent([program, kind], path, subprocess.PIPE)
     with open(path, "rb") as given:
-        child = subprocess.Popen(words, stdin=given, stdout=subprocess.PIPE)
-    printed = child.stdout.read()
-    _, status, usage = os.wait4(child.pid, 0)
-    if os.waitstatus_to_exitcode(status) != 0:
-        sys.exit("the program ended with status %d" % os.waitstatus_to_exitcode(status))
-    if printed != text:
-        sys.exit("%s: what is written is not what was read" % words[1])
-    return usage.ru_utime + usage.ru_stime
+        if printed != given.read():
+            measured.failed([program, kind], "what is written is not what was read")
+    return len(printed) / seconds / 1e6
 
 
-def peak(words, path):
-    """The most kilobytes that the program holds. (What wait4 tells counts this program's too.)"""
-    with open(path, "rb") as given:
-        done = subprocess.run(["/usr/bin/time", "-f", "%M"] + words, stdin=given, text=True,
-                              stdout=subprocess.DEVNULL, stderr=subprocess.PIPE)
-    return int(done.stderr)
+def rows_of(name, kind, title, text):
+    """The rows of an input, which `text` gives."""
+    def time(program, path):
+        return [megabytes(program, kind, path)]
 
+    def memory(program, path):
+        return [measured.most_memory([program, kind], path)]
 
-def measured(words, path, text):
-    """The least of the processor's seconds, and the peak kilobytes."""
-    with open(path, "wb") as out:
-        out.write(text)
-    return min(run(words, path, text) for _ in range(TRIES)), peak(words, path)
+    write = [lambda file: file.write(text().encode())]
+    yield Row(name + "/time", "types_bench", [Figure(title, "MB a second", max)], time, write, TRIES)
+    yield Row(name + "/memory", "types_bench", [Figure(title, "peak KiB", max)], memory, write, 1)

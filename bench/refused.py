@@ -1,16 +1,17 @@
 #!/usr/bin/env python3
 """Measures the sample server on requests that it refuses: an `initialize` after the first.
 
-Printed are the messages per second, the program's peak memory, and the cost of a message against
-that at the smallest size.
-
-Usage: bench/refused.py [SIZE ..]     (default: 10000 100000 1000000)
+Usage: bench/refused.py [PROGRAM [PROGRAM]] [SIZE ..]     (default: 10000 100000 1000000)
 """
+import growth
 import measured
+import sessions
 
 
-def refused(number):
-    return b'{"jsonrpc":"2.0","method":"initialize","params":{"capabilities":{}},"id":%d}' % number
+def rows(sizes):
+    for size in sizes.or_else(*growth.SIZES):
+        yield growth.row("refused", "refused `initialize`s", sessions.refused, size)
 
 
-measured.measure(refused)
+if __name__ == "__main__":
+    measured.main(rows, __doc__)

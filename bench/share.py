@@ -50,7 +50,8 @@ def hovers(editor, path):
 def shown(words, milliseconds):
     """Prints how long it took."""
     times = sorted(milliseconds)
-    print("%s: p50 %.2f ms, p99 %.2f ms, most %.2f ms" % (words, times[len(times) // 2], times[len(times) * 99 // 100], times[-1]), flush=True)
+    middle, high = times[len(times) // 2], times[len(times) * 99 // 100]
+    print("%s: p50 %.2f ms, p99 %.2f ms, most %.2f ms" % (words, middle, high, times[-1]), flush=True)
 
 
 def round_trips(proxy, folder):

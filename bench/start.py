@@ -1,36 +1,36 @@
 #!/usr/bin/env python3
-"""Measures a start by the script against one of the program alone, on empty input, in turn.
+"""Measures a start by the script against one of the program alone, on empty input, in turn, by the clock.
 
 ./lsp_sample --build comes first, so that each start is a ready one.
 
-Usage: bench/start.py [RUNS]
+Usage: bench/start.py [CHECKOUT [CHECKOUT]] [RUNS]     (default: 100)
 """
 import os
+import statistics
 import subprocess
-import sys
 import time
 
-ROOT = os.path.dirname(os.path.dirname(os.path.abspath(__file__)))
-COMMANDS = {"alone": f"{ROOT}/.built/lsp_sample", "script": f"{ROOT}/lsp_sample"}
+import measured
+from measured import Figure, Row
 
 
 def taken(command):
-    start = time.perf_counter()
+    """Milliseconds of one start."""
+    begun = time.perf_counter()
     subprocess.run([command], stdin=subprocess.DEVNULL, stdout=subprocess.DEVNULL)
-    return time.perf_counter() - start
+    return (time.perf_counter() - begun) * 1e3
 
 
-def main():
-    runs = int(sys.argv[1]) if len(sys.argv) > 1 else 100
-    found = {name: [] for name in COMMANDS}
-    for _ in range(runs):
-        for name, command in COMMANDS.items():
-            found[name].append(taken(command))
-    for name, times in found.items():
-        times.sort()
-        print(f"{name}: least {times[0] * 1e3:.2f} ms, median {times[runs // 2] * 1e3:.2f} ms")
-    more = (sorted(found["script"])[runs // 2] - sorted(found["alone"])[runs // 2]) * 1e3
-    print(f"the script takes {more:.2f} ms more at the median of {runs} runs")
+def run(program):
+    """A start of the program in a checkout's .built, and one of the checkout's script."""
+    return taken(program), taken(os.path.join(os.path.dirname(os.path.dirname(program)), "lsp_sample"))
 
 
-main()
+def rows(sizes):
+    figures = [Figure("a start of the program alone, median", "ms", statistics.median),
+               Figure("a start by the script, median", "ms", statistics.median)]
+    yield Row("start", ".built/lsp_sample", figures, run, (), sizes.or_else(100)[0])
+
+
+if __name__ == "__main__":
+    measured.main(rows, __doc__)

@@ -1,0 +1,40 @@
+#!/usr/bin/env python3
+"""Prints every figure of README.md as a table, of one program or of two side by side.
+
+    bench/all.py                            the programs of this checkout
+    bench/all.py /path/landed .             those of a folder, and those of this checkout beside them
+    bench/all.py --only instructions flood  some rows
+
+PROGRAM is a checkout, a folder of built programs, or a program. The runs of two are interleaved, the least
+of five counts, and the last column has what the second takes of the first. A row whose program isn't built
+is skipped, which is said. --short leaves out sizes above 100,000. --only with a name that no row has tells
+all names.
+"""
+import sys
+
+import bulk
+import flood
+import frame
+import growth
+import instructions
+import large_values
+import lsif
+import measured
+import mixed
+import proxy
+import refused
+import shared_desk
+import start
+
+SCRIPTS = (instructions, flood, bulk, growth, mixed, refused, proxy, frame, large_values, lsif, shared_desk, start)
+
+
+def rows(sizes):
+    if sizes.given:
+        sys.exit("each script takes sizes of its own")
+    for script in SCRIPTS:
+        yield from script.rows(sizes)
+
+
+if __name__ == "__main__":
+    measured.main(rows, __doc__)
