@@ -6,9 +6,9 @@
     bench/all.py --only instructions flood  some rows
 
 PROGRAM is a checkout, a folder of built programs, or a program. The runs of two are interleaved, the least
-of five counts, and the last column has what the second takes of the first. A row whose program isn't built
-is skipped, which is said. --short leaves out sizes above 100,000. --only with a name that no row has tells
-all names.
+of five, or of --tries, counts, and the last column has what the second takes of the first. A row whose
+program isn't built is skipped, which is said. --short leaves out sizes above 100,000. --only with a name
+that no row has tells all names.
 """
 import sys
 

@@ -2,11 +2,12 @@
 
 A script of this folder gives its rows, and runs `main` on them. Its words are
 
-    SCRIPT [PROGRAM [PROGRAM]] [SIZE ..] [--only ROW ..] [--short]
+    SCRIPT [PROGRAM [PROGRAM]] [SIZE ..] [--only ROW ..] [--short] [--tries N]
 
 PROGRAM is a checkout, a folder of built programs, or a program (default: this checkout). The runs of two
 are interleaved, and the last column has what the second takes of the first. SIZE stands in place of the
-sizes of a script that has some. --short leaves out sizes above 100,000.
+sizes of a script that has some. --short leaves out sizes above 100,000, and --tries has N runs in place of
+five.
 """
 import argparse
 import contextlib
@@ -134,12 +135,12 @@ def written(write):
         yield file.name
 
 
-def measured(row, programs):
-    """What the row's runs give of each program, in turn."""
+def measured(row, programs, tries):
+    """What the row's runs give of each program, in turn. `tries` stands in place of the usual number."""
     found = [[] for _ in programs]
     with contextlib.ExitStack() as stack:
         paths = [stack.enter_context(written(each)) for each in row.inputs]
-        for _ in range(row.tries):
+        for _ in range(tries if row.tries == TRIES else row.tries):
             for runs, program in zip(found, programs):
                 if program:
                     runs.append(row.run(program, *paths))
@@ -167,8 +168,8 @@ def lack(row, programs):
     return None
 
 
-def print_row(row, programs):
-    found = measured(row, programs)
+def print_row(row, programs, tries):
+    found = measured(row, programs, tries)
     for number, figure in enumerate(row.figures):
         values = [figure.best([run[number] for run in runs]) if runs else None for runs in found]
         cells = ["%s, %s" % (figure.label, figure.unit)] + [shown(value) for value in values]
@@ -177,14 +178,14 @@ def print_row(row, programs):
         print_line(cells)
 
 
-def print_rows(rows, places):
+def print_rows(rows, places, tries):
     """Prints the rows. One that can't be measured is skipped, which is said once of its name."""
     said = set()
     for row in rows:
         programs = [place.program(row.program) for place in places]
         why = lack(row, programs)
         if not why:
-            print_row(row, programs)
+            print_row(row, programs, tries)
         elif row.name not in said:
             said.add(row.name)
             print("%s: skipped, since %s" % (row.name, why), file=sys.stderr, flush=True)
@@ -219,6 +220,7 @@ def arguments(doc):
     parser.add_argument("words", nargs="*", metavar="PROGRAM|SIZE", help="at most two programs, and sizes")
     parser.add_argument("--only", nargs="+", default=[], metavar="ROW", help="the rows of these names")
     parser.add_argument("--short", action="store_true", help="no size above 100,000")
+    parser.add_argument("--tries", type=int, default=TRIES, metavar="N", help="the runs of which the least counts")
     return parser.parse_args()
 
 
@@ -234,4 +236,4 @@ def main(rows, doc):
     places = [Place(path, rows[0].program) for path in paths]
     print_line(["row"] + paths + ["second / first"] * (len(paths) - 1))
     print_line(["---"] + ["--:"] * (2 * len(paths) - 1))
-    print_rows(chosen(rows, given.only), places)
+    print_rows(chosen(rows, given.only), places, given.tries)

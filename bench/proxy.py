@@ -94,7 +94,7 @@ def events(size):
 
 
 def broadcast(editors):
-    title = "a notification of {:,} bytes to {} editors".format(len(note()), editors)
+    title = "a notification of {:,} bytes, editors: {}".format(len(note()), editors)
 
     def run(program, before, after):
         return [fed(program, editors, before, sent(0, LAST), after)[0] * 1e3 / NOTES]
