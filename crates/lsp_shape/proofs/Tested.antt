@@ -1,9 +1,10 @@
 -- A list whose length is tested reads as a list of any length, where the length passes.
-use Rattle.std.proofs.Common.{◌≡◌, ℕ, ◌+◌, List, [], ◌∷◌, length, map, Bool, true, false, cond, Option, Some, None, option_map, refl, ap, ◌∙◌, arith}
+use Rattle.std.proofs.Common.{◌≡◌, ℕ, ◌+◌, ◌%◌, ◌==◌, List, [], ◌∷◌, length, map, Bool, true, false, cond, Option, Some, None, option_map, Result, Ok, Err, IfOk, OnOk, refl, ap, ◌∙◌, arith}
 use Rattle.serde_json.specs.Data.{Data, null, boolean, number, string, array, object, Items, no_items, item}
 use Rattle.lsp_shape.specs.Plain.{Plain, parts, parts_of, Parts, no_parts}
 use Rattle.lsp_shape.specs.Read.{read_items, read_list, item_count}
 use Rattle.lsp_shape.specs.Values.{part_count, counted, every}
+use Rattle.lsp_shape.specs.Shown.{show_unsigned, show_tokens}
 use Rattle.lsp_shape.specs.FloatsRead.{mapped, split}
 
 counted_parts : (f : Data → Option Plain) (ds : Items) (ps : Parts) → read_items f ds ≡ Some ps → item_count ds ≡ part_count ps
@@ -53,3 +54,11 @@ part_count-map show (x ∷ xs) = ap (λ n. n + 1) (part_count-map show xs) ∙ (
 pub tested_of : {A : Type 0} (test : ℕ → Bool) (is : Plain → Bool) (show : A → Plain) (xs : List A)
     → test (length xs) ≡ true → every is (parts_of (map show xs)) ≡ true → counted test is (parts_of (map show xs)) ≡ true
 tested_of test is show xs a b = rw (part_count-map show xs, a, b) refl
+
+-- the numbers of tokens, where there are five for each
+pub fives_read : {E : Type 0} (f : Data → Option Plain) (d : Data) (ns : List ℕ) (r : Result (List ℕ) E)
+    → read_list (λ n. true) f d ≡ Some (parts (parts_of (map show_unsigned ns)))
+    → IfOk r (λ t. t ≡ ns) → OnOk r (length ns % 5 ≡ 0) → IfOk r (λ t. read_list (λ n. n % 5 == 0) f d ≡ Some (show_tokens t))
+fives_read f d ns (Ok t) is same fives =
+    rw same (tested_read (λ n. n % 5 == 0) f d (parts_of (map show_unsigned ns)) is (ap (λ n. n % 5 == 0) (part_count-map show_unsigned ns) ∙ ap (λ n. n == 0) fives))
+fives_read f d ns (Err e) is same fives = same

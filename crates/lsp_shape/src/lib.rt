@@ -8,6 +8,7 @@ mod map;
 mod member;
 mod object;
 mod std_types;
+mod text;
 mod tokens;
 mod wire;
 
@@ -21,5 +22,6 @@ pub use member::{
 };
 pub use no_memory::NoMemory;
 pub use object::{Reader, WideReader, Writer};
+pub use text::{TextMisfit, read_text, write_text};
 pub use tokens::TokenNumbers;
 pub use wire::{Misfit, Wire};

@@ -24,7 +24,7 @@ pub fn find<'v>(object: &'v Map<String, Value>, name: &str) -> Option<&'v Value>
     object.get(name)
 }
 
-/// What the member of that name is read as.
+/// What the member of that name is read as. `Unfit` comes wherever it is missing.
 pub fn field<T: Wire>(alloc: Global, object: &Map<String, Value>, name: &str) -> Result<T, Misfit>
     ensures read { IfOk result
         (λ x. read_member required (read T.shape)
@@ -32,6 +32,8 @@ pub fn field<T: Wire>(alloc: Global, object: &Map<String, Value>, name: &str) ->
     ensures unfit { IsErrOf result Misfit.Unfit
         → read_member required (read T.shape)
         (get_member name.now (members_view object.now.entries)) ≡ None }
+    ensures missing { get_member name.now (members_view object.now.entries) ≡ None
+        → IsErrOf result Misfit.Unfit }
 {
     match find(object, name) {
         Some(value) => T::from_value(alloc, value),

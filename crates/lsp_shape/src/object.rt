@@ -52,6 +52,8 @@ impl<'v> Reader<'v> {
         ensures unfit { IsErrOf result Misfit.Unfit
             → read_member required (read T.shape) (get_member name.now (read_from self.now))
             ≡ None }
+        ensures missing { get_member name.now (read_from self.now) ≡ None
+            → IsErrOf result Misfit.Unfit }
     {
         member::field(self.alloc, self.object, name)
     }
@@ -146,6 +148,8 @@ impl<'v> WideReader<'v> {
         ensures unfit { IsErrOf result Misfit.Unfit
             → read_member required (read T.shape) (get_member name.now (members_of self.now))
             ≡ None }
+        ensures missing { get_member name.now (members_of self.now) ≡ None
+            → IsErrOf result Misfit.Unfit }
     {
         self.object.field(name)
     }

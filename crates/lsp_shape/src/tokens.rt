@@ -1,5 +1,5 @@
 // The numbers of a list of tokens.
-ghost use Rattle.std.specs.Prelude.{◌≡◌, ◌%◌, length};
+ghost use Rattle.std.specs.Prelude.{◌≡◌, ◌≢◌, ◌%◌, IfOk, OnOk, IsErrOf, length};
 ghost use Rattle.lsp_shape.specs.Shape.{tokens};
 ghost use Rattle.lsp_shape.specs.Shown.{show_tokens};
 
@@ -34,6 +34,20 @@ impl TokenNumbers {
         TokenNumbers { numbers }
     }
 
+    /// The tokens of these numbers. `Unfit` comes exactly where they aren't five for each token.
+    pub fn try_new(numbers: Vec<u32>) -> Result<TokenNumbers, Misfit>
+        ensures numbers { IfOk result (λ t. t ≡ numbers.items) }
+        ensures fives { OnOk result (length numbers.items % 5 ≡ 0) }
+        ensures unfit { IsErrOf result Misfit.Unfit → length numbers.items % 5 ≢ 0 }
+        ensures no_memory { ¬ IsErrOf result Misfit.NoMemory }
+    {
+        if numbers.len() % 5 == 0 {
+            Ok(TokenNumbers { numbers })
+        } else {
+            Err(Misfit::Unfit)
+        }
+    }
+
     /// The numbers, five for each token.
     pub fn as_slice(&self) -> &[u32]
         ensures numbers { result.now ≡ self.now }
@@ -49,12 +63,7 @@ impl Wire for TokenNumbers {
     ghost shown = { show_tokens };
 
     fn from_value(alloc: Global, value: &Value) -> Result<TokenNumbers, Misfit> {
-        let numbers = Vec::<u32>::from_value(alloc, value)?;
-        if numbers.len() % 5 == 0 {
-            Ok(TokenNumbers { numbers })
-        } else {
-            Err(Misfit::Unfit)
-        }
+        TokenNumbers::try_new(Vec::<u32>::from_value(alloc, value)?)
     }
 
     fn to_value(&self, alloc: Global) -> Result<Value, NoMemory> {
