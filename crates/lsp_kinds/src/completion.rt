@@ -51,6 +51,11 @@ impl InsertTextFormat {
     }
 }
 
+// The numbers of LSP 3.17.
+const _: () = prove!(InsertTextFormat::PLAIN_TEXT.0 == 1);
+
+const _: () = prove!(InsertTextFormat::SNIPPET.0 == 2);
+
 #[tactic(auto, unfolding(crate::specs::Tables::insert_text_formats))]
 impl TryFrom<&str> for InsertTextFormat {
     type Error = &'static str;
@@ -126,6 +131,11 @@ impl InsertTextMode {
         name_of(&Self::NAMES, self.0)
     }
 }
+
+// The numbers of LSP 3.17.
+const _: () = prove!(InsertTextMode::AS_IS.0 == 1);
+
+const _: () = prove!(InsertTextMode::ADJUST_INDENTATION.0 == 2);
 
 #[tactic(auto, unfolding(crate::specs::Tables::insert_text_modes))]
 impl TryFrom<&str> for InsertTextMode {
@@ -298,6 +308,57 @@ impl CompletionItemKind {
     }
 }
 
+// The numbers of LSP 3.17.
+const _: () = prove!(CompletionItemKind::TEXT.0 == 1);
+
+const _: () = prove!(CompletionItemKind::METHOD.0 == 2);
+
+const _: () = prove!(CompletionItemKind::FUNCTION.0 == 3);
+
+const _: () = prove!(CompletionItemKind::CONSTRUCTOR.0 == 4);
+
+const _: () = prove!(CompletionItemKind::FIELD.0 == 5);
+
+const _: () = prove!(CompletionItemKind::VARIABLE.0 == 6);
+
+const _: () = prove!(CompletionItemKind::CLASS.0 == 7);
+
+const _: () = prove!(CompletionItemKind::INTERFACE.0 == 8);
+
+const _: () = prove!(CompletionItemKind::MODULE.0 == 9);
+
+const _: () = prove!(CompletionItemKind::PROPERTY.0 == 10);
+
+const _: () = prove!(CompletionItemKind::UNIT.0 == 11);
+
+const _: () = prove!(CompletionItemKind::VALUE.0 == 12);
+
+const _: () = prove!(CompletionItemKind::ENUM.0 == 13);
+
+const _: () = prove!(CompletionItemKind::KEYWORD.0 == 14);
+
+const _: () = prove!(CompletionItemKind::SNIPPET.0 == 15);
+
+const _: () = prove!(CompletionItemKind::COLOR.0 == 16);
+
+const _: () = prove!(CompletionItemKind::FILE.0 == 17);
+
+const _: () = prove!(CompletionItemKind::REFERENCE.0 == 18);
+
+const _: () = prove!(CompletionItemKind::FOLDER.0 == 19);
+
+const _: () = prove!(CompletionItemKind::ENUM_MEMBER.0 == 20);
+
+const _: () = prove!(CompletionItemKind::CONSTANT.0 == 21);
+
+const _: () = prove!(CompletionItemKind::STRUCT.0 == 22);
+
+const _: () = prove!(CompletionItemKind::EVENT.0 == 23);
+
+const _: () = prove!(CompletionItemKind::OPERATOR.0 == 24);
+
+const _: () = prove!(CompletionItemKind::TYPE_PARAMETER.0 == 25);
+
 #[tactic(auto, unfolding(crate::specs::Tables::completion_item_kinds))]
 impl TryFrom<&str> for CompletionItemKind {
     type Error = &'static str;
@@ -368,6 +429,9 @@ impl CompletionItemTag {
         name_of(&Self::NAMES, self.0)
     }
 }
+
+// The numbers of LSP 3.17.
+const _: () = prove!(CompletionItemTag::DEPRECATED.0 == 1);
 
 #[tactic(auto, unfolding(crate::specs::Tables::completion_item_tags))]
 impl TryFrom<&str> for CompletionItemTag {
@@ -454,6 +518,13 @@ impl CompletionTriggerKind {
         name_of(&Self::NAMES, self.0)
     }
 }
+
+// The numbers of LSP 3.17.
+const _: () = prove!(CompletionTriggerKind::INVOKED.0 == 1);
+
+const _: () = prove!(CompletionTriggerKind::TRIGGER_CHARACTER.0 == 2);
+
+const _: () = prove!(CompletionTriggerKind::TRIGGER_FOR_INCOMPLETE_COMPLETIONS.0 == 3);
 
 #[tactic(auto, unfolding(crate::specs::Tables::completion_trigger_kinds))]
 impl TryFrom<&str> for CompletionTriggerKind {

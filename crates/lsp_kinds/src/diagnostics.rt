@@ -59,6 +59,15 @@ impl DiagnosticSeverity {
     }
 }
 
+// The numbers of LSP 3.17.
+const _: () = prove!(DiagnosticSeverity::ERROR.0 == 1);
+
+const _: () = prove!(DiagnosticSeverity::WARNING.0 == 2);
+
+const _: () = prove!(DiagnosticSeverity::INFORMATION.0 == 3);
+
+const _: () = prove!(DiagnosticSeverity::HINT.0 == 4);
+
 #[tactic(auto, unfolding(crate::specs::Tables::diagnostic_severities))]
 impl TryFrom<&str> for DiagnosticSeverity {
     type Error = &'static str;
@@ -134,6 +143,11 @@ impl DiagnosticTag {
         name_of(&Self::NAMES, self.0)
     }
 }
+
+// The numbers of LSP 3.17.
+const _: () = prove!(DiagnosticTag::UNNECESSARY.0 == 1);
+
+const _: () = prove!(DiagnosticTag::DEPRECATED.0 == 2);
 
 #[tactic(auto, unfolding(crate::specs::Tables::diagnostic_tags))]
 impl TryFrom<&str> for DiagnosticTag {

@@ -51,6 +51,11 @@ impl CodeActionTriggerKind {
     }
 }
 
+// The numbers of LSP 3.17.
+const _: () = prove!(CodeActionTriggerKind::INVOKED.0 == 1);
+
+const _: () = prove!(CodeActionTriggerKind::AUTOMATIC.0 == 2);
+
 #[tactic(auto, unfolding(crate::specs::Tables::code_action_trigger_kinds))]
 impl TryFrom<&str> for CodeActionTriggerKind {
     type Error = &'static str;
@@ -130,6 +135,13 @@ impl DocumentHighlightKind {
     }
 }
 
+// The numbers of LSP 3.17.
+const _: () = prove!(DocumentHighlightKind::TEXT.0 == 1);
+
+const _: () = prove!(DocumentHighlightKind::READ.0 == 2);
+
+const _: () = prove!(DocumentHighlightKind::WRITE.0 == 3);
+
 #[tactic(auto, unfolding(crate::specs::Tables::document_highlight_kinds))]
 impl TryFrom<&str> for DocumentHighlightKind {
     type Error = &'static str;
@@ -206,6 +218,11 @@ impl InlayHintKind {
     }
 }
 
+// The numbers of LSP 3.17.
+const _: () = prove!(InlayHintKind::TYPE.0 == 1);
+
+const _: () = prove!(InlayHintKind::PARAMETER.0 == 2);
+
 #[tactic(auto, unfolding(crate::specs::Tables::inlay_hint_kinds))]
 impl TryFrom<&str> for InlayHintKind {
     type Error = &'static str;
@@ -277,6 +294,9 @@ impl PrepareSupportDefaultBehavior {
         name_of(&Self::NAMES, self.0)
     }
 }
+
+// The numbers of LSP 3.17.
+const _: () = prove!(PrepareSupportDefaultBehavior::IDENTIFIER.0 == 1);
 
 #[tactic(auto, unfolding(crate::specs::Tables::prepare_support_default_behaviors))]
 impl TryFrom<&str> for PrepareSupportDefaultBehavior {
@@ -357,6 +377,13 @@ impl SignatureHelpTriggerKind {
         name_of(&Self::NAMES, self.0)
     }
 }
+
+// The numbers of LSP 3.17.
+const _: () = prove!(SignatureHelpTriggerKind::INVOKED.0 == 1);
+
+const _: () = prove!(SignatureHelpTriggerKind::TRIGGER_CHARACTER.0 == 2);
+
+const _: () = prove!(SignatureHelpTriggerKind::CONTENT_CHANGE.0 == 3);
 
 #[tactic(auto, unfolding(crate::specs::Tables::signature_help_trigger_kinds))]
 impl TryFrom<&str> for SignatureHelpTriggerKind {

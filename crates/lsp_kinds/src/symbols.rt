@@ -151,6 +151,59 @@ impl SymbolKind {
     }
 }
 
+// The numbers of LSP 3.17.
+const _: () = prove!(SymbolKind::FILE.0 == 1);
+
+const _: () = prove!(SymbolKind::MODULE.0 == 2);
+
+const _: () = prove!(SymbolKind::NAMESPACE.0 == 3);
+
+const _: () = prove!(SymbolKind::PACKAGE.0 == 4);
+
+const _: () = prove!(SymbolKind::CLASS.0 == 5);
+
+const _: () = prove!(SymbolKind::METHOD.0 == 6);
+
+const _: () = prove!(SymbolKind::PROPERTY.0 == 7);
+
+const _: () = prove!(SymbolKind::FIELD.0 == 8);
+
+const _: () = prove!(SymbolKind::CONSTRUCTOR.0 == 9);
+
+const _: () = prove!(SymbolKind::ENUM.0 == 10);
+
+const _: () = prove!(SymbolKind::INTERFACE.0 == 11);
+
+const _: () = prove!(SymbolKind::FUNCTION.0 == 12);
+
+const _: () = prove!(SymbolKind::VARIABLE.0 == 13);
+
+const _: () = prove!(SymbolKind::CONSTANT.0 == 14);
+
+const _: () = prove!(SymbolKind::STRING.0 == 15);
+
+const _: () = prove!(SymbolKind::NUMBER.0 == 16);
+
+const _: () = prove!(SymbolKind::BOOLEAN.0 == 17);
+
+const _: () = prove!(SymbolKind::ARRAY.0 == 18);
+
+const _: () = prove!(SymbolKind::OBJECT.0 == 19);
+
+const _: () = prove!(SymbolKind::KEY.0 == 20);
+
+const _: () = prove!(SymbolKind::NULL.0 == 21);
+
+const _: () = prove!(SymbolKind::ENUM_MEMBER.0 == 22);
+
+const _: () = prove!(SymbolKind::STRUCT.0 == 23);
+
+const _: () = prove!(SymbolKind::EVENT.0 == 24);
+
+const _: () = prove!(SymbolKind::OPERATOR.0 == 25);
+
+const _: () = prove!(SymbolKind::TYPE_PARAMETER.0 == 26);
+
 #[tactic(auto, unfolding(crate::specs::Tables::symbol_kinds))]
 impl TryFrom<&str> for SymbolKind {
     type Error = &'static str;
@@ -220,6 +273,9 @@ impl SymbolTag {
         name_of(&Self::NAMES, self.0)
     }
 }
+
+// The numbers of LSP 3.17.
+const _: () = prove!(SymbolTag::DEPRECATED.0 == 1);
 
 #[tactic(auto, unfolding(crate::specs::Tables::symbol_tags))]
 impl TryFrom<&str> for SymbolTag {

@@ -54,6 +54,13 @@ impl TextDocumentSyncKind {
     }
 }
 
+// The numbers of LSP 3.17.
+const _: () = prove!(TextDocumentSyncKind::NONE.0 == 0);
+
+const _: () = prove!(TextDocumentSyncKind::FULL.0 == 1);
+
+const _: () = prove!(TextDocumentSyncKind::INCREMENTAL.0 == 2);
+
 #[tactic(auto, unfolding(crate::specs::Tables::text_document_sync_kinds))]
 impl TryFrom<&str> for TextDocumentSyncKind {
     type Error = &'static str;
@@ -132,6 +139,13 @@ impl TextDocumentSaveReason {
         name_of(&Self::NAMES, self.0)
     }
 }
+
+// The numbers of LSP 3.17.
+const _: () = prove!(TextDocumentSaveReason::MANUAL.0 == 1);
+
+const _: () = prove!(TextDocumentSaveReason::AFTER_DELAY.0 == 2);
+
+const _: () = prove!(TextDocumentSaveReason::FOCUS_OUT.0 == 3);
 
 #[tactic(auto, unfolding(crate::specs::Tables::text_document_save_reasons))]
 impl TryFrom<&str> for TextDocumentSaveReason {

@@ -54,6 +54,13 @@ impl FileChangeType {
     }
 }
 
+// The numbers of LSP 3.17.
+const _: () = prove!(FileChangeType::CREATED.0 == 1);
+
+const _: () = prove!(FileChangeType::CHANGED.0 == 2);
+
+const _: () = prove!(FileChangeType::DELETED.0 == 3);
+
 #[tactic(auto, unfolding(crate::specs::Tables::file_change_types))]
 impl TryFrom<&str> for FileChangeType {
     type Error = &'static str;
@@ -134,6 +141,15 @@ impl MessageType {
         name_of(&Self::NAMES, self.0)
     }
 }
+
+// The numbers of LSP 3.17.
+const _: () = prove!(MessageType::ERROR.0 == 1);
+
+const _: () = prove!(MessageType::WARNING.0 == 2);
+
+const _: () = prove!(MessageType::INFO.0 == 3);
+
+const _: () = prove!(MessageType::LOG.0 == 4);
 
 #[tactic(auto, unfolding(crate::specs::Tables::message_types))]
 impl TryFrom<&str> for MessageType {

@@ -49,6 +49,13 @@ impl WatchKind {
     }
 }
 
+// The bits of LSP 3.17.
+const _: () = prove!(WatchKind::Create.0 == 1);
+
+const _: () = prove!(WatchKind::Change.0 == 2);
+
+const _: () = prove!(WatchKind::Delete.0 == 4);
+
 #[tactic(auto, unfolding(crate::specs::WatchKind::watch_kinds))]
 impl Flags for WatchKind {
     type Bits = u8;
