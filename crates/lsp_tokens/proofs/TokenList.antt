@@ -1,7 +1,8 @@
 -- The numbers of a list of tokens.
-use Rattle.std.proofs.Common.{◌≡◌, ℕ, ◌+◌, ◌*◌, ◌<◌, get_or, add-one, List, [], ◌∷◌, ◌++◌, length, take, drop, slice_index, refl, ap, sym, ◌∙◌, arith}
+use Rattle.std.proofs.Common.{◌≡◌, ℕ, ◌+◌, ◌*◌, ◌<◌, ◌%◌, get_or, add-one, List, [], ◌∷◌, ◌++◌, length, take, drop, slice_index, refl, ap, sym, ◌∙◌, arith}
+use Rattle.std.proofs.lemmas.Nat.{mod-mul-add}
 use Rattle.std.proofs.Math.Seq.{take-suc}
-use Rattle.std.proofs.lemmas.List.{append_assoc, append-nil, take-append-drop}
+use Rattle.std.proofs.lemmas.List.{append_assoc, append-nil, length-append, take-append-drop}
 use Rattle.lsp_tokens.specs.Tokens.{token_numbers, numbers_of}
 use Rattle.lsp_tokens.specs.declared.tokens.SemanticToken.{SemanticToken}
 
@@ -62,3 +63,15 @@ one_more ts us t list rest five more before is left reads pushed =
 pub one_written : (ts : List SemanticToken) (i : ℕ) (t : SemanticToken) → i < length ts
     → numbers_of (take (i + 1) ts) ≡ numbers_of (take i ts) ++ token_numbers (get_or ts i t)
 one_written ts i t h = rw (add-one, take-suc ts i t h) (numbers_of-push (take i ts) (get_or ts i t))
+
+-- where there are five numbers for each token, fewer than five are none
+none_left : (ts : List SemanticToken) (rest list : List ℕ) → numbers_of ts ++ rest ≡ list → length list % 5 ≡ 0 → length rest < 5 → rest ≡ []
+none_left ts [] list whole fives few = refl
+none_left ts (n ∷ ns) list whole fives few =
+    let all : length ts * 5 + length (n ∷ ns) ≡ length list = ap (λ k. k + length (n ∷ ns)) (sym (length-numbers_of ts)) ∙ sym (length-append (numbers_of ts) (n ∷ ns)) ∙ ap length whole in
+    let none : length (n ∷ ns) ≡ 0 = sym (mod-mul-add (length ts) 5 (length (n ∷ ns)) few) ∙ ap (λ k. k % 5) all ∙ fives in
+    absurd (omega arith)
+
+pub all_numbers : (ts : List SemanticToken) (rest list : List ℕ) → numbers_of ts ++ rest ≡ list → length list % 5 ≡ 0 → length rest < 5 → numbers_of ts ≡ list
+all_numbers ts rest list whole fives few =
+    sym (append-nil (numbers_of ts)) ∙ ap (λ ns. numbers_of ts ++ ns) (sym (none_left ts rest list whole fives few)) ∙ whole

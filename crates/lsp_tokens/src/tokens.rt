@@ -1,5 +1,5 @@
 // Semantic tokens: lists of numbers, five for a token.
-ghost use Rattle.std.specs.Prelude.{◌≡◌, ◌++◌, ◌*◌, ◌%◌, IfOk, IsErrOf, OnOk, List, None, [], length, option_map};
+ghost use Rattle.std.specs.Prelude.{◌≡◌, ◌≢◌, ◌++◌, ◌*◌, ◌%◌, IfOk, IsErrOf, OnOk, List, None, [], length, option_map};
 ghost use Rattle.lsp_tokens.specs.Tokens.{token_numbers, numbers_of as numbers, semantic_tokens_row, semantic_tokens_partial_result_row, semantic_tokens_edit_row};
 ghost use Rattle.lsp_tokens.specs.declared.tokens.SemanticToken.{SemanticToken as Token};
 
@@ -40,25 +40,25 @@ fn token_of(numbers: &[u32; 5]) -> SemanticToken
     }
 }
 
-/// The tokens of a list of numbers, five for a token. `Unfit` comes only where the length of the
+/// The tokens of a list of numbers, five for a token. `Unfit` comes exactly where the length of the
 /// list is no multiple of five (LSP 3.17, "Semantic Tokens").
 pub fn tokens_of(alloc: Global, list: &[u32]) -> Result<Vec<SemanticToken>, Misfit>
     ensures numbers { IfOk result (λ v. numbers v.items ≡ list.now) }
     ensures fives { IfOk result (λ v. length v.items * 5 ≡ length list.now) }
     ensures unfit { IsErrOf result Misfit.Unfit → length list.now % 5 ≡ 0 → ⊥ }
+    ensures ragged { length list.now % 5 ≢ 0 → IsErrOf result Misfit.Unfit }
     ensures back { IfOk result (λ v. (ts : List Token) → numbers ts ≡ list.now → v.items ≡ ts) }
 {
+    if list.len() % 5 != 0 {
+        return Err(Misfit::Unfit);
+    }
     let mut tokens = Vec::with_capacity(alloc, list.len() / 5)?;
     let mut rest = list;
     while let Some((token, more)) = rest.split_first_chunk::<5>() {
         tokens.push(token_of(token))?;
         rest = more;
     }
-    if rest.is_empty() {
-        Ok(tokens)
-    } else {
-        Err(Misfit::Unfit)
-    }
+    Ok(tokens)
 }
 
 /// The numbers of a list of tokens, five for a token, in the order of the fields (LSP 3.17,
