@@ -7,7 +7,7 @@ use serde_json::Value;
 use std::alloc::Global;
 
 /// A command that a client offers to the user (LSP 3.17, "Command").
-#[derive(Debug, Clone, Drop)]
+#[derive(Debug, PartialEq, Clone, Drop)]
 pub struct Command {
     /// The title that the user sees, such as `Save`.
     pub title: String,

@@ -69,7 +69,7 @@ impl Wire for DiagnosticRelatedInformation {
 }
 
 /// What is found in a range of a document, such as an error of a compiler (LSP 3.17, "Diagnostic").
-#[derive(Debug, Drop)]
+#[derive(Debug, PartialEq, Drop)]
 pub struct Diagnostic {
     /// The range in which it is found.
     pub range: Range,

@@ -1,5 +1,9 @@
 // Documents, and what names them.
 ghost use Rattle.std.specs.Prelude.{◌≡◌};
+ghost use Rattle.std.proofs.Common.{rules};
+ghost use Rattle.std.specs.Cmp.{partial_order_from_own_ties};
+ghost use Rattle.std.specs.Cmp.Rules.{comparing};
+ghost use Rattle.std.specs.Ordering.{on, then_cmp, as_partial_cmp};
 ghost use Rattle.lsp_base.specs.Document.{text_document_identifier_row, text_document_item_row, versioned_text_document_identifier_row, optional_versioned_text_document_identifier_row, text_document_position_params_row, document_filter_row, text_document_content_change_event_row, workspace_folder_row};
 
 use crate::position::{Position, Range};
@@ -7,6 +11,7 @@ use lsp_shape::{Misfit, NoMemory, Reader, Wire, Writer};
 use lsp_uri::Uri;
 use serde_json::Value;
 use std::alloc::Global;
+use std::cmp::Ordering;
 
 /// Names a document by its URI (LSP 3.17, "TextDocumentIdentifier").
 #[derive(Debug, PartialEq, Eq, Clone, Drop)]
@@ -306,13 +311,41 @@ impl Wire for TextDocumentContentChangeEvent {
     }
 }
 
-/// A folder of the client's workspace. Since 3.6 (LSP 3.17, "Workspace folders request").
-#[derive(Debug, PartialEq, Eq, PartialOrd, Ord, Clone, Drop)]
+/// A folder of the client's workspace. Since 3.6. Ordered by URI, then by name (LSP 3.17,
+/// "Workspace folders request").
+#[derive(Debug, PartialEq, Eq, Clone, Drop)]
 pub struct WorkspaceFolder {
     /// The URI of the folder.
     pub uri: Uri,
     /// The name by which the client shows it.
     pub name: String,
+}
+
+impl PartialOrd for WorkspaceFolder {
+    ghost partial_cmp = { as_partial_cmp
+        (then_cmp (on (λ f. f.uri) ⟦<Uri as Ord>⟧.cmp) (on (λ f. f.name) ⟦<String as Ord>⟧.cmp)) };
+
+    ghost laws = { partial_order_from_own_ties (Prim.search (comparing, rules))
+        (Prim.search (comparing, rules)) };
+
+    fn partial_cmp(&self, other: &WorkspaceFolder) -> Option<Ordering> {
+        Some(self.cmp(other))
+    }
+}
+
+impl Ord for WorkspaceFolder {
+    ghost cmp = { then_cmp
+        (on (λ f. f.uri) ⟦<Uri as Ord>⟧.cmp) (on (λ f. f.name) ⟦<String as Ord>⟧.cmp) };
+
+    ghost total = { Prim.search (comparing, rules) };
+
+    ghost matches_partial_cmp = { Prim.search (comparing, rules) };
+
+    ghost matches_eq = { Prim.search (comparing, rules) };
+
+    fn cmp(&self, other: &WorkspaceFolder) -> Ordering {
+        self.uri.cmp(&other.uri).then(self.name.cmp(&other.name))
+    }
 }
 
 #[tactic(auto, unfolding(crate::specs::Document::workspace_folder_row))]

@@ -2,10 +2,10 @@
 ghost use Rattle.lsp_base.specs.Resource.{create_file_options_row, create_file_row, rename_file_options_row, rename_file_row, delete_file_options_row, delete_file_row, resource_op_row};
 
 use crate::edit::ChangeAnnotationIdentifier;
-use lsp_shape::{Misfit, NoMemory, Reader, Wire, Writer, put_tag, tag};
+use lsp_shape::{Copies, Misfit, NoMemory, Reader, Wire, Writer, put_tag, tag};
 use lsp_uri::Uri;
 use serde_json::Value;
-use std::alloc::Global;
+use std::alloc::{AllocError, Global};
 
 /// What to do where the file is there already. Since 3.13 (LSP 3.17, "File Resource changes").
 #[derive(Debug, PartialEq, Eq, Clone, Drop)]
@@ -106,7 +106,7 @@ impl Wire for RenameFileOptions {
 }
 
 /// A file or folder to rename. Since 3.13 (LSP 3.17, "File Resource changes").
-#[derive(Debug, PartialEq, Eq, Clone, Drop)]
+#[derive(Debug, PartialEq, Eq, Drop)]
 pub struct RenameFile {
     /// Its present URI.
     pub old_uri: Uri,
@@ -116,6 +116,25 @@ pub struct RenameFile {
     pub options: Option<RenameFileOptions>,
     /// The annotation that says what the change is for. Since 3.16.
     pub annotation_id: Option<ChangeAnnotationIdentifier>,
+}
+
+impl Clone for RenameFile {
+    ghost is_clone = { λ x y. ⟦<Uri as Clone>⟧.is_clone x.old_uri y.old_uri
+        × ⟦<Uri as Clone>⟧.is_clone x.new_uri y.new_uri
+        × ⟦<Option<RenameFileOptions> as Clone>⟧.is_clone x.options y.options
+        × ⟦<Option<ChangeAnnotationIdentifier> as Clone>⟧.is_clone
+        x.annotation_id y.annotation_id };
+
+    fn clone(&self) -> Result<RenameFile, AllocError> {
+        let mut copies = Copies::new();
+        let copy = RenameFile {
+            old_uri: self.old_uri.clone()?,
+            new_uri: self.new_uri.clone()?,
+            options: copies.optional(&self.options),
+            annotation_id: copies.optional(&self.annotation_id),
+        };
+        copies.end(copy)
+    }
 }
 
 #[tactic(auto, unfolding(crate::specs::Resource::rename_file_row))]

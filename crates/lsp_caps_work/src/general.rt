@@ -3,13 +3,13 @@ ghost use Rattle.std.specs.Prelude.{◌≡◌, None, [], false, string_bytes};
 ghost use Rattle.lsp_caps_work.specs.General.{general_client_capabilities_row, stale_request_support_client_capabilities_row, regular_expressions_client_capabilities_row, markdown_client_capabilities_row};
 
 use lsp_names::PositionEncodingKind;
-use lsp_shape::{Misfit, NoMemory, Reader, Wire, Writer};
+use lsp_shape::{Copies, Misfit, NoMemory, Reader, Wire, Writer};
 use serde_json::Value;
-use std::alloc::Global;
+use std::alloc::{AllocError, Global};
 
 /// What a client supports in the protocol as a whole, as `general` in its capabilities in
 /// `initialize`. Since 3.16 (LSP 3.17, "Initialize Request").
-#[derive(Debug, PartialEq, Default, Clone, Drop)]
+#[derive(Debug, PartialEq, Default, Drop)]
 pub struct GeneralClientCapabilities {
     /// The client's regular expression engine. Since 3.16.
     pub regular_expressions: Option<RegularExpressionsClientCapabilities>,
@@ -20,6 +20,27 @@ pub struct GeneralClientCapabilities {
     /// The encodings in which the client can count the characters of a position, the preferred one
     /// first. UTF-16 is always supported, even if it isn't named. Absent: only UTF-16. Since 3.17.
     pub position_encodings: Option<Vec<PositionEncodingKind>>,
+}
+
+impl Clone for GeneralClientCapabilities {
+    ghost is_clone = { λ x y. ⟦<Option<RegularExpressionsClientCapabilities> as Clone>⟧.is_clone
+        x.regular_expressions y.regular_expressions
+        × ⟦<Option<MarkdownClientCapabilities> as Clone>⟧.is_clone x.markdown y.markdown
+        × ⟦<Option<StaleRequestSupportClientCapabilities> as Clone>⟧.is_clone
+        x.stale_request_support y.stale_request_support
+        × ⟦<Option<Vec<PositionEncodingKind>> as Clone>⟧.is_clone
+        x.position_encodings y.position_encodings };
+
+    fn clone(&self) -> Result<GeneralClientCapabilities, AllocError> {
+        let mut copies = Copies::new();
+        let copy = GeneralClientCapabilities {
+            regular_expressions: copies.optional(&self.regular_expressions),
+            markdown: copies.optional(&self.markdown),
+            stale_request_support: copies.optional(&self.stale_request_support),
+            position_encodings: copies.optional(&self.position_encodings),
+        };
+        copies.end(copy)
+    }
 }
 
 #[tactic(auto, unfolding(crate::specs::General::general_client_capabilities_row))]

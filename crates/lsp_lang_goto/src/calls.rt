@@ -42,7 +42,7 @@ impl Wire for CallHierarchyPrepareParams {
 /// A function or another symbol in a hierarchy of calls. The server returns it for
 /// `textDocument/prepareCallHierarchy`, and the client sends it back to ask for its callers or
 /// callees; since 3.16 (LSP 3.17, "Prepare Call Hierarchy Request").
-#[derive(Debug, Drop)]
+#[derive(Debug, PartialEq, Drop)]
 pub struct CallHierarchyItem {
     /// What the client shows for the symbol, usually its identifier.
     pub name: String,
@@ -127,7 +127,7 @@ impl Wire for CallHierarchyItem {
 
 /// Parameters of `callHierarchy/incomingCalls`: the symbol whose callers are wanted, since 3.16
 /// (LSP 3.17, "Call Hierarchy Incoming Calls").
-#[derive(Debug, Clone, Drop)]
+#[derive(Debug, PartialEq, Clone, Drop)]
 pub struct CallHierarchyIncomingCallsParams {
     /// The called symbol, as an item that the server returned earlier.
     pub item: CallHierarchyItem,
@@ -167,7 +167,7 @@ impl Wire for CallHierarchyIncomingCallsParams {
 
 /// A caller and the places where it makes the call: an entry of the result of
 /// `callHierarchy/incomingCalls`, since 3.16 (LSP 3.17, "Call Hierarchy Incoming Calls").
-#[derive(Debug, Clone, Drop)]
+#[derive(Debug, PartialEq, Clone, Drop)]
 pub struct CallHierarchyIncomingCall {
     /// The calling symbol.
     pub from: CallHierarchyItem,
@@ -199,7 +199,7 @@ impl Wire for CallHierarchyIncomingCall {
 
 /// Parameters of `callHierarchy/outgoingCalls`: the symbol whose callees are wanted, since 3.16
 /// (LSP 3.17, "Call Hierarchy Outgoing Calls").
-#[derive(Debug, Clone, Drop)]
+#[derive(Debug, PartialEq, Clone, Drop)]
 pub struct CallHierarchyOutgoingCallsParams {
     /// The calling symbol, as an item that the server returned earlier.
     pub item: CallHierarchyItem,
@@ -239,7 +239,7 @@ impl Wire for CallHierarchyOutgoingCallsParams {
 
 /// A callee and the places where it is called: an entry of the result of
 /// `callHierarchy/outgoingCalls`, since 3.16 (LSP 3.17, "Call Hierarchy Outgoing Calls").
-#[derive(Debug, Clone, Drop)]
+#[derive(Debug, PartialEq, Clone, Drop)]
 pub struct CallHierarchyOutgoingCall {
     /// The called symbol.
     pub to: CallHierarchyItem,

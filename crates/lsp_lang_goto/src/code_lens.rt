@@ -47,7 +47,7 @@ impl Wire for CodeLensParams {
 
 /// A command that the client displays at a piece of code, such as `3 references` or `Run test`: an
 /// entry of the result of `textDocument/codeLens` (LSP 3.17, "Code Lens Request").
-#[derive(Debug, Clone, Drop)]
+#[derive(Debug, PartialEq, Clone, Drop)]
 pub struct CodeLens {
     /// The code that the lens belongs to. It should stay on a single line.
     pub range: Range,

@@ -46,7 +46,7 @@ impl Wire for DocumentLinkParams {
 
 /// Text in a document that the user can follow to a file or a web page: an entry of the result of
 /// `textDocument/documentLink` (LSP 3.17, "Document Link Request").
-#[derive(Debug, Clone, Drop)]
+#[derive(Debug, PartialEq, Clone, Drop)]
 pub struct DocumentLink {
     /// The text that acts as the link.
     pub range: Range,

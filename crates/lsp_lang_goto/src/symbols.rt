@@ -8,10 +8,10 @@ use lsp_base::{
     LSPAny, Location, OneOf, PartialResultParams, TextDocumentIdentifier, WorkDoneProgressParams,
 };
 use lsp_kinds::{SymbolKind, SymbolTag};
-use lsp_shape::{Misfit, NoMemory, Reader, Wire, Writer, attempt};
+use lsp_shape::{Copies, Misfit, NoMemory, Reader, Wire, Writer, attempt};
 use lsp_uri::Uri;
 use serde_json::Value;
-use std::alloc::Global;
+use std::alloc::{AllocError, Global};
 
 /// Parameters of `textDocument/documentSymbol`: the document whose symbols are wanted, for instance
 /// for an outline (LSP 3.17, "Document Symbols Request").
@@ -100,7 +100,7 @@ impl From<Vec<DocumentSymbol>> for DocumentSymbolResponse {
 
 /// A symbol and its location, without children: an entry of a result of
 /// `textDocument/documentSymbol` or `workspace/symbol` (LSP 3.17, "Document Symbols Request").
-#[derive(Debug, PartialEq, Eq, Clone, Drop)]
+#[derive(Debug, PartialEq, Eq, Drop)]
 pub struct SymbolInformation {
     /// What the client shows for the symbol, usually its identifier.
     pub name: String,
@@ -118,6 +118,28 @@ pub struct SymbolInformation {
     /// The name of what encloses the symbol, such as its class. It is only displayed: clients don't
     /// derive a tree from it.
     pub container_name: Option<String>,
+}
+
+impl Clone for SymbolInformation {
+    ghost is_clone = { λ x y. ⟦<String as Clone>⟧.is_clone x.name y.name
+        × ⟦<SymbolKind as Clone>⟧.is_clone x.kind y.kind
+        × ⟦<Option<Vec<SymbolTag>> as Clone>⟧.is_clone x.tags y.tags
+        × ⟦<Option<bool> as Clone>⟧.is_clone x.deprecated y.deprecated
+        × ⟦<Location as Clone>⟧.is_clone x.location y.location
+        × ⟦<Option<String> as Clone>⟧.is_clone x.container_name y.container_name };
+
+    fn clone(&self) -> Result<SymbolInformation, AllocError> {
+        let mut copies = Copies::new();
+        let copy = SymbolInformation {
+            name: self.name.clone()?,
+            kind: self.kind,
+            tags: copies.optional(&self.tags),
+            deprecated: copies.optional(&self.deprecated),
+            location: self.location.clone()?,
+            container_name: copies.optional(&self.container_name),
+        };
+        copies.end(copy)
+    }
 }
 
 #[tactic(auto, unfolding(crate::specs::Symbols::symbol_information_row))]
@@ -204,7 +226,7 @@ impl Wire for WorkspaceSymbolParams {
 
 /// Result of `workspace/symbol`: the symbols found in the workspace. If there are none, the result
 /// may be null instead (LSP 3.17, "Workspace Symbols Request").
-#[derive(Debug, Clone, Drop)]
+#[derive(Debug, PartialEq, Clone, Drop)]
 pub enum WorkspaceSymbolResponse {
     /// Symbols with complete locations. An array is read as this variant if it is empty or if each
     /// of its locations has a range.
@@ -237,7 +259,7 @@ impl Wire for WorkspaceSymbolResponse {
 
 /// A symbol found by `workspace/symbol`. Its range may be left to a later
 /// `workspaceSymbol/resolve`; since 3.17 (LSP 3.17, "Workspace Symbols Request").
-#[derive(Debug, Clone, Drop)]
+#[derive(Debug, PartialEq, Drop)]
 pub struct WorkspaceSymbol {
     /// What the client shows for the symbol, usually its identifier.
     pub name: String,
@@ -256,6 +278,28 @@ pub struct WorkspaceSymbol {
     /// Any value, sent as the member `data`. The client returns it unchanged in
     /// `workspaceSymbol/resolve`.
     pub payload: Option<LSPAny>,
+}
+
+impl Clone for WorkspaceSymbol {
+    ghost is_clone = { λ x y. ⟦<String as Clone>⟧.is_clone x.name y.name
+        × ⟦<SymbolKind as Clone>⟧.is_clone x.kind y.kind
+        × ⟦<Option<Vec<SymbolTag>> as Clone>⟧.is_clone x.tags y.tags
+        × ⟦<Option<String> as Clone>⟧.is_clone x.container_name y.container_name
+        × ⟦<OneOf<Location, WorkspaceLocation> as Clone>⟧.is_clone x.location y.location
+        × ⟦<Option<LSPAny> as Clone>⟧.is_clone x.payload y.payload };
+
+    fn clone(&self) -> Result<WorkspaceSymbol, AllocError> {
+        let mut copies = Copies::new();
+        let copy = WorkspaceSymbol {
+            name: self.name.clone()?,
+            kind: self.kind,
+            tags: copies.optional(&self.tags),
+            container_name: copies.optional(&self.container_name),
+            location: self.location.clone()?,
+            payload: copies.optional(&self.payload),
+        };
+        copies.end(copy)
+    }
 }
 
 #[tactic(auto, unfolding(crate::specs::Symbols::workspace_symbol_row))]

@@ -43,7 +43,7 @@ impl Wire for TypeHierarchyPrepareParams {
 
 /// Parameters of `typeHierarchy/supertypes`: the type whose supertypes are wanted, since 3.17 (LSP
 /// 3.17, "Type Hierarchy Supertypes").
-#[derive(Debug, Clone, Drop)]
+#[derive(Debug, PartialEq, Clone, Drop)]
 pub struct TypeHierarchySupertypesParams {
     /// The type, as an item that the server returned earlier.
     pub item: TypeHierarchyItem,
@@ -80,7 +80,7 @@ impl Wire for TypeHierarchySupertypesParams {
 
 /// Parameters of `typeHierarchy/subtypes`: the type whose subtypes are wanted, since 3.17 (LSP
 /// 3.17, "Type Hierarchy Subtypes").
-#[derive(Debug, Clone, Drop)]
+#[derive(Debug, PartialEq, Clone, Drop)]
 pub struct TypeHierarchySubtypesParams {
     /// The type, as an item that the server returned earlier.
     pub item: TypeHierarchyItem,
@@ -118,7 +118,7 @@ impl Wire for TypeHierarchySubtypesParams {
 /// A type in a hierarchy of types. The server returns it for `textDocument/prepareTypeHierarchy`,
 /// and the client sends it back to ask for its supertypes or subtypes; since 3.17 (LSP 3.17,
 /// "Prepare Type Hierarchy Request").
-#[derive(Debug, Drop)]
+#[derive(Debug, PartialEq, Drop)]
 pub struct TypeHierarchyItem {
     /// What the client shows for the type, usually its identifier.
     pub name: String,

@@ -15,7 +15,7 @@ use std::alloc::{AllocError, Global};
 
 /// Parameters of `textDocument/codeAction`: the code for which quick fixes, refactorings and the
 /// like are wanted (LSP 3.17, "Code Action Request").
-#[derive(Debug, Clone, Drop)]
+#[derive(Debug, PartialEq, Clone, Drop)]
 pub struct CodeActionParams {
     /// The document that contains the code.
     pub text_document: TextDocumentIdentifier,
@@ -60,7 +60,7 @@ impl Wire for CodeActionParams {
 
 /// What a client adds to the range in `textDocument/codeAction`: diagnostics, and which actions it
 /// wants (LSP 3.17, "Code Action Request").
-#[derive(Debug, Clone, Drop)]
+#[derive(Debug, PartialEq, Clone, Drop)]
 pub struct CodeActionContext {
     /// The diagnostics that the client shows in the range. They may be outdated, so a server should
     /// rather rely on the range.

@@ -92,7 +92,7 @@ impl Wire for CompletionContext {
 
 /// Result of `textDocument/completion`: the suggestions. If there are none, the result may be null
 /// instead (LSP 3.17, "Completion Request").
-#[derive(Debug, Clone, Drop)]
+#[derive(Debug, PartialEq, Clone, Drop)]
 pub enum CompletionResponse {
     /// A complete array: while the user types on, the client filters these items without asking
     /// again.
@@ -141,7 +141,7 @@ impl From<CompletionList> for CompletionResponse {
 /// An array of completion items that can be marked as incomplete: one form of the result of
 /// `textDocument/completion`. The member `itemDefaults` of 3.17 is not supported (LSP 3.17,
 /// "Completion Request").
-#[derive(Debug, Clone, Drop)]
+#[derive(Debug, PartialEq, Clone, Drop)]
 pub struct CompletionList {
     /// Whether there are suggestions that the list leaves out. If so, the client asks again while
     /// the user types on.
@@ -187,7 +187,7 @@ impl Wire for CompletionList {
 
 /// A suggestion in the result of `textDocument/completion`. The client may ask for parts that are
 /// missing by `completionItem/resolve` (LSP 3.17, "Completion Request").
-#[derive(Debug, Drop)]
+#[derive(Debug, PartialEq, Drop)]
 pub struct CompletionItem {
     /// The text that the user sees in the list. It is also used for sorting, filtering and
     /// inserting where the fields for these are absent.

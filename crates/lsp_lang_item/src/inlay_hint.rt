@@ -232,7 +232,7 @@ impl From<MarkupContent> for InlayHintTooltip {
 }
 
 /// A part of the label of an inlay hint, since 3.17 (LSP 3.17, "Inlay Hint Request").
-#[derive(Debug, Clone, Drop)]
+#[derive(Debug, Drop)]
 pub struct InlayHintLabelPart {
     /// The text of the part. It must not be empty.
     pub value: String,
@@ -243,6 +243,24 @@ pub struct InlayHintLabelPart {
     pub location: Option<Location>,
     /// A command for the part, which clients usually run on a click.
     pub command: Option<Command>,
+}
+
+impl Clone for InlayHintLabelPart {
+    ghost is_clone = { λ x y. ⟦<String as Clone>⟧.is_clone x.value y.value
+        × ⟦<Option<InlayHintLabelPartTooltip> as Clone>⟧.is_clone x.tooltip y.tooltip
+        × ⟦<Option<Location> as Clone>⟧.is_clone x.location y.location
+        × ⟦<Option<Command> as Clone>⟧.is_clone x.command y.command };
+
+    fn clone(&self) -> Result<InlayHintLabelPart, AllocError> {
+        let mut copies = Copies::new();
+        let copy = InlayHintLabelPart {
+            value: self.value.clone()?,
+            tooltip: copies.optional(&self.tooltip),
+            location: copies.optional(&self.location),
+            command: copies.optional(&self.command),
+        };
+        copies.end(copy)
+    }
 }
 
 impl InlayHintLabelPart {

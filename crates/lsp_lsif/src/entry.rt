@@ -14,7 +14,7 @@ pub type Id = NumberOrString;
 
 /// One vertex or edge of an index dump, as a JSON object. A dump is a sequence of them, and each
 /// vertex stands before the edges that refer to it (LSIF 0.6).
-#[derive(Debug, Drop)]
+#[derive(Debug, PartialEq, Drop)]
 pub struct Entry {
     /// The id of the vertex or edge, unique in the dump.
     pub id: Id,
@@ -46,7 +46,7 @@ impl Wire for Entry {
 
 /// A vertex or an edge of the graph that a dump describes. In JSON, the member `type` distinguishes
 /// them (LSIF 0.6).
-#[derive(Debug, Drop)]
+#[derive(Debug, PartialEq, Drop)]
 pub enum Element {
     /// A node, such as a document, a range or the result of a request. Its `type` is `vertex`.
     Vertex(Vertex),

@@ -14,7 +14,7 @@ use std::alloc::Global;
 
 /// A node of the graph that a dump describes. In JSON, the member `label` gives the variant (LSIF
 /// 0.6).
-#[derive(Debug, Drop)]
+#[derive(Debug, PartialEq, Drop)]
 pub enum Vertex {
     /// What holds for the whole dump, such as the version of the format.
     MetaData(MetaData),

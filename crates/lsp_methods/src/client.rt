@@ -15,7 +15,7 @@ use std::alloc::{AllocError, Global};
 
 /// The features that a client supports, as part of `InitializeParams`. An absent field means that
 /// it supports none of that group (LSP 3.17, "Initialize Request").
-#[derive(Debug, Default, Clone, Drop)]
+#[derive(Debug, PartialEq, Default, Drop)]
 pub struct ClientCapabilities {
     /// Features of the workspace, such as edits, configuration and file operations.
     pub workspace: Option<WorkspaceClientCapabilities>,
@@ -29,6 +29,31 @@ pub struct ClientCapabilities {
     pub general: Option<GeneralClientCapabilities>,
     /// Features that aren't part of the standard, in a form that client and server agree on.
     pub experimental: Option<Value>,
+}
+
+impl Clone for ClientCapabilities {
+    ghost is_clone = { λ x y. ⟦<Option<WorkspaceClientCapabilities> as Clone>⟧.is_clone
+        x.workspace y.workspace
+        × ⟦<Option<TextDocumentClientCapabilities> as Clone>⟧.is_clone
+        x.text_document y.text_document
+        × ⟦<Option<NotebookDocumentClientCapabilities> as Clone>⟧.is_clone
+        x.notebook_document y.notebook_document
+        × ⟦<Option<WindowClientCapabilities> as Clone>⟧.is_clone x.window y.window
+        × ⟦<Option<GeneralClientCapabilities> as Clone>⟧.is_clone x.general y.general
+        × ⟦<Option<Value> as Clone>⟧.is_clone x.experimental y.experimental };
+
+    fn clone(&self) -> Result<ClientCapabilities, AllocError> {
+        let mut copies = Copies::new();
+        let copy = ClientCapabilities {
+            workspace: copies.optional(&self.workspace),
+            text_document: copies.optional(&self.text_document),
+            notebook_document: copies.optional(&self.notebook_document),
+            window: copies.optional(&self.window),
+            general: copies.optional(&self.general),
+            experimental: copies.optional(&self.experimental),
+        };
+        copies.end(copy)
+    }
 }
 
 #[tactic(auto, unfolding(crate::specs::Client::client_capabilities_row))]
@@ -63,7 +88,7 @@ impl Wire for ClientCapabilities {
 
 /// Parameters of `initialize`, the first request of a session, sent by the client (LSP 3.17,
 /// "Initialize Request").
-#[derive(Debug, Default, Drop)]
+#[derive(Debug, PartialEq, Default, Drop)]
 pub struct InitializeParams {
     /// The id of the process that started the server. Once that process is gone, the server should
     /// exit. `None`, sent as `null`, if no process started it.

@@ -30,7 +30,7 @@ use std::alloc::{AllocError, Global};
 /// `client/registerCapability`, where the client has `dynamic_registration` for them. Type
 /// hierarchies have no field here, so they can only be registered later (LSP 3.17, "Initialize
 /// Request").
-#[derive(Debug, Default, Drop)]
+#[derive(Debug, PartialEq, Default, Drop)]
 pub struct ServerCapabilities {
     /// The unit of `character` in positions, one of those that the client offers as
     /// `general.positionEncodings`, since 3.17. Absent: UTF-16 code units.
@@ -325,7 +325,7 @@ impl Wire for ServerCapabilities {
 }
 
 /// Result of the request `initialize`, sent by the server (LSP 3.17, "Initialize Request").
-#[derive(Debug, Default, Clone, Drop)]
+#[derive(Debug, PartialEq, Default, Clone, Drop)]
 pub struct InitializeResult {
     /// The features that the server offers from the start.
     pub capabilities: ServerCapabilities,

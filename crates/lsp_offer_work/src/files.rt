@@ -2,14 +2,14 @@
 ghost use Rattle.std.specs.Prelude.{◌≡◌, None, [], string_bytes};
 ghost use Rattle.lsp_offer_work.specs.Files.{workspace_file_operations_server_capabilities_row, file_operation_registration_options_row, file_operation_filter_row, file_operation_pattern_kind_row, file_operation_pattern_options_row, file_operation_pattern_row};
 
-use lsp_shape::{Misfit, NoMemory, Reader, Wire, Writer};
+use lsp_shape::{Copies, Misfit, NoMemory, Reader, Wire, Writer};
 use serde_json::Value;
-use std::alloc::Global;
+use std::alloc::{AllocError, Global};
 
 /// The messages on file operations that a server wants, as part of `WorkspaceServerCapabilities`;
 /// an absent field means that it doesn't want that message. Since 3.16 (LSP 3.17, "Initialize
 /// Request").
-#[derive(Debug, PartialEq, Eq, Default, Clone, Drop)]
+#[derive(Debug, PartialEq, Eq, Default, Drop)]
 pub struct WorkspaceFileOperationsServerCapabilities {
     /// The files and folders for which the client sends the notification `workspace/didCreateFiles`
     /// once they are created.
@@ -29,6 +29,30 @@ pub struct WorkspaceFileOperationsServerCapabilities {
     /// The files and folders for which the client sends the request `workspace/willDeleteFiles`
     /// before it deletes them.
     pub will_delete: Option<FileOperationRegistrationOptions>,
+}
+
+impl Clone for WorkspaceFileOperationsServerCapabilities {
+    ghost is_clone = { λ x y. ⟦<Option<FileOperationRegistrationOptions> as Clone>⟧.is_clone
+        x.did_create y.did_create
+        × ⟦<Option<FileOperationRegistrationOptions> as Clone>⟧.is_clone x.will_create y.will_create
+        × ⟦<Option<FileOperationRegistrationOptions> as Clone>⟧.is_clone x.did_rename y.did_rename
+        × ⟦<Option<FileOperationRegistrationOptions> as Clone>⟧.is_clone x.will_rename y.will_rename
+        × ⟦<Option<FileOperationRegistrationOptions> as Clone>⟧.is_clone x.did_delete y.did_delete
+        × ⟦<Option<FileOperationRegistrationOptions> as Clone>⟧.is_clone
+        x.will_delete y.will_delete };
+
+    fn clone(&self) -> Result<WorkspaceFileOperationsServerCapabilities, AllocError> {
+        let mut copies = Copies::new();
+        let copy = WorkspaceFileOperationsServerCapabilities {
+            did_create: copies.optional(&self.did_create),
+            will_create: copies.optional(&self.will_create),
+            did_rename: copies.optional(&self.did_rename),
+            will_rename: copies.optional(&self.will_rename),
+            did_delete: copies.optional(&self.did_delete),
+            will_delete: copies.optional(&self.will_delete),
+        };
+        copies.end(copy)
+    }
 }
 
 #[tactic(auto, unfolding(crate::specs::Files::workspace_file_operations_server_capabilities_row))]

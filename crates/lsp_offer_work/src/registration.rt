@@ -7,7 +7,7 @@ use std::alloc::Global;
 
 /// A feature that a server registers while it runs, as an item of a `client/registerCapability`
 /// request (LSP 3.17, "Register Capability").
-#[derive(Debug, Clone, Drop)]
+#[derive(Debug, PartialEq, Clone, Drop)]
 pub struct Registration {
     /// An id that the server chooses, and repeats when it unregisters the feature.
     pub id: String,
@@ -44,7 +44,7 @@ impl Wire for Registration {
 
 /// Parameters of the request `client/registerCapability`, sent by the server (LSP 3.17, "Register
 /// Capability").
-#[derive(Debug, Clone, Drop)]
+#[derive(Debug, PartialEq, Clone, Drop)]
 pub struct RegistrationParams {
     /// The features to register.
     pub registrations: Vec<Registration>,

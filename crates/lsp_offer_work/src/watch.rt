@@ -122,8 +122,8 @@ impl From<RelativePattern> for GlobPattern {
     }
 }
 
-/// A glob pattern for paths relative to a base URI, since 3.17 (LSP 3.17, "DidChangeWatchedFiles
-/// Notification").
+/// A glob pattern for paths relative to a base URI, since 3.17. Ordered by base, then by pattern
+/// (LSP 3.17, "DidChangeWatchedFiles Notification").
 #[derive(Debug, PartialEq, Eq, PartialOrd, Ord, Clone, Drop)]
 pub struct RelativePattern {
     /// The base: a workspace folder, or another absolute URI.

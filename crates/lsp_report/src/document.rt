@@ -6,15 +6,15 @@ ghost use Rattle.lsp_report.specs.declared.document.DocumentDiagnosticReportKind
 ghost use Rattle.lsp_report.specs.declared.document.DocumentDiagnosticReportResult.TheVariants as document_diagnostic_report_result;
 
 use lsp_base::{Diagnostic, PartialResultParams, TextDocumentIdentifier, WorkDoneProgressParams};
-use lsp_shape::{Misfit, NoMemory, Reader, Wire, Writer, attempt, put_tag, tag};
+use lsp_shape::{Copies, Misfit, NoMemory, Reader, Wire, Writer, attempt, put_tag, tag};
 use lsp_uri::Uri;
 use serde_json::Value;
-use std::alloc::Global;
+use std::alloc::{AllocError, Global};
 use std::collections::HashMap;
 
 /// The parameters of `textDocument/diagnostic`, with which a client asks for the diagnostics of a
 /// document. Since 3.17 (LSP 3.17, "Pull Diagnostics").
-#[derive(Debug, PartialEq, Eq, Clone, Drop)]
+#[derive(Debug, PartialEq, Eq, Drop)]
 pub struct DocumentDiagnosticParams {
     /// The document whose diagnostics are requested.
     pub text_document: TextDocumentIdentifier,
@@ -30,6 +30,29 @@ pub struct DocumentDiagnosticParams {
     /// `$/progress`, and then an empty response. Absent: the response has the whole result. Since
     /// 3.15.
     pub partial_result_params: PartialResultParams,
+}
+
+impl Clone for DocumentDiagnosticParams {
+    ghost is_clone = { λ x y. ⟦<TextDocumentIdentifier as Clone>⟧.is_clone
+        x.text_document y.text_document
+        × ⟦<Option<String> as Clone>⟧.is_clone x.identifier y.identifier
+        × ⟦<Option<String> as Clone>⟧.is_clone x.previous_result_id y.previous_result_id
+        × ⟦<WorkDoneProgressParams as Clone>⟧.is_clone
+        x.work_done_progress_params y.work_done_progress_params
+        × ⟦<PartialResultParams as Clone>⟧.is_clone
+        x.partial_result_params y.partial_result_params };
+
+    fn clone(&self) -> Result<DocumentDiagnosticParams, AllocError> {
+        let mut copies = Copies::new();
+        let copy = DocumentDiagnosticParams {
+            text_document: self.text_document.clone()?,
+            identifier: copies.optional(&self.identifier),
+            previous_result_id: copies.optional(&self.previous_result_id),
+            work_done_progress_params: self.work_done_progress_params.clone()?,
+            partial_result_params: self.partial_result_params.clone()?,
+        };
+        copies.end(copy)
+    }
 }
 
 #[tactic(auto, unfolding(crate::specs::Document::document_diagnostic_params_row, lsp_base::specs::Progress::work_done_progress_params_row, lsp_base::specs::Progress::partial_result_params_row))]
@@ -168,7 +191,7 @@ impl From<RelatedUnchangedDocumentDiagnosticReport> for DocumentDiagnosticReport
 
 /// The report on a related document, as part of the result of `textDocument/diagnostic`. Since 3.17
 /// (LSP 3.17, "Pull Diagnostics").
-#[derive(Debug, Clone, Drop)]
+#[derive(Debug, PartialEq, Clone, Drop)]
 pub enum DocumentDiagnosticReportKind {
     /// All diagnostics of the document.
     Full(FullDocumentDiagnosticReport),
@@ -314,7 +337,7 @@ impl Wire for RelatedUnchangedDocumentDiagnosticReport {
 }
 
 /// All diagnostics of a document. Since 3.17 (LSP 3.17, "Pull Diagnostics").
-#[derive(Debug, Clone, Drop)]
+#[derive(Debug, PartialEq, Clone, Drop)]
 pub struct FullDocumentDiagnosticReport {
     /// An id of the server's choice for this result, which the client sends back in its next
     /// request for the document. Absent: the next report can't be an unchanged one.

@@ -6,14 +6,14 @@ use lsp_base::{
     LSPObject, TextDocumentContentChangeEvent, TextDocumentIdentifier, TextDocumentItem,
     VersionedTextDocumentIdentifier,
 };
-use lsp_shape::{Misfit, NoMemory, Reader, Wire, Writer};
+use lsp_shape::{Copies, Misfit, NoMemory, Reader, Wire, Writer};
 use lsp_uri::Uri;
 use serde_json::Value;
-use std::alloc::Global;
+use std::alloc::{AllocError, Global};
 
 /// A notebook, as the server receives it in `notebookDocument/didOpen`. Since 3.17 (LSP 3.17,
 /// "Notebook Document Synchronization").
-#[derive(Debug, Clone, Drop)]
+#[derive(Debug, PartialEq, Clone, Drop)]
 pub struct NotebookDocument {
     /// The URI of the notebook.
     pub uri: Uri,
@@ -56,7 +56,7 @@ impl Wire for NotebookDocument {
 }
 
 /// A cell of a notebook. Since 3.17 (LSP 3.17, "Notebook Document Synchronization").
-#[derive(Debug, Clone, Drop)]
+#[derive(Debug, PartialEq, Drop)]
 pub struct NotebookCell {
     /// Whether the cell is markup or code.
     pub kind: NotebookCellKind,
@@ -68,6 +68,24 @@ pub struct NotebookCell {
     /// How the cell was last executed. Only from clients with the capability
     /// `executionSummaryReport`. Absent: it isn't stated.
     pub execution_summary: Option<ExecutionSummary>,
+}
+
+impl Clone for NotebookCell {
+    ghost is_clone = { λ x y. ⟦<NotebookCellKind as Clone>⟧.is_clone x.kind y.kind
+        × ⟦<Uri as Clone>⟧.is_clone x.document y.document
+        × ⟦<Option<LSPObject> as Clone>⟧.is_clone x.metadata y.metadata
+        × ⟦<Option<ExecutionSummary> as Clone>⟧.is_clone x.execution_summary y.execution_summary };
+
+    fn clone(&self) -> Result<NotebookCell, AllocError> {
+        let mut copies = Copies::new();
+        let copy = NotebookCell {
+            kind: self.kind.clone()?,
+            document: self.document.clone()?,
+            metadata: copies.optional(&self.metadata),
+            execution_summary: copies.optional(&self.execution_summary),
+        };
+        copies.end(copy)
+    }
 }
 
 #[tactic(auto, unfolding(crate::specs::Notebook::notebook_cell_row))]
@@ -131,7 +149,7 @@ impl Wire for ExecutionSummary {
 
 /// The parameters of `notebookDocument/didOpen`, which a client sends when a notebook is opened.
 /// Since 3.17 (LSP 3.17, "Notebook Document Synchronization").
-#[derive(Debug, Clone, Drop)]
+#[derive(Debug, PartialEq, Clone, Drop)]
 pub struct DidOpenNotebookDocumentParams {
     /// The opened notebook.
     pub notebook_document: NotebookDocument,
@@ -163,7 +181,7 @@ impl Wire for DidOpenNotebookDocumentParams {
 
 /// The parameters of `notebookDocument/didChange`, which a client sends when a notebook or the text
 /// of its cells has changed. Since 3.17 (LSP 3.17, "Notebook Document Synchronization").
-#[derive(Debug, Clone, Drop)]
+#[derive(Debug, PartialEq, Clone, Drop)]
 pub struct DidChangeNotebookDocumentParams {
     /// The changed notebook, with its version after the changes.
     pub notebook_document: VersionedNotebookDocumentIdentifier,
@@ -229,7 +247,7 @@ impl Wire for VersionedNotebookDocumentIdentifier {
 }
 
 /// What has changed in a notebook. Since 3.17 (LSP 3.17, "Notebook Document Synchronization").
-#[derive(Debug, Clone, Drop)]
+#[derive(Debug, PartialEq, Clone, Drop)]
 pub struct NotebookDocumentChangeEvent {
     /// The new metadata of the notebook. Absent: unchanged.
     pub metadata: Option<LSPObject>,
@@ -261,7 +279,7 @@ impl Wire for NotebookDocumentChangeEvent {
 
 /// What has changed in the cells of a notebook. Since 3.17 (LSP 3.17, "Notebook Document
 /// Synchronization").
-#[derive(Debug, Clone, Drop)]
+#[derive(Debug, PartialEq, Clone, Drop)]
 pub struct NotebookDocumentCellChange {
     /// Cells that were added or removed. Absent: none.
     pub structure: Option<NotebookDocumentCellChangeStructure>,
@@ -333,7 +351,7 @@ impl Wire for NotebookDocumentChangeTextContent {
 
 /// The cells that were added to or removed from a notebook. Since 3.17 (LSP 3.17, "Notebook
 /// Document Synchronization").
-#[derive(Debug, Clone, Drop)]
+#[derive(Debug, PartialEq, Clone, Drop)]
 pub struct NotebookDocumentCellChangeStructure {
     /// The change to the array of cells.
     pub array: NotebookCellArrayChange,
@@ -372,7 +390,7 @@ impl Wire for NotebookDocumentCellChangeStructure {
 
 /// A change to the array of cells of a notebook: some are removed, and others put in their place.
 /// Since 3.17 (LSP 3.17, "Notebook Document Synchronization").
-#[derive(Debug, Clone, Drop)]
+#[derive(Debug, PartialEq, Clone, Drop)]
 pub struct NotebookCellArrayChange {
     /// The zero-based index of the first cell that is removed, or where cells are inserted.
     pub start: u32,

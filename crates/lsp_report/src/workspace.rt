@@ -89,7 +89,7 @@ impl Wire for PreviousResultId {
 
 /// The result of `workspace/diagnostic`, or a later part of it. Since 3.17 (LSP 3.17, "Pull
 /// Diagnostics").
-#[derive(Debug, Clone, Drop)]
+#[derive(Debug, PartialEq, Clone, Drop)]
 pub enum WorkspaceDiagnosticReportResult {
     /// The report on the workspace. If the result is sent in parts, this is the first part.
     Report(WorkspaceDiagnosticReport),
@@ -138,7 +138,7 @@ impl From<WorkspaceDiagnosticReportPartialResult> for WorkspaceDiagnosticReportR
 
 /// Reports on documents of the workspace, as the result of `workspace/diagnostic`. Since 3.17 (LSP
 /// 3.17, "Pull Diagnostics").
-#[derive(Debug, Clone, Drop)]
+#[derive(Debug, PartialEq, Clone, Drop)]
 pub struct WorkspaceDiagnosticReport {
     /// One report for each document.
     pub items: Vec<WorkspaceDocumentDiagnosticReport>,
@@ -177,7 +177,7 @@ impl Wire for WorkspaceDiagnosticReport {
 
 /// The report on one document, in the result of `workspace/diagnostic`. Since 3.17 (LSP 3.17, "Pull
 /// Diagnostics").
-#[derive(Debug, Clone, Drop)]
+#[derive(Debug, PartialEq, Clone, Drop)]
 pub enum WorkspaceDocumentDiagnosticReport {
     /// All diagnostics of the document.
     Full(WorkspaceFullDocumentDiagnosticReport),
@@ -240,7 +240,7 @@ impl From<WorkspaceUnchangedDocumentDiagnosticReport> for WorkspaceDocumentDiagn
 
 /// All diagnostics of one document, in the result of `workspace/diagnostic`. Since 3.17 (LSP 3.17,
 /// "Pull Diagnostics").
-#[derive(Debug, Clone, Drop)]
+#[derive(Debug, PartialEq, Clone, Drop)]
 pub struct WorkspaceFullDocumentDiagnosticReport {
     /// The URI of the document.
     pub uri: Uri,
@@ -324,7 +324,7 @@ impl Wire for WorkspaceUnchangedDocumentDiagnosticReport {
 
 /// A later part of the result of `workspace/diagnostic`, sent with `$/progress` after a first
 /// `WorkspaceDiagnosticReport`. Since 3.17 (LSP 3.17, "Pull Diagnostics").
-#[derive(Debug, Clone, Drop)]
+#[derive(Debug, PartialEq, Clone, Drop)]
 pub struct WorkspaceDiagnosticReportPartialResult {
     /// Reports on further documents.
     pub items: Vec<WorkspaceDocumentDiagnosticReport>,

@@ -167,7 +167,7 @@ impl Wire for DidCloseTextDocumentParams {
 
 /// The parameters of `textDocument/publishDiagnostics`, with which a server replaces all its
 /// earlier diagnostics of a document (LSP 3.17, "PublishDiagnostics Notification").
-#[derive(Debug, Clone, Drop)]
+#[derive(Debug, PartialEq, Clone, Drop)]
 pub struct PublishDiagnosticsParams {
     /// The URI of the document.
     pub uri: Uri,

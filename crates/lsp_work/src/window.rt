@@ -114,7 +114,7 @@ impl Wire for MessageActionItem {
 
 /// The value of a further property of a `MessageActionItem`. The standard has no type of this name
 /// (LSP 3.17, "ShowMessage Request").
-#[derive(Debug, Clone, Drop)]
+#[derive(Debug, PartialEq, Clone, Drop)]
 pub enum MessageActionItemProperty {
     /// A string.
     String(String),

@@ -11,7 +11,7 @@ use std::alloc::Global;
 
 /// The parameters of `workspace/didChangeConfiguration`, which a client sends when its settings
 /// have changed (LSP 3.17, "DidChangeConfiguration Notification").
-#[derive(Debug, Clone, Drop)]
+#[derive(Debug, PartialEq, Clone, Drop)]
 pub struct DidChangeConfigurationParams {
     /// The settings, in a form that client and server agree on.
     pub settings: Value,
@@ -265,7 +265,7 @@ impl Wire for WorkspaceFoldersChangeEvent {
 
 /// The parameters of `workspace/executeCommand`, with which a client asks the server to execute one
 /// of its commands (LSP 3.17, "Execute a command").
-#[derive(Debug, Clone, Drop)]
+#[derive(Debug, PartialEq, Clone, Drop)]
 pub struct ExecuteCommandParams {
     /// The identifier of the command.
     pub command: String,
