@@ -7,10 +7,14 @@
 //!     TEXT => TEXT    the first is read, and the second is written
 //!     TEXT :: SHOWN   the text is read and written, and Debug shows this of what it is read as
 //!     ! TEXT          the text does not fit
+//!     ? WORDS         what the first text is without each of its members in turn: it does not fit
+//!                     without a MEMBER of the words, is written with VALUE as the member for
+//!                     MEMBER=VALUE, and without it for any other
 //!     # SOURCE        who sent the text of the next line
 #![tactic(auto)]
 
 mod error;
+mod members;
 mod trial;
 
 ghost use Rattle.std.specs.Prelude.{◌≡◌, Some, None, false, IfOk, OnOk, string_bytes};
@@ -23,7 +27,8 @@ ghost use Rattle.lsp_shape.specs.Write.{write};
 
 pub use error::RowError;
 use error::{compare, untrue};
-use lsp_shape::{NoMemory, Wire, attempt};
+use lsp_shape::{NoMemory, Wire, attempt, write_text};
+use members::members_hold;
 use serde_json::Value;
 use std::alloc::Global;
 use std::fmt;
@@ -34,7 +39,7 @@ pub fn text_of<T: Wire>(alloc: Global, value: &T) -> Result<String, NoMemory>
     ensures { let written = write T.shape (T.shown value.now) in
         IfOk result (λ s. has_float written ≡ false → string_bytes s ≡ compact_text written) }
 {
-    Ok(value.to_value(alloc)?.to_string(alloc)?)
+    write_text(alloc, value)
 }
 
 // The value of a text of that line.
@@ -74,12 +79,18 @@ fn read_as<T: Wire>(alloc: Global, line: &str, text: &str) -> Result<T, RowError
     }
 }
 
+// A line's text, what is written of it, and what is shown.
+fn parts(line: &str) -> (&str, &str, &str) {
+    let (text, shown) = line.split_once(" :: ").unwrap_or((line, ""));
+    let (text, written) = text.split_once(" => ").unwrap_or((text, text));
+    (text, written, shown)
+}
+
 fn line_holds<T: Wire + fmt::Debug>(alloc: Global, line: &str) -> Result<(), RowError> {
     if let Some(text) = line.strip_prefix("! ") {
         return is_refused::<T>(alloc, line, text);
     }
-    let (text, shown) = line.split_once(" :: ").unwrap_or((line, ""));
-    let (text, written) = text.split_once(" => ").unwrap_or((text, text));
+    let (text, written, shown) = parts(line);
     let value: T = read_as(alloc, line, text)?;
     if !shown.is_empty() {
         let found = format!(in alloc; "{value:?}")?;
@@ -94,12 +105,45 @@ fn line_holds<T: Wire + fmt::Debug>(alloc: Global, line: &str) -> Result<(), Row
     )
 }
 
+// The first text of the table that is to be read.
+fn first_text(rows: &str) -> Option<&str> {
+    for line in rows.lines() {
+        if !line.is_empty() && !line.starts_with("#") && !line.starts_with("!") {
+            return Some(parts(line).0);
+        }
+    }
+    None
+}
+
 /// Tries each line of the table on the type. The error has the first that is not true of it.
 pub fn holds<T: Wire + fmt::Debug>(alloc: Global, rows: &str) -> Result<(), RowError> {
     for line in rows.lines() {
-        if !line.is_empty() && !line.starts_with("#") {
-            line_holds::<T>(alloc, line)?;
+        if line.is_empty() || line.starts_with("#") {
+            continue;
+        }
+        match line.strip_prefix("?") {
+            Some(words) => members_hold::<T>(alloc, words, first_text(rows).unwrap_or(""))?,
+            None => line_holds::<T>(alloc, line)?,
         }
     }
     Ok(())
+}
+
+/// A clone of what the first text of the table is read as is shown and written as that is.
+pub(crate) fn clones<T: Wire + Clone + fmt::Debug>(
+    alloc: Global,
+    rows: &str,
+) -> Result<(), RowError> {
+    let text = first_text(rows).unwrap_or("");
+    let value: T = read_as(alloc, text, text)?;
+    let copy = value.clone()?;
+    let shown = format!(in alloc; "{value:?}")?;
+    let found = format!(in alloc; "{copy:?}")?;
+    compare(alloc, text, shown.as_str(), found.as_str())?;
+    compare(
+        alloc,
+        text,
+        text_of(alloc, &value)?.as_str(),
+        text_of(alloc, &copy)?.as_str(),
+    )
 }

@@ -1,6 +1,6 @@
 // What a test tries in turn.
 use crate::error::{RowError, untrue};
-use crate::{holds, text_of};
+use crate::{clones, holds, text_of};
 use lsp_shape::Wire;
 use std::alloc::Global;
 use std::fmt::{Debug, Display};
@@ -84,6 +84,13 @@ impl Trial {
     pub fn holds<T: Wire + Debug>(&mut self, rows: &str) {
         if self.found.is_ok() {
             self.found = holds::<T>(self.alloc, rows);
+        }
+    }
+
+    /// A clone of what the first text of the table is read as is shown and written as that is.
+    pub fn clones<T: Wire + Clone + Debug>(&mut self, rows: &str) {
+        if self.found.is_ok() {
+            self.found = clones::<T>(self.alloc, rows);
         }
     }
 
