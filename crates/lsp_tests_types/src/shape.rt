@@ -2,10 +2,10 @@
 // as.
 use lsp_rows::{RowError, Trial};
 use lsp_shape::{
-    Key, Misfit, NoMemory, Reader, TokenNumbers, WideReader, Wire, Writer, attempt, field, find,
-    list_or_empty, members_written, optional, put, put_flat, put_nullable, put_optional, put_tag,
-    put_unless_empty, put_unless_false, put_value, read_value, reads_back, rest, supported, tag,
-    trimmed, truth_or_false, write_value,
+    Key, Misfit, NoMemory, Reader, TextMisfit, TokenNumbers, WideReader, Wire, Writer, attempt,
+    field, find, list_or_empty, members_written, optional, put, put_flat, put_nullable,
+    put_optional, put_tag, put_unless_empty, put_unless_false, put_value, read_text, read_value,
+    reads_back, rest, supported, tag, trimmed, truth_or_false, write_text, write_value,
 };
 use serde_json::{Map, Value};
 use std::alloc::Global;
@@ -157,6 +157,25 @@ fn values_of_values(rt: HostRuntime) -> Result<(), Fail> {
     let key = String::from_text(alloc, "file:///a")?;
     trial.same("a key", key.as_text(), "file:///a");
     Ok(trial.end()?)
+}
+
+#[test]
+fn texts(rt: HostRuntime) -> Result<(), RowError> {
+    let alloc = rt.alloc();
+    let mut trial = Trial::new(alloc);
+    trial.same("3", read_text::<u32>(alloc, " 3"), Ok(3));
+    trial.same(
+        "no JSON",
+        read_text::<u32>(alloc, "{"),
+        Err(TextMisfit::Json),
+    );
+    trial.same(
+        "no number",
+        read_text::<u32>(alloc, "true"),
+        Err(TextMisfit::Unfit),
+    );
+    trial.text("written", write_text(alloc, &3u32), "3");
+    trial.end()
 }
 
 // The example of section "Formatting options" has further properties, each a boolean, a number or a

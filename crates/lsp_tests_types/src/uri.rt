@@ -243,5 +243,6 @@ fn read_and_written(rt: HostRuntime) -> Result<(), Fail> {
     trial.same("as a key", uri.as_text(), "file:///a");
     trial.is_written(map, text);
     trial.holds::<Uri>(URIS);
+    trial.clones::<Uri>(URIS);
     Ok(trial.end()?)
 }

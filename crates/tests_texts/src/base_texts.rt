@@ -239,6 +239,7 @@ fn diagnostics_and_commands(rt: HostRuntime) -> Result<(), RowError> {
 const TAG_SUPPORT: &str = r#"
 # Neovim 0.7.2
 {"valueSet":[1,2]}
+? valueSet
 {"valueSet":[]}
 ! true
 "#;
@@ -362,6 +363,7 @@ fn edits(rt: HostRuntime) -> Result<(), RowError> {
 
 const CREATE_FILE: &str = r#"
 {"kind":"create","uri":"file:///a","options":{"overwrite":true},"annotationId":"b"} => {"annotationId":"b","options":{"overwrite":true},"uri":"file:///a"}
+? uri
 ! {"uri":null}
 "#;
 

@@ -17,6 +17,7 @@ use lsp_rows::{RowError, Trial};
 
 const WORKSPACE_EDIT_CLIENT_CAPABILITIES: &str = r#"
 {"changeAnnotationSupport":{"groupsOnLabel":true},"documentChanges":true,"failureHandling":"abort","normalizesLineEndings":false,"resourceOperations":["create"]} :: WorkspaceEditClientCapabilities { document_changes: Some(true), resource_operations: Some([Create]), failure_handling: Some(Abort), normalizes_line_endings: Some(false), change_annotation_support: Some(ChangeAnnotationWorkspaceEditClientCapabilities { groups_on_label: Some(true) }) }
+?
 ! {"documentChanges":"no"}
 # Visual Studio Code 1.78, by its public form
 {"changeAnnotationSupport":{"groupsOnLabel":true},"documentChanges":true,"failureHandling":"textOnlyTransactional","normalizesLineEndings":true,"resourceOperations":["create","rename","delete"]}
@@ -26,6 +27,7 @@ const WORKSPACE_EDIT_CLIENT_CAPABILITIES: &str = r#"
 
 const CHANGE_ANNOTATION_WORKSPACE_EDIT_CLIENT_CAPABILITIES: &str = r#"
 {"groupsOnLabel":true} :: ChangeAnnotationWorkspaceEditClientCapabilities { groups_on_label: Some(true) }
+?
 ! {"groupsOnLabel":"no"}
 # Visual Studio Code 1.78, by its public form
 {"groupsOnLabel":true}
@@ -48,6 +50,7 @@ const FAILURE_HANDLING_KIND: &str = r#"
 
 const DID_CHANGE_WATCHED_FILES_CLIENT_CAPABILITIES: &str = r#"
 {"dynamicRegistration":true,"relativePatternSupport":false} :: DidChangeWatchedFilesClientCapabilities { dynamic_registration: Some(true), relative_pattern_support: Some(false) }
+?
 ! {"dynamicRegistration":"no"}
 # Visual Studio Code 1.78, by its public form
 {"dynamicRegistration":true,"relativePatternSupport":true}
@@ -57,6 +60,7 @@ const DID_CHANGE_WATCHED_FILES_CLIENT_CAPABILITIES: &str = r#"
 
 const WORKSPACE_FILE_OPERATIONS_CLIENT_CAPABILITIES: &str = r#"
 {"didCreate":true,"didDelete":false,"didRename":false,"dynamicRegistration":true,"willCreate":true,"willRename":false} :: WorkspaceFileOperationsClientCapabilities { dynamic_registration: Some(true), did_create: Some(true), will_create: Some(true), did_rename: Some(false), will_rename: Some(false), did_delete: Some(false), will_delete: None }
+?
 {"didCreate":false,"didRename":true,"dynamicRegistration":true,"willDelete":true,"willRename":false} :: WorkspaceFileOperationsClientCapabilities { dynamic_registration: Some(true), did_create: Some(false), will_create: None, did_rename: Some(true), will_rename: Some(false), did_delete: None, will_delete: Some(true) }
 ! {"dynamicRegistration":"no"}
 # Visual Studio Code 1.78, by its public form
@@ -67,6 +71,7 @@ const WORKSPACE_FILE_OPERATIONS_CLIENT_CAPABILITIES: &str = r#"
 
 const WORKSPACE_SYMBOL_CLIENT_CAPABILITIES: &str = r#"
 {"dynamicRegistration":true,"resolveSupport":{"properties":["properties"]},"symbolKind":{"valueSet":[109]},"tagSupport":{"valueSet":[105]}} :: WorkspaceSymbolClientCapabilities { dynamic_registration: Some(true), symbol_kind: Some(SymbolKindCapability { value_set: Some([SymbolKind(109)]) }), tag_support: Some(TagSupport { value_set: [SymbolTag(105)] }), resolve_support: Some(WorkspaceSymbolResolveSupportCapability { properties: ["properties"] }) }
+?
 ! {"dynamicRegistration":"no"}
 # Visual Studio Code 1.78, by its public form
 {"dynamicRegistration":true,"resolveSupport":{"properties":["location.range"]},"symbolKind":{"valueSet":[1,2,3,4,5,6,7,8,9,10,11,12,13,14,15,16,17,18,19,20,21,22,23,24,25,26]},"tagSupport":{"valueSet":[1]}}
@@ -76,6 +81,7 @@ const WORKSPACE_SYMBOL_CLIENT_CAPABILITIES: &str = r#"
 
 const WORKSPACE_SYMBOL_RESOLVE_SUPPORT_CAPABILITY: &str = r#"
 {"properties":["properties"]} :: WorkspaceSymbolResolveSupportCapability { properties: ["properties"] }
+? properties
 ! {}
 # Visual Studio Code 1.78, by its public form
 {"properties":["location.range"]}
@@ -83,6 +89,7 @@ const WORKSPACE_SYMBOL_RESOLVE_SUPPORT_CAPABILITY: &str = r#"
 
 const CODE_LENS_WORKSPACE_CLIENT_CAPABILITIES: &str = r#"
 {"refreshSupport":true} :: CodeLensWorkspaceClientCapabilities { refresh_support: Some(true) }
+?
 ! {"refreshSupport":"no"}
 # Visual Studio Code 1.78, by its public form
 {"refreshSupport":true}
@@ -90,6 +97,7 @@ const CODE_LENS_WORKSPACE_CLIENT_CAPABILITIES: &str = r#"
 
 const SEMANTIC_TOKENS_WORKSPACE_CLIENT_CAPABILITIES: &str = r#"
 {"refreshSupport":true} :: SemanticTokensWorkspaceClientCapabilities { refresh_support: Some(true) }
+? refreshSupport=null
 ! {"refreshSupport":"no"}
 # Visual Studio Code 1.78, by its public form
 {"refreshSupport":true}
@@ -97,6 +105,7 @@ const SEMANTIC_TOKENS_WORKSPACE_CLIENT_CAPABILITIES: &str = r#"
 
 const INLAY_HINT_WORKSPACE_CLIENT_CAPABILITIES: &str = r#"
 {"refreshSupport":true} :: InlayHintWorkspaceClientCapabilities { refresh_support: Some(true) }
+?
 ! {"refreshSupport":"no"}
 # Visual Studio Code 1.78, by its public form
 {"refreshSupport":true}
@@ -104,6 +113,7 @@ const INLAY_HINT_WORKSPACE_CLIENT_CAPABILITIES: &str = r#"
 
 const INLINE_VALUE_WORKSPACE_CLIENT_CAPABILITIES: &str = r#"
 {"refreshSupport":true} :: InlineValueWorkspaceClientCapabilities { refresh_support: Some(true) }
+?
 ! {"refreshSupport":"no"}
 # Visual Studio Code 1.78, by its public form
 {"refreshSupport":true}
@@ -111,11 +121,13 @@ const INLINE_VALUE_WORKSPACE_CLIENT_CAPABILITIES: &str = r#"
 
 const DIAGNOSTIC_WORKSPACE_CLIENT_CAPABILITIES: &str = r#"
 {"refreshSupport":true} :: DiagnosticWorkspaceClientCapabilities { refresh_support: Some(true) }
+?
 ! {"refreshSupport":"no"}
 "#;
 
 const WORKSPACE_CLIENT_CAPABILITIES: &str = r#"
 {"applyEdit":true,"codeLens":{"refreshSupport":true},"configuration":true,"diagnostic":{"refreshSupport":true},"didChangeConfiguration":{"dynamicRegistration":true},"didChangeWatchedFiles":{"dynamicRegistration":true},"executeCommand":{"dynamicRegistration":true},"fileOperations":{"dynamicRegistration":true},"inlayHint":{"refreshSupport":true},"inlineValue":{"refreshSupport":true},"semanticTokens":{"refreshSupport":true},"symbol":{"dynamicRegistration":true},"workspaceEdit":{"documentChanges":true},"workspaceFolders":true} :: WorkspaceClientCapabilities { apply_edit: Some(true), workspace_edit: Some(WorkspaceEditClientCapabilities { document_changes: Some(true), resource_operations: None, failure_handling: None, normalizes_line_endings: None, change_annotation_support: None }), did_change_configuration: Some(DynamicRegistrationClientCapabilities { dynamic_registration: Some(true) }), did_change_watched_files: Some(DidChangeWatchedFilesClientCapabilities { dynamic_registration: Some(true), relative_pattern_support: None }), symbol: Some(WorkspaceSymbolClientCapabilities { dynamic_registration: Some(true), symbol_kind: None, tag_support: None, resolve_support: None }), execute_command: Some(DynamicRegistrationClientCapabilities { dynamic_registration: Some(true) }), workspace_folders: Some(true), configuration: Some(true), semantic_tokens: Some(SemanticTokensWorkspaceClientCapabilities { refresh_support: Some(true) }), code_lens: Some(CodeLensWorkspaceClientCapabilities { refresh_support: Some(true) }), file_operations: Some(WorkspaceFileOperationsClientCapabilities { dynamic_registration: Some(true), did_create: None, will_create: None, did_rename: None, will_rename: None, did_delete: None, will_delete: None }), inline_value: Some(InlineValueWorkspaceClientCapabilities { refresh_support: Some(true) }), inlay_hint: Some(InlayHintWorkspaceClientCapabilities { refresh_support: Some(true) }), diagnostic: Some(DiagnosticWorkspaceClientCapabilities { refresh_support: Some(true) }) }
+?
 {"applyEdit":true,"codeLens":{"refreshSupport":true},"diagnostic":{"refreshSupport":true},"didChangeConfiguration":{"dynamicRegistration":true},"didChangeWatchedFiles":{"dynamicRegistration":true},"executeCommand":{"dynamicRegistration":true},"fileOperations":{"dynamicRegistration":true},"inlayHint":{"refreshSupport":true},"inlineValue":{"refreshSupport":true},"semanticTokens":{"refreshSupport":true},"symbol":{"dynamicRegistration":true},"workspaceEdit":{"documentChanges":true},"workspaceFolders":false} :: WorkspaceClientCapabilities { apply_edit: Some(true), workspace_edit: Some(WorkspaceEditClientCapabilities { document_changes: Some(true), resource_operations: None, failure_handling: None, normalizes_line_endings: None, change_annotation_support: None }), did_change_configuration: Some(DynamicRegistrationClientCapabilities { dynamic_registration: Some(true) }), did_change_watched_files: Some(DidChangeWatchedFilesClientCapabilities { dynamic_registration: Some(true), relative_pattern_support: None }), symbol: Some(WorkspaceSymbolClientCapabilities { dynamic_registration: Some(true), symbol_kind: None, tag_support: None, resolve_support: None }), execute_command: Some(DynamicRegistrationClientCapabilities { dynamic_registration: Some(true) }), workspace_folders: Some(false), configuration: None, semantic_tokens: Some(SemanticTokensWorkspaceClientCapabilities { refresh_support: Some(true) }), code_lens: Some(CodeLensWorkspaceClientCapabilities { refresh_support: Some(true) }), file_operations: Some(WorkspaceFileOperationsClientCapabilities { dynamic_registration: Some(true), did_create: None, will_create: None, did_rename: None, will_rename: None, did_delete: None, will_delete: None }), inline_value: Some(InlineValueWorkspaceClientCapabilities { refresh_support: Some(true) }), inlay_hint: Some(InlayHintWorkspaceClientCapabilities { refresh_support: Some(true) }), diagnostic: Some(DiagnosticWorkspaceClientCapabilities { refresh_support: Some(true) }) }
 ! {"applyEdit":"no"}
 # Emacs 28.2 with lsp-mode 8.0.0
@@ -131,6 +143,7 @@ const WORKSPACE_CLIENT_CAPABILITIES: &str = r#"
 
 const WINDOW_CLIENT_CAPABILITIES: &str = r#"
 {"showDocument":{"support":true},"showMessage":{"messageActionItem":{"additionalPropertiesSupport":true}},"workDoneProgress":true} :: WindowClientCapabilities { work_done_progress: Some(true), show_message: Some(ShowMessageRequestClientCapabilities { message_action_item: Some(MessageActionItemCapabilities { additional_properties_support: Some(true) }) }), show_document: Some(ShowDocumentClientCapabilities { support: true }) }
+?
 ! {"workDoneProgress":"no"}
 # Neovim 0.7.2
 {"showDocument":{"support":false},"showMessage":{"messageActionItem":{"additionalPropertiesSupport":false}},"workDoneProgress":true}
@@ -140,6 +153,7 @@ const WINDOW_CLIENT_CAPABILITIES: &str = r#"
 
 const SHOW_MESSAGE_REQUEST_CLIENT_CAPABILITIES: &str = r#"
 {"messageActionItem":{"additionalPropertiesSupport":true}} :: ShowMessageRequestClientCapabilities { message_action_item: Some(MessageActionItemCapabilities { additional_properties_support: Some(true) }) }
+?
 ! {"messageActionItem":"no"}
 # Neovim 0.7.2
 {"messageActionItem":{"additionalPropertiesSupport":false}}
@@ -149,6 +163,7 @@ const SHOW_MESSAGE_REQUEST_CLIENT_CAPABILITIES: &str = r#"
 
 const MESSAGE_ACTION_ITEM_CAPABILITIES: &str = r#"
 {"additionalPropertiesSupport":true} :: MessageActionItemCapabilities { additional_properties_support: Some(true) }
+?
 ! {"additionalPropertiesSupport":"no"}
 # Neovim 0.7.2
 {"additionalPropertiesSupport":false}
@@ -158,6 +173,7 @@ const MESSAGE_ACTION_ITEM_CAPABILITIES: &str = r#"
 
 const SHOW_DOCUMENT_CLIENT_CAPABILITIES: &str = r#"
 {"support":true} :: ShowDocumentClientCapabilities { support: true }
+? support
 ! {}
 # Neovim 0.7.2
 {"support":false}
@@ -167,6 +183,7 @@ const SHOW_DOCUMENT_CLIENT_CAPABILITIES: &str = r#"
 
 const GENERAL_CLIENT_CAPABILITIES: &str = r#"
 {"markdown":{"parser":"parser"},"positionEncodings":["positionEncodings"],"regularExpressions":{"engine":"engine"},"staleRequestSupport":{"cancel":true,"retryOnContentModified":["retryOnContentModified"]}} :: GeneralClientCapabilities { regular_expressions: Some(RegularExpressionsClientCapabilities { engine: "engine", version: None }), markdown: Some(MarkdownClientCapabilities { parser: "parser", version: None, allowed_tags: None }), stale_request_support: Some(StaleRequestSupportClientCapabilities { cancel: true, retry_on_content_modified: ["retryOnContentModified"] }), position_encodings: Some([PositionEncodingKind("positionEncodings")]) }
+?
 ! {"regularExpressions":"no"}
 # Visual Studio Code 1.78, by its public form
 {"markdown":{"parser":"marked","version":"1.1.0"},"positionEncodings":["utf-16"],"regularExpressions":{"engine":"ECMAScript","version":"ES2020"},"staleRequestSupport":{"cancel":true,"retryOnContentModified":["textDocument/semanticTokens/full","textDocument/semanticTokens/range","textDocument/semanticTokens/full/delta"]}}
@@ -174,6 +191,7 @@ const GENERAL_CLIENT_CAPABILITIES: &str = r#"
 
 const STALE_REQUEST_SUPPORT_CLIENT_CAPABILITIES: &str = r#"
 {"cancel":true,"retryOnContentModified":["retryOnContentModified"]} :: StaleRequestSupportClientCapabilities { cancel: true, retry_on_content_modified: ["retryOnContentModified"] }
+? cancel retryOnContentModified
 ! {"retryOnContentModified":["retryOnContentModified"]}
 # Visual Studio Code 1.78, by its public form
 {"cancel":true,"retryOnContentModified":["textDocument/semanticTokens/full","textDocument/semanticTokens/range","textDocument/semanticTokens/full/delta"]}
@@ -181,6 +199,7 @@ const STALE_REQUEST_SUPPORT_CLIENT_CAPABILITIES: &str = r#"
 
 const REGULAR_EXPRESSIONS_CLIENT_CAPABILITIES: &str = r#"
 {"engine":"engine","version":"version"} :: RegularExpressionsClientCapabilities { engine: "engine", version: Some("version") }
+? engine
 ! {}
 # Visual Studio Code 1.78, by its public form
 {"engine":"ECMAScript","version":"ES2020"}
@@ -188,6 +207,7 @@ const REGULAR_EXPRESSIONS_CLIENT_CAPABILITIES: &str = r#"
 
 const MARKDOWN_CLIENT_CAPABILITIES: &str = r#"
 {"allowedTags":["allowedTags"],"parser":"parser","version":"version"} :: MarkdownClientCapabilities { parser: "parser", version: Some("version"), allowed_tags: Some(["allowedTags"]) }
+? parser
 ! {}
 # Visual Studio Code 1.78, by its public form
 {"parser":"marked","version":"1.1.0"}
@@ -195,6 +215,7 @@ const MARKDOWN_CLIENT_CAPABILITIES: &str = r#"
 
 const NOTEBOOK_DOCUMENT_CLIENT_CAPABILITIES: &str = r#"
 {"synchronization":{"dynamicRegistration":true}} :: NotebookDocumentClientCapabilities { synchronization: NotebookDocumentSyncClientCapabilities { dynamic_registration: Some(true), execution_summary_report: None } }
+? synchronization
 ! {}
 # Visual Studio Code 1.78, by its public form
 {"synchronization":{"dynamicRegistration":true,"executionSummarySupport":true}} => {"synchronization":{"dynamicRegistration":true}}
@@ -202,6 +223,7 @@ const NOTEBOOK_DOCUMENT_CLIENT_CAPABILITIES: &str = r#"
 
 const NOTEBOOK_DOCUMENT_SYNC_CLIENT_CAPABILITIES: &str = r#"
 {"dynamicRegistration":true,"executionSummaryReport":false} :: NotebookDocumentSyncClientCapabilities { dynamic_registration: Some(true), execution_summary_report: Some(false) }
+?
 ! {"dynamicRegistration":"no"}
 # Visual Studio Code 1.78, by its public form
 {"dynamicRegistration":true,"executionSummarySupport":true} => {"dynamicRegistration":true}
@@ -209,6 +231,7 @@ const NOTEBOOK_DOCUMENT_SYNC_CLIENT_CAPABILITIES: &str = r#"
 
 const CLIENT_INFO: &str = r#"
 {"name":"name","version":"version"} :: ClientInfo { name: "name", version: Some("version") }
+? name
 ! {}
 # Emacs 28.2 with lsp-mode 8.0.0
 {"name":"emacs","version":"GNU Emacs 28.2 (build 2, x86_64-pc-linux-gnu)\n of 2025-02-27, modified by Debian"}
@@ -256,11 +279,13 @@ fn rows_2(rt: HostRuntime) -> Result<(), RowError> {
     let mut trial = Trial::new(rt.alloc());
     trial.holds::<DiagnosticWorkspaceClientCapabilities>(DIAGNOSTIC_WORKSPACE_CLIENT_CAPABILITIES);
     trial.holds::<WorkspaceClientCapabilities>(WORKSPACE_CLIENT_CAPABILITIES);
+    trial.clones::<WorkspaceClientCapabilities>(WORKSPACE_CLIENT_CAPABILITIES);
     trial.holds::<WindowClientCapabilities>(WINDOW_CLIENT_CAPABILITIES);
     trial.holds::<ShowMessageRequestClientCapabilities>(SHOW_MESSAGE_REQUEST_CLIENT_CAPABILITIES);
     trial.holds::<MessageActionItemCapabilities>(MESSAGE_ACTION_ITEM_CAPABILITIES);
     trial.holds::<ShowDocumentClientCapabilities>(SHOW_DOCUMENT_CLIENT_CAPABILITIES);
     trial.holds::<GeneralClientCapabilities>(GENERAL_CLIENT_CAPABILITIES);
+    trial.clones::<GeneralClientCapabilities>(GENERAL_CLIENT_CAPABILITIES);
     trial.holds::<StaleRequestSupportClientCapabilities>(STALE_REQUEST_SUPPORT_CLIENT_CAPABILITIES);
     trial.holds::<RegularExpressionsClientCapabilities>(REGULAR_EXPRESSIONS_CLIENT_CAPABILITIES);
     trial.holds::<MarkdownClientCapabilities>(MARKDOWN_CLIENT_CAPABILITIES);

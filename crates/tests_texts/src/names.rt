@@ -7,11 +7,13 @@ use lsp_rows::{RowError, Trial};
 
 const MARKUP_CONTENT: &str = r#"
 {"kind":"plaintext","value":"value"} :: MarkupContent { kind: PlainText, value: "value" }
+? kind value
 ! {"value":"value"}
 "#;
 
 const LANGUAGE_STRING: &str = r#"
 {"language":"language","value":"value"} :: LanguageString { language: "language", value: "value" }
+? language value
 ! {"value":"value"}
 "#;
 
@@ -29,6 +31,7 @@ const DOCUMENTATION: &str = r#"
 
 const WORK_DONE_PROGRESS_OPTIONS: &str = r#"
 {"workDoneProgress":true} :: WorkDoneProgressOptions { work_done_progress: Some(true) }
+?
 ! {"workDoneProgress":"no"}
 "#;
 

@@ -23,16 +23,19 @@ true
 
 const CALL_HIERARCHY_OPTIONS: &str = r#"
 {"workDoneProgress":true} :: CallHierarchyOptions { work_done_progress_options: WorkDoneProgressOptions { work_done_progress: Some(true) } }
+?
 ! []
 "#;
 
 const TYPE_HIERARCHY_OPTIONS: &str = r#"
 {"workDoneProgress":true} :: TypeHierarchyOptions { work_done_progress_options: WorkDoneProgressOptions { work_done_progress: Some(true) } }
+?
 ! []
 "#;
 
 const TYPE_HIERARCHY_REGISTRATION_OPTIONS: &str = r#"
 {"documentSelector":[{"language":"language"}],"id":"id","workDoneProgress":true} :: TypeHierarchyRegistrationOptions { text_document_registration_options: TextDocumentRegistrationOptions { document_selector: Some([DocumentFilter { language: Some("language"), scheme: None, pattern: None }]) }, type_hierarchy_options: TypeHierarchyOptions { work_done_progress_options: WorkDoneProgressOptions { work_done_progress: Some(true) } }, static_registration_options: StaticRegistrationOptions { id: Some("id") } }
+? documentSelector=null
 ! []
 "#;
 
@@ -50,6 +53,7 @@ const COLOR_PROVIDER_OPTIONS: &str = r#"
 
 const STATIC_TEXT_DOCUMENT_COLOR_PROVIDER_OPTIONS: &str = r#"
 {"documentSelector":[{"language":"language"}],"id":"id"} :: StaticTextDocumentColorProviderOptions { document_selector: Some([DocumentFilter { language: Some("language"), scheme: None, pattern: None }]), id: Some("id") }
+? documentSelector=null
 ! {"documentSelector":"no"}
 "#;
 
@@ -76,11 +80,13 @@ true :: Simple(true)
 
 const LINKED_EDITING_RANGE_OPTIONS: &str = r#"
 {"workDoneProgress":true} :: LinkedEditingRangeOptions { work_done_progress_options: WorkDoneProgressOptions { work_done_progress: Some(true) } }
+?
 ! []
 "#;
 
 const LINKED_EDITING_RANGE_REGISTRATION_OPTIONS: &str = r#"
 {"documentSelector":[{"language":"language"}],"id":"id","workDoneProgress":true} :: LinkedEditingRangeRegistrationOptions { text_document_registration_options: TextDocumentRegistrationOptions { document_selector: Some([DocumentFilter { language: Some("language"), scheme: None, pattern: None }]) }, linked_editing_range_options: LinkedEditingRangeOptions { work_done_progress_options: WorkDoneProgressOptions { work_done_progress: Some(true) } }, static_registration_options: StaticRegistrationOptions { id: Some("id") } }
+? documentSelector=null
 ! []
 "#;
 
@@ -94,6 +100,7 @@ const SEMANTIC_TOKENS_SERVER_CAPABILITIES: &str = r#"
 
 const SEMANTIC_TOKENS_OPTIONS: &str = r#"
 {"full":true,"legend":{"tokenModifiers":["tokenModifiers"],"tokenTypes":["tokenTypes"]},"range":true,"workDoneProgress":true} :: SemanticTokensOptions { work_done_progress_options: WorkDoneProgressOptions { work_done_progress: Some(true) }, legend: SemanticTokensLegend { token_types: [SemanticTokenType("tokenTypes")], token_modifiers: [SemanticTokenModifier("tokenModifiers")] }, range: Some(true), full: Some(Bool(true)) }
+? legend
 ! {"workDoneProgress":true}
 # clangd 14.0.6
 {"full":{"delta":true},"legend":{"tokenModifiers":["declaration","deprecated","deduced","readonly","static","abstract","virtual","dependentName","defaultLibrary","usedAsMutableReference","functionScope","classScope","fileScope","globalScope"],"tokenTypes":["variable","variable","parameter","function","method","function","property","variable","class","interface","enum","enumMember","type","type","unknown","namespace","typeParameter","concept","type","macro","comment"]},"range":false}
@@ -103,6 +110,7 @@ const SEMANTIC_TOKENS_OPTIONS: &str = r#"
 
 const SEMANTIC_TOKENS_REGISTRATION_OPTIONS: &str = r#"
 {"documentSelector":[{"language":"language"}],"id":"id","legend":{"tokenModifiers":["tokenModifiers"],"tokenTypes":["tokenTypes"]},"workDoneProgress":true} :: SemanticTokensRegistrationOptions { text_document_registration_options: TextDocumentRegistrationOptions { document_selector: Some([DocumentFilter { language: Some("language"), scheme: None, pattern: None }]) }, semantic_tokens_options: SemanticTokensOptions { work_done_progress_options: WorkDoneProgressOptions { work_done_progress: Some(true) }, legend: SemanticTokensLegend { token_types: [SemanticTokenType("tokenTypes")], token_modifiers: [SemanticTokenModifier("tokenModifiers")] }, range: None, full: None }, static_registration_options: StaticRegistrationOptions { id: Some("id") } }
+? legend documentSelector=null
 ! []
 {"documentSelector":[{"language":"rust"}],"full":{"delta":true},"legend":{"tokenModifiers":["static"],"tokenTypes":["property","type","class"]},"range":true}
 ! {"documentSelector":[],"full":{"delta":true},"legend":{"tokenModifiers":[],"tokenTypes":[]},"range":{}}
@@ -110,6 +118,7 @@ const SEMANTIC_TOKENS_REGISTRATION_OPTIONS: &str = r#"
 
 const SEMANTIC_TOKENS_LEGEND: &str = r#"
 {"tokenModifiers":["tokenModifiers"],"tokenTypes":["tokenTypes"]} :: SemanticTokensLegend { token_types: [SemanticTokenType("tokenTypes")], token_modifiers: [SemanticTokenModifier("tokenModifiers")] }
+? tokenTypes tokenModifiers
 ! {"tokenModifiers":["tokenModifiers"]}
 # clangd 14.0.6
 {"tokenModifiers":["declaration","deprecated","deduced","readonly","static","abstract","virtual","dependentName","defaultLibrary","usedAsMutableReference","functionScope","classScope","fileScope","globalScope"],"tokenTypes":["variable","variable","parameter","function","method","function","property","variable","class","interface","enum","enumMember","type","type","unknown","namespace","typeParameter","concept","type","macro","comment"]}
@@ -123,11 +132,13 @@ const MONIKER_SERVER_CAPABILITIES: &str = r#"
 
 const MONIKER_OPTIONS: &str = r#"
 {"workDoneProgress":true} :: MonikerOptions { work_done_progress_options: WorkDoneProgressOptions { work_done_progress: Some(true) } }
+?
 ! []
 "#;
 
 const MONIKER_REGISTRATION_OPTIONS: &str = r#"
 {"documentSelector":[{"language":"language"}],"workDoneProgress":true} :: MonikerRegistrationOptions { text_document_registration_options: TextDocumentRegistrationOptions { document_selector: Some([DocumentFilter { language: Some("language"), scheme: None, pattern: None }]) }, moniker_options: MonikerOptions { work_done_progress_options: WorkDoneProgressOptions { work_done_progress: Some(true) } } }
+? documentSelector=null
 ! []
 "#;
 
@@ -141,6 +152,7 @@ const INLAY_HINT_SERVER_CAPABILITIES: &str = r#"
 
 const INLAY_HINT_OPTIONS: &str = r#"
 {"resolveProvider":true,"workDoneProgress":true} :: InlayHintOptions { work_done_progress_options: WorkDoneProgressOptions { work_done_progress: Some(true) }, resolve_provider: Some(true) }
+?
 ! {"resolveProvider":"no"}
 # rust-analyzer 1.96
 {"resolveProvider":true}
@@ -148,6 +160,7 @@ const INLAY_HINT_OPTIONS: &str = r#"
 
 const INLAY_HINT_REGISTRATION_OPTIONS: &str = r#"
 {"documentSelector":[{"language":"language"}],"id":"id","workDoneProgress":true} :: InlayHintRegistrationOptions { inlay_hint_options: InlayHintOptions { work_done_progress_options: WorkDoneProgressOptions { work_done_progress: Some(true) }, resolve_provider: None }, text_document_registration_options: TextDocumentRegistrationOptions { document_selector: Some([DocumentFilter { language: Some("language"), scheme: None, pattern: None }]) }, static_registration_options: StaticRegistrationOptions { id: Some("id") } }
+? documentSelector=null
 ! []
 "#;
 
@@ -159,11 +172,13 @@ const INLINE_VALUE_SERVER_CAPABILITIES: &str = r#"
 
 const INLINE_VALUE_OPTIONS: &str = r#"
 {"workDoneProgress":true} :: InlineValueOptions { work_done_progress_options: WorkDoneProgressOptions { work_done_progress: Some(true) } }
+?
 ! []
 "#;
 
 const INLINE_VALUE_REGISTRATION_OPTIONS: &str = r#"
 {"documentSelector":[{"language":"language"}],"id":"id","workDoneProgress":true} :: InlineValueRegistrationOptions { inline_value_options: InlineValueOptions { work_done_progress_options: WorkDoneProgressOptions { work_done_progress: Some(true) } }, text_document_registration_options: TextDocumentRegistrationOptions { document_selector: Some([DocumentFilter { language: Some("language"), scheme: None, pattern: None }]) }, static_registration_options: StaticRegistrationOptions { id: Some("id") } }
+? documentSelector=null
 ! []
 "#;
 
@@ -177,6 +192,7 @@ const DIAGNOSTIC_SERVER_CAPABILITIES: &str = r#"
 
 const DIAGNOSTIC_OPTIONS: &str = r#"
 {"identifier":"identifier","interFileDependencies":true,"workDoneProgress":true,"workspaceDiagnostics":false} :: DiagnosticOptions { identifier: Some("identifier"), inter_file_dependencies: true, workspace_diagnostics: false, work_done_progress_options: WorkDoneProgressOptions { work_done_progress: Some(true) } }
+? interFileDependencies workspaceDiagnostics
 ! {"identifier":"identifier","workDoneProgress":true,"workspaceDiagnostics":true}
 # rust-analyzer 1.96
 {"identifier":"rust-analyzer","interFileDependencies":true,"workspaceDiagnostics":false}
@@ -184,6 +200,7 @@ const DIAGNOSTIC_OPTIONS: &str = r#"
 
 const DIAGNOSTIC_REGISTRATION_OPTIONS: &str = r#"
 {"documentSelector":[{"language":"language"}],"id":"id","identifier":"identifier","interFileDependencies":true,"workDoneProgress":true,"workspaceDiagnostics":true} :: DiagnosticRegistrationOptions { text_document_registration_options: TextDocumentRegistrationOptions { document_selector: Some([DocumentFilter { language: Some("language"), scheme: None, pattern: None }]) }, diagnostic_options: DiagnosticOptions { identifier: Some("identifier"), inter_file_dependencies: true, workspace_diagnostics: true, work_done_progress_options: WorkDoneProgressOptions { work_done_progress: Some(true) } }, static_registration_options: StaticRegistrationOptions { id: Some("id") } }
+? interFileDependencies workspaceDiagnostics documentSelector=null
 ! []
 {"documentSelector":[{"language":"css"}],"identifier":"css","interFileDependencies":false,"workspaceDiagnostics":false}
 "#;

@@ -28,6 +28,7 @@ const TEXT_DOCUMENT_SYNC_CAPABILITY: &str = r#"
 
 const TEXT_DOCUMENT_SYNC_OPTIONS: &str = r#"
 {"change":128,"openClose":true,"save":true,"willSave":true,"willSaveWaitUntil":true} :: TextDocumentSyncOptions { open_close: Some(true), change: Some(TextDocumentSyncKind(128)), will_save: Some(true), will_save_wait_until: Some(true), save: Some(Supported(true)) }
+?
 {"change":128,"openClose":true,"save":true,"willSave":false} :: TextDocumentSyncOptions { open_close: Some(true), change: Some(TextDocumentSyncKind(128)), will_save: Some(false), will_save_wait_until: None, save: Some(Supported(true)) }
 ! {"openClose":"no"}
 # ccls 0.20220729
@@ -50,6 +51,7 @@ true :: Supported(true)
 
 const SAVE_OPTIONS: &str = r#"
 {"includeText":true} :: SaveOptions { include_text: Some(true) }
+?
 ! {"includeText":"no"}
 # ccls 0.20220729
 {"includeText":false}
@@ -59,6 +61,7 @@ const SAVE_OPTIONS: &str = r#"
 
 const TEXT_DOCUMENT_CHANGE_REGISTRATION_OPTIONS: &str = r#"
 {"documentSelector":[{"language":"language"}],"syncKind":122} :: TextDocumentChangeRegistrationOptions { document_selector: Some([DocumentFilter { language: Some("language"), scheme: None, pattern: None }]), sync_kind: TextDocumentSyncKind(122) }
+? syncKind documentSelector=null
 ! {"documentSelector":[{"language":"language"}]}
 {"documentSelector":[{"language":"javascript"}],"syncKind":2}
 # No documents of its own: those that the client selects
@@ -67,6 +70,7 @@ const TEXT_DOCUMENT_CHANGE_REGISTRATION_OPTIONS: &str = r#"
 
 const TEXT_DOCUMENT_SAVE_REGISTRATION_OPTIONS: &str = r#"
 {"documentSelector":[{"language":"language"}],"includeText":true} :: TextDocumentSaveRegistrationOptions { include_text: Some(true), text_document_registration_options: TextDocumentRegistrationOptions { document_selector: Some([DocumentFilter { language: Some("language"), scheme: None, pattern: None }]) } }
+? documentSelector=null
 ! {"includeText":"no"}
 # rust-analyzer 1.96
 {"documentSelector":[{"pattern":"**/*.rs"},{"pattern":"**/Cargo.toml"},{"pattern":"**/Cargo.lock"}],"includeText":false}
@@ -74,6 +78,7 @@ const TEXT_DOCUMENT_SAVE_REGISTRATION_OPTIONS: &str = r#"
 
 const COMPLETION_OPTIONS: &str = r##"
 {"allCommitCharacters":["allCommitCharacters"],"completionItem":{"labelDetailsSupport":true},"resolveProvider":true,"triggerCharacters":["triggerCharacters"],"workDoneProgress":true} :: CompletionOptions { resolve_provider: Some(true), trigger_characters: Some(["triggerCharacters"]), all_commit_characters: Some(["allCommitCharacters"]), work_done_progress_options: WorkDoneProgressOptions { work_done_progress: Some(true) }, completion_item: Some(CompletionOptionsCompletionItem { label_details_support: Some(true) }) }
+?
 ! {"resolveProvider":"no"}
 # clangd 14.0.6
 {"allCommitCharacters":[" ","\t","(",")","[","]","{","}","<",">",":",";",",","+","-","/","*","%","^","&","#","?",".","=","\"","'","|"],"resolveProvider":false,"triggerCharacters":[".","<",">",":","\"","/","*"]}
@@ -83,6 +88,7 @@ const COMPLETION_OPTIONS: &str = r##"
 
 const COMPLETION_OPTIONS_COMPLETION_ITEM: &str = r#"
 {"labelDetailsSupport":true} :: CompletionOptionsCompletionItem { label_details_support: Some(true) }
+?
 ! {"labelDetailsSupport":"no"}
 # rust-analyzer 1.96
 {"labelDetailsSupport":true}
@@ -90,6 +96,7 @@ const COMPLETION_OPTIONS_COMPLETION_ITEM: &str = r#"
 
 const COMPLETION_REGISTRATION_OPTIONS: &str = r#"
 {"documentSelector":[{"language":"language"}],"resolveProvider":true,"workDoneProgress":true} :: CompletionRegistrationOptions { text_document_registration_options: TextDocumentRegistrationOptions { document_selector: Some([DocumentFilter { language: Some("language"), scheme: None, pattern: None }]) }, completion_options: CompletionOptions { resolve_provider: Some(true), trigger_characters: None, all_commit_characters: None, work_done_progress_options: WorkDoneProgressOptions { work_done_progress: Some(true) }, completion_item: None } }
+? documentSelector=null
 ! []
 {"documentSelector":[{"language":"json","scheme":"file"}],"resolveProvider":true,"triggerCharacters":["\"",":"]}
 "#;
@@ -104,16 +111,19 @@ true
 
 const HOVER_OPTIONS: &str = r#"
 {"workDoneProgress":true} :: HoverOptions { work_done_progress_options: WorkDoneProgressOptions { work_done_progress: Some(true) } }
+?
 ! []
 "#;
 
 const HOVER_REGISTRATION_OPTIONS: &str = r#"
 {"documentSelector":[{"language":"language"}],"workDoneProgress":true} :: HoverRegistrationOptions { text_document_registration_options: TextDocumentRegistrationOptions { document_selector: Some([DocumentFilter { language: Some("language"), scheme: None, pattern: None }]) }, hover_options: HoverOptions { work_done_progress_options: WorkDoneProgressOptions { work_done_progress: Some(true) } } }
+? documentSelector=null
 ! []
 "#;
 
 const SIGNATURE_HELP_OPTIONS: &str = r#"
 {"retriggerCharacters":["retriggerCharacters"],"triggerCharacters":["triggerCharacters"],"workDoneProgress":true} :: SignatureHelpOptions { trigger_characters: Some(["triggerCharacters"]), retrigger_characters: Some(["retriggerCharacters"]), work_done_progress_options: WorkDoneProgressOptions { work_done_progress: Some(true) } }
+?
 ! {"triggerCharacters":"no"}
 # clangd 14.0.6
 {"triggerCharacters":["(",")","{","}","<",">",","]}
@@ -123,11 +133,13 @@ const SIGNATURE_HELP_OPTIONS: &str = r#"
 
 const SIGNATURE_HELP_REGISTRATION_OPTIONS: &str = r#"
 {"documentSelector":[{"language":"language"}]} :: SignatureHelpRegistrationOptions { text_document_registration_options: TextDocumentRegistrationOptions { document_selector: Some([DocumentFilter { language: Some("language"), scheme: None, pattern: None }]) } }
+? documentSelector=null
 ! []
 "#;
 
 const STATIC_TEXT_DOCUMENT_REGISTRATION_OPTIONS: &str = r#"
 {"documentSelector":[{"language":"language"}],"id":"id"} :: StaticTextDocumentRegistrationOptions { document_selector: Some([DocumentFilter { language: Some("language"), scheme: None, pattern: None }]), id: Some("id") }
+? documentSelector=null
 ! {"documentSelector":"no"}
 "#;
 
@@ -158,46 +170,55 @@ true
 
 const DECLARATION_REGISTRATION_OPTIONS: &str = r#"
 {"documentSelector":[{"language":"language"}],"id":"id","workDoneProgress":true} :: DeclarationRegistrationOptions { declaration_options: DeclarationOptions { work_done_progress_options: WorkDoneProgressOptions { work_done_progress: Some(true) } }, text_document_registration_options: TextDocumentRegistrationOptions { document_selector: Some([DocumentFilter { language: Some("language"), scheme: None, pattern: None }]) }, static_registration_options: StaticRegistrationOptions { id: Some("id") } }
+? documentSelector=null
 ! []
 "#;
 
 const DECLARATION_OPTIONS: &str = r#"
 {"workDoneProgress":true} :: DeclarationOptions { work_done_progress_options: WorkDoneProgressOptions { work_done_progress: Some(true) } }
+?
 ! []
 "#;
 
 const DEFINITION_OPTIONS: &str = r#"
 {"workDoneProgress":true} :: DefinitionOptions { work_done_progress_options: WorkDoneProgressOptions { work_done_progress: Some(true) } }
+?
 ! []
 "#;
 
 const REFERENCES_OPTIONS: &str = r#"
 {"workDoneProgress":true} :: ReferencesOptions { work_done_progress_options: WorkDoneProgressOptions { work_done_progress: Some(true) } }
+?
 ! []
 "#;
 
 const DOCUMENT_HIGHLIGHT_OPTIONS: &str = r#"
 {"workDoneProgress":true} :: DocumentHighlightOptions { work_done_progress_options: WorkDoneProgressOptions { work_done_progress: Some(true) } }
+?
 ! []
 "#;
 
 const GENERIC_REGISTRATION_OPTIONS: &str = r#"
 {"documentSelector":[{"language":"language"}],"id":"id","workDoneProgress":true} :: GenericRegistrationOptions { text_document_registration_options: TextDocumentRegistrationOptions { document_selector: Some([DocumentFilter { language: Some("language"), scheme: None, pattern: None }]) }, options: GenericOptions { work_done_progress_options: WorkDoneProgressOptions { work_done_progress: Some(true) } }, static_registration_options: StaticRegistrationOptions { id: Some("id") } }
+? documentSelector=null
 ! []
 "#;
 
 const GENERIC_OPTIONS: &str = r#"
 {"workDoneProgress":true} :: GenericOptions { work_done_progress_options: WorkDoneProgressOptions { work_done_progress: Some(true) } }
+?
 ! []
 "#;
 
 const DOCUMENT_SYMBOL_OPTIONS: &str = r#"
 {"label":"label","workDoneProgress":true} :: DocumentSymbolOptions { label: Some("label"), work_done_progress_options: WorkDoneProgressOptions { work_done_progress: Some(true) } }
+?
 ! {"label":1}
 "#;
 
 const WORKSPACE_SYMBOL_OPTIONS: &str = r#"
 {"resolveProvider":true,"workDoneProgress":true} :: WorkspaceSymbolOptions { work_done_progress_options: WorkDoneProgressOptions { work_done_progress: Some(true) }, resolve_provider: Some(true) }
+?
 ! {"resolveProvider":"no"}
 "#;
 
@@ -213,6 +234,7 @@ true :: Simple(true)
 
 const CODE_ACTION_OPTIONS: &str = r#"
 {"codeActionKinds":["codeActionKinds"],"resolveProvider":true,"workDoneProgress":true} :: CodeActionOptions { code_action_kinds: Some([CodeActionKind("codeActionKinds")]), work_done_progress_options: WorkDoneProgressOptions { work_done_progress: Some(true) }, resolve_provider: Some(true) }
+?
 ! {"codeActionKinds":"no"}
 # rust-analyzer 1.96
 {"codeActionKinds":["","quickfix","refactor","refactor.extract","refactor.inline","refactor.rewrite"],"resolveProvider":true}
@@ -222,6 +244,7 @@ const CODE_ACTION_OPTIONS: &str = r#"
 
 const CODE_LENS_OPTIONS: &str = r#"
 {"resolveProvider":true} :: CodeLensOptions { resolve_provider: Some(true) }
+?
 ! {"resolveProvider":"no"}
 # pylsp 1.7.1
 {"resolveProvider":false}
@@ -231,6 +254,7 @@ const CODE_LENS_OPTIONS: &str = r#"
 
 const DOCUMENT_LINK_OPTIONS: &str = r#"
 {"resolveProvider":true,"workDoneProgress":true} :: DocumentLinkOptions { resolve_provider: Some(true), work_done_progress_options: WorkDoneProgressOptions { work_done_progress: Some(true) } }
+?
 ! {"resolveProvider":"no"}
 # clangd 14.0.6
 {"resolveProvider":false}
@@ -251,6 +275,7 @@ true
 
 const SELECTION_RANGE_OPTIONS: &str = r#"
 {"workDoneProgress":true} :: SelectionRangeOptions { work_done_progress_options: WorkDoneProgressOptions { work_done_progress: Some(true) } }
+?
 ! []
 # gopls of Debian 12
 {"documentSelector":null} => {}
@@ -258,21 +283,25 @@ const SELECTION_RANGE_OPTIONS: &str = r#"
 
 const SELECTION_RANGE_REGISTRATION_OPTIONS: &str = r#"
 {"documentSelector":[{"language":"language"}],"workDoneProgress":true} :: SelectionRangeRegistrationOptions { selection_range_options: SelectionRangeOptions { work_done_progress_options: WorkDoneProgressOptions { work_done_progress: Some(true) } }, registration_options: StaticTextDocumentRegistrationOptions { document_selector: Some([DocumentFilter { language: Some("language"), scheme: None, pattern: None }]), id: None } }
+? documentSelector=null
 ! []
 "#;
 
 const DOCUMENT_FORMATTING_OPTIONS: &str = r#"
 {"workDoneProgress":true} :: DocumentFormattingOptions { work_done_progress_options: WorkDoneProgressOptions { work_done_progress: Some(true) } }
+?
 ! []
 "#;
 
 const DOCUMENT_RANGE_FORMATTING_OPTIONS: &str = r#"
 {"workDoneProgress":true} :: DocumentRangeFormattingOptions { work_done_progress_options: WorkDoneProgressOptions { work_done_progress: Some(true) } }
+?
 ! []
 "#;
 
 const DOCUMENT_ON_TYPE_FORMATTING_OPTIONS: &str = r#"
 {"firstTriggerCharacter":"firstTriggerCharacter","moreTriggerCharacter":["moreTriggerCharacter"]} :: DocumentOnTypeFormattingOptions { first_trigger_character: "firstTriggerCharacter", more_trigger_character: Some(["moreTriggerCharacter"]) }
+? firstTriggerCharacter
 ! {}
 # rust-analyzer 1.96
 {"firstTriggerCharacter":".","moreTriggerCharacter":["=","<",">","{","(","|","+"]}
@@ -282,12 +311,14 @@ const DOCUMENT_ON_TYPE_FORMATTING_OPTIONS: &str = r#"
 
 const DOCUMENT_ON_TYPE_FORMATTING_REGISTRATION_OPTIONS: &str = r#"
 {"documentSelector":[{"language":"language"}],"firstTriggerCharacter":"firstTriggerCharacter","moreTriggerCharacter":["moreTriggerCharacter"]} :: DocumentOnTypeFormattingRegistrationOptions { document_selector: Some([DocumentFilter { language: Some("language"), scheme: None, pattern: None }]), first_trigger_character: "firstTriggerCharacter", more_trigger_character: Some(["moreTriggerCharacter"]) }
+? firstTriggerCharacter documentSelector=null
 ! {"documentSelector":[{"language":"language"}]}
 {"documentSelector":[{"pattern":"**/*.rs"}],"firstTriggerCharacter":"=","moreTriggerCharacter":[".",">","{"]}
 "#;
 
 const RENAME_OPTIONS: &str = r#"
 {"prepareProvider":true,"workDoneProgress":true} :: RenameOptions { prepare_provider: Some(true), work_done_progress_options: WorkDoneProgressOptions { work_done_progress: Some(true) } }
+?
 ! {"prepareProvider":"no"}
 # clangd 14.0.6
 {"prepareProvider":true}

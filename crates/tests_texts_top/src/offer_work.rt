@@ -11,14 +11,19 @@ use lsp_offer_work::{
     WorkspaceServerCapabilities,
 };
 use lsp_rows::{RowError, Trial};
+use lsp_shape::read_text;
+use std::alloc::Global;
+use std::test::Fail;
 
 const REGISTRATION: &str = r#"
 {"id":"id","method":"method","registerOptions":15} :: Registration { id: "id", method: "method", register_options: Some(Number(15)) }
+? id method
 ! {"method":"method"}
 "#;
 
 const REGISTRATION_PARAMS: &str = r#"
 {"registrations":[{"id":"id","method":"method"}]} :: RegistrationParams { registrations: [Registration { id: "id", method: "method", register_options: None }] }
+? registrations
 ! {}
 # rust-analyzer, by its public sources
 {"registrations":[{"id":"textDocument/didSave","method":"textDocument/didSave","registerOptions":{"includeText":false,"documentSelector":[{"pattern":"**/*.rs"},{"pattern":"**/Cargo.toml"},{"pattern":"**/Cargo.lock"}]}}]}
@@ -27,17 +32,20 @@ const REGISTRATION_PARAMS: &str = r#"
 
 const UNREGISTRATION: &str = r#"
 {"id":"id","method":"method"} :: Unregistration { id: "id", method: "method" }
+? id method
 ! {"method":"method"}
 "#;
 
 const UNREGISTRATION_PARAMS: &str = r#"
 {"unregisterations":[{"id":"id","method":"method"}]} :: UnregistrationParams { unregisterations: [Unregistration { id: "id", method: "method" }] }
+? unregisterations
 ! {}
 ! {"unregistrations":[]}
 "#;
 
 const EXECUTE_COMMAND_OPTIONS: &str = r#"
 {"commands":["commands"],"workDoneProgress":true} :: ExecuteCommandOptions { commands: ["commands"], work_done_progress_options: WorkDoneProgressOptions { work_done_progress: Some(true) } }
+? commands
 ! {"workDoneProgress":true}
 # clangd 14.0.6
 {"commands":["clangd.applyFix","clangd.applyTweak"]}
@@ -47,17 +55,20 @@ const EXECUTE_COMMAND_OPTIONS: &str = r#"
 
 const EXECUTE_COMMAND_REGISTRATION_OPTIONS: &str = r#"
 {"commands":["commands"],"workDoneProgress":true} :: ExecuteCommandRegistrationOptions { commands: ["commands"], work_done_progress_options: WorkDoneProgressOptions { work_done_progress: Some(true) } }
+? commands
 ! {"workDoneProgress":true}
 {"commands":["a"]}
 "#;
 
 const DID_CHANGE_WATCHED_FILES_REGISTRATION_OPTIONS: &str = r#"
 {"watchers":[{"globPattern":"globPattern"}]} :: DidChangeWatchedFilesRegistrationOptions { watchers: [FileSystemWatcher { glob_pattern: String("globPattern"), kind: None }] }
+? watchers
 ! {}
 "#;
 
 const FILE_SYSTEM_WATCHER: &str = r#"
 {"globPattern":"globPattern","kind":1} :: FileSystemWatcher { glob_pattern: String("globPattern"), kind: Some(WatchKind(1)) }
+? globPattern
 ! {}
 {"globPattern":"**/*.go","kind":7} :: FileSystemWatcher { glob_pattern: String("**/*.go"), kind: Some(WatchKind(7)) }
 ! {"globPattern":"**/*.go","kind":8}
@@ -71,6 +82,7 @@ const GLOB_PATTERN: &str = r#"
 
 const RELATIVE_PATTERN: &str = r#"
 {"baseUri":{"name":"name","uri":"file:///uri"},"pattern":"pattern"} :: RelativePattern { base_uri: Left(WorkspaceFolder { uri: Uri { text: "file:///uri" }, name: "name" }), pattern: "pattern" }
+? baseUri pattern
 ! {"pattern":"pattern"}
 {"baseUri":"file:///home/me/project","pattern":"**/*.ts"} :: RelativePattern { base_uri: Right(Uri { text: "file:///home/me/project" }), pattern: "**/*.ts" }
 "#;
@@ -90,6 +102,7 @@ const WATCH_KIND: &str = r#"
 
 const WORKSPACE_FILE_OPERATIONS_SERVER_CAPABILITIES: &str = r#"
 {"didCreate":{"filters":[{"pattern":{"glob":"glob"},"scheme":"scheme"}]},"didDelete":{"filters":[{"pattern":{"glob":"glob"},"scheme":"scheme1"}]},"didRename":{"filters":[{"pattern":{"glob":"glob"},"scheme":"scheme"}]},"willCreate":{"filters":[{"pattern":{"glob":"glob"},"scheme":"scheme"}]},"willDelete":{"filters":[{"pattern":{"glob":"glob"},"scheme":"scheme1"}]},"willRename":{"filters":[{"pattern":{"glob":"glob"},"scheme":"scheme"}]}} :: WorkspaceFileOperationsServerCapabilities { did_create: Some(FileOperationRegistrationOptions { filters: [FileOperationFilter { scheme: Some("scheme"), pattern: FileOperationPattern { glob: "glob", matches: None, options: None } }] }), will_create: Some(FileOperationRegistrationOptions { filters: [FileOperationFilter { scheme: Some("scheme"), pattern: FileOperationPattern { glob: "glob", matches: None, options: None } }] }), did_rename: Some(FileOperationRegistrationOptions { filters: [FileOperationFilter { scheme: Some("scheme"), pattern: FileOperationPattern { glob: "glob", matches: None, options: None } }] }), will_rename: Some(FileOperationRegistrationOptions { filters: [FileOperationFilter { scheme: Some("scheme"), pattern: FileOperationPattern { glob: "glob", matches: None, options: None } }] }), did_delete: Some(FileOperationRegistrationOptions { filters: [FileOperationFilter { scheme: Some("scheme1"), pattern: FileOperationPattern { glob: "glob", matches: None, options: None } }] }), will_delete: Some(FileOperationRegistrationOptions { filters: [FileOperationFilter { scheme: Some("scheme1"), pattern: FileOperationPattern { glob: "glob", matches: None, options: None } }] }) }
+?
 {"didCreate":{"filters":[{"pattern":{"glob":"glob"},"scheme":"scheme"}]},"didDelete":{"filters":[{"pattern":{"glob":"glob"},"scheme":"scheme"}]},"didRename":{"filters":[{"pattern":{"glob":"glob"},"scheme":"scheme2"}]},"willCreate":{"filters":[{"pattern":{"glob":"glob"},"scheme":"scheme1"}]},"willDelete":{"filters":[{"pattern":{"glob":"glob"},"scheme":"scheme1"}]}} :: WorkspaceFileOperationsServerCapabilities { did_create: Some(FileOperationRegistrationOptions { filters: [FileOperationFilter { scheme: Some("scheme"), pattern: FileOperationPattern { glob: "glob", matches: None, options: None } }] }), will_create: Some(FileOperationRegistrationOptions { filters: [FileOperationFilter { scheme: Some("scheme1"), pattern: FileOperationPattern { glob: "glob", matches: None, options: None } }] }), did_rename: Some(FileOperationRegistrationOptions { filters: [FileOperationFilter { scheme: Some("scheme2"), pattern: FileOperationPattern { glob: "glob", matches: None, options: None } }] }), will_rename: None, did_delete: Some(FileOperationRegistrationOptions { filters: [FileOperationFilter { scheme: Some("scheme"), pattern: FileOperationPattern { glob: "glob", matches: None, options: None } }] }), will_delete: Some(FileOperationRegistrationOptions { filters: [FileOperationFilter { scheme: Some("scheme1"), pattern: FileOperationPattern { glob: "glob", matches: None, options: None } }] }) }
 ! {"didCreate":"no"}
 # gopls of Debian 12 (its version is shortened here)
@@ -98,6 +111,7 @@ const WORKSPACE_FILE_OPERATIONS_SERVER_CAPABILITIES: &str = r#"
 
 const FILE_OPERATION_REGISTRATION_OPTIONS: &str = r#"
 {"filters":[{"pattern":{"glob":"glob"},"scheme":"scheme"}]} :: FileOperationRegistrationOptions { filters: [FileOperationFilter { scheme: Some("scheme"), pattern: FileOperationPattern { glob: "glob", matches: None, options: None } }] }
+? filters
 ! {}
 # The TypeScript server's, by its public form
 {"filters":[{"pattern":{"glob":"**/*.{ts,js,jsx,tsx,mjs,mts,cjs,cts}","matches":"file"},"scheme":"file"},{"pattern":{"glob":"**","matches":"folder"},"scheme":"file"}]}
@@ -105,6 +119,7 @@ const FILE_OPERATION_REGISTRATION_OPTIONS: &str = r#"
 
 const FILE_OPERATION_FILTER: &str = r#"
 {"pattern":{"glob":"glob"},"scheme":"scheme"} :: FileOperationFilter { scheme: Some("scheme"), pattern: FileOperationPattern { glob: "glob", matches: None, options: None } }
+? pattern scheme=null
 ! {"scheme":"scheme"}
 "#;
 
@@ -116,16 +131,19 @@ const FILE_OPERATION_PATTERN_KIND: &str = r#"
 
 const FILE_OPERATION_PATTERN_OPTIONS: &str = r#"
 {"ignoreCase":true} :: FileOperationPatternOptions { ignore_case: Some(true) }
+?
 ! {"ignoreCase":"no"}
 "#;
 
 const FILE_OPERATION_PATTERN: &str = r#"
 {"glob":"glob","matches":"file","options":{"ignoreCase":true}} :: FileOperationPattern { glob: "glob", matches: Some(File), options: Some(FileOperationPatternOptions { ignore_case: Some(true) }) }
+? glob
 ! {}
 "#;
 
 const WORKSPACE_SERVER_CAPABILITIES: &str = r#"
 {"fileOperations":{"didCreate":{"filters":[{"pattern":{"glob":"glob"},"scheme":"scheme"}]}},"workspaceFolders":{"supported":true}} :: WorkspaceServerCapabilities { workspace_folders: Some(WorkspaceFoldersServerCapabilities { supported: Some(true), change_notifications: None }), file_operations: Some(WorkspaceFileOperationsServerCapabilities { did_create: Some(FileOperationRegistrationOptions { filters: [FileOperationFilter { scheme: Some("scheme"), pattern: FileOperationPattern { glob: "glob", matches: None, options: None } }] }), will_create: None, did_rename: None, will_rename: None, did_delete: None, will_delete: None }) }
+?
 ! {"workspaceFolders":"no"}
 # pylsp 1.7.1
 {"workspaceFolders":{"changeNotifications":true,"supported":true}}
@@ -135,6 +153,7 @@ const WORKSPACE_SERVER_CAPABILITIES: &str = r#"
 
 const WORKSPACE_FOLDERS_SERVER_CAPABILITIES: &str = r#"
 {"changeNotifications":true,"supported":true} :: WorkspaceFoldersServerCapabilities { supported: Some(true), change_notifications: Some(Left(true)) }
+?
 ! {"supported":"no"}
 # pylsp 1.7.1
 {"changeNotifications":true,"supported":true}
@@ -146,16 +165,19 @@ const WORKSPACE_FOLDERS_SERVER_CAPABILITIES: &str = r#"
 
 const NOTEBOOK_DOCUMENT_SYNC_OPTIONS: &str = r#"
 {"notebookSelector":[{"notebook":"notebook"}],"save":true} :: NotebookDocumentSyncOptions { notebook_selector: [ByNotebook { notebook: String("notebook"), cells: None }], save: Some(true) }
+? notebookSelector
 ! {}
 "#;
 
 const NOTEBOOK_DOCUMENT_SYNC_REGISTRATION_OPTIONS: &str = r#"
 {"id":"id","notebookSelector":[{"notebook":"notebook"}],"save":true} :: NotebookDocumentSyncRegistrationOptions { notebook_selector: [ByNotebook { notebook: String("notebook"), cells: None }], save: Some(true), id: Some("id") }
+? notebookSelector
 ! {}
 "#;
 
 const NOTEBOOK_CELL_TEXT_DOCUMENT_FILTER: &str = r#"
 {"language":"language","notebook":"notebook"} :: NotebookCellTextDocumentFilter { notebook: String("notebook"), language: Some("language") }
+? notebook
 ! {}
 "#;
 
@@ -170,6 +192,7 @@ const NOTEBOOK_SELECTOR: &str = r#"
 
 const NOTEBOOK_CELL_SELECTOR: &str = r#"
 {"language":"language"} :: NotebookCellSelector { language: "language" }
+? language
 ! {}
 "#;
 
@@ -190,6 +213,7 @@ const NOTEBOOK_DOCUMENT_FILTER: &str = r#"
 
 const SERVER_INFO: &str = r#"
 {"name":"name","version":"version"} :: ServerInfo { name: "name", version: Some("version") }
+? name
 ! {}
 # clangd 14.0.6
 {"name":"clangd","version":"Debian clangd version 14.0.6 linux+grpc x86_64-pc-linux-gnu"}
@@ -199,6 +223,7 @@ const SERVER_INFO: &str = r#"
 
 const INITIALIZE_ERROR: &str = r#"
 {"retry":true} :: InitializeError { retry: true }
+? retry
 ! {}
 "#;
 
@@ -219,6 +244,9 @@ fn rows_1(rt: HostRuntime) -> Result<(), RowError> {
     trial.holds::<RelativePattern>(RELATIVE_PATTERN);
     trial.holds::<WatchKind>(WATCH_KIND);
     trial.holds::<WorkspaceFileOperationsServerCapabilities>(
+        WORKSPACE_FILE_OPERATIONS_SERVER_CAPABILITIES,
+    );
+    trial.clones::<WorkspaceFileOperationsServerCapabilities>(
         WORKSPACE_FILE_OPERATIONS_SERVER_CAPABILITIES,
     );
     trial.end()
@@ -278,4 +306,21 @@ fn defaults(rt: HostRuntime) -> Result<(), RowError> {
     trial.is_written(ServerInfo::default(alloc), r#"{"name":""}"#);
     trial.is_written(InitializeError::default(), r#"{"retry":false}"#);
     trial.end()
+}
+
+fn pattern(alloc: Global, text: &str) -> Result<RelativePattern, Fail> {
+    Ok(read_text(alloc, text)?)
+}
+
+// A relative pattern is ordered by its base first.
+#[test]
+fn order_of_patterns(rt: HostRuntime) -> Result<(), Fail> {
+    let alloc = rt.alloc();
+    let first = pattern(alloc, r#"{"baseUri":"file:///a","pattern":"b"}"#)?;
+    let other_base = pattern(alloc, r#"{"baseUri":"file:///b","pattern":"a"}"#)?;
+    let other_pattern = pattern(alloc, r#"{"baseUri":"file:///a","pattern":"c"}"#)?;
+    let mut trial = Trial::new(alloc);
+    trial.is_true("by base", first < other_base);
+    trial.is_true("by pattern", first < other_pattern);
+    Ok(trial.end()?)
 }

@@ -36,6 +36,7 @@ const EDGE: &str = r#"
 
 const EDGE_DATA: &str = r#"
 {"inV":4,"outV":70} :: EdgeData { in_v: Number(4), out_v: Number(70) }
+? inV outV
 {"inV":"inV","outV":"outV"} :: EdgeData { in_v: String("inV"), out_v: String("outV") }
 ! {"outV":70}
 ! {"inV":4}
@@ -44,6 +45,7 @@ const EDGE_DATA: &str = r#"
 
 const EDGE_DATA_MULTI_IN: &str = r#"
 {"inVs":[76],"outV":70} :: EdgeDataMultiIn { in_vs: [Number(76)], out_v: Number(70) }
+? inVs outV
 {"inVs":[3,"inVs",1],"outV":"outV"} :: EdgeDataMultiIn { in_vs: [Number(3), String("inVs"), Number(1)], out_v: String("outV") }
 {"inVs":[],"outV":70} :: EdgeDataMultiIn { in_vs: [], out_v: Number(70) }
 ! {"outV":70}
@@ -54,6 +56,7 @@ const EDGE_DATA_MULTI_IN: &str = r#"
 
 const ITEM: &str = r#"
 {"document":59,"inVs":[76],"outV":70,"property":"declarations"} :: Item { document: Number(59), property: Some(Declarations), edge_data: EdgeDataMultiIn { in_vs: [Number(76)], out_v: Number(70) } }
+? document inVs outV
 {"document":"document","inVs":[76,77],"outV":70} :: Item { document: String("document"), property: None, edge_data: EdgeDataMultiIn { in_vs: [Number(76), Number(77)], out_v: Number(70) } }
 {"document":59,"inVs":[76],"outV":70,"property":null} => {"document":59,"inVs":[76],"outV":70} :: Item { document: Number(59), property: None, edge_data: EdgeDataMultiIn { in_vs: [Number(76)], out_v: Number(70) } }
 ! {"inVs":[76],"outV":70}

@@ -4,6 +4,7 @@ use lsp_rows::{RowError, Trial};
 
 const ENTRY: &str = r#"
 {"id":17,"label":"metaData","positionEncoding":"utf-16","projectRoot":"file:///projectRoot","type":"vertex","version":"version"} :: Entry { id: Number(17), payload: Vertex(MetaData(MetaData { version: "version", project_root: Uri { text: "file:///projectRoot" }, position_encoding: Utf16, tool_info: None })) }
+? id type label version projectRoot positionEncoding
 {"id":"id","inV":4,"label":"next","outV":70,"type":"edge"} :: Entry { id: String("id"), payload: Edge(Next(EdgeData { in_v: Number(4), out_v: Number(70) })) }
 {"id":1,"type":"vertex","label":"metaData","version":"0.4.3","projectRoot":"file:///w","positionEncoding":"utf-16"} :: Entry { id: Number(1), payload: Vertex(MetaData(MetaData { version: "0.4.3", project_root: Uri { text: "file:///w" }, position_encoding: Utf16, tool_info: None })) }
 ! {"id":1,"type":"vertex","label":"metaData","version":"0.4.3","projectRoot":"file:///w","positionEncoding":"utf-8"}

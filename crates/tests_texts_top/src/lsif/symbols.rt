@@ -6,6 +6,7 @@ use std::alloc::{AllocError, Global};
 
 const RANGE_BASED_DOCUMENT_SYMBOL: &str = r#"
 {"id":17} :: RangeBasedDocumentSymbol { id: Number(17), children: [] }
+? id
 {"children":[{"children":[{"id":3}],"id":"id"},{"id":2}],"id":1} :: RangeBasedDocumentSymbol { id: Number(1), children: [RangeBasedDocumentSymbol { id: String("id"), children: [RangeBasedDocumentSymbol { id: Number(3), children: [] }] }, RangeBasedDocumentSymbol { id: Number(2), children: [] }] }
 {"children":[],"id":1} => {"id":1} :: RangeBasedDocumentSymbol { id: Number(1), children: [] }
 ! {"children":[{"id":3}]}

@@ -22,6 +22,7 @@ const RANGE_TAG: &str = r#"
 
 const DEFINITION_TAG: &str = r#"
 {"deprecated":true,"detail":"detail","fullRange":{"end":{"character":4,"line":3},"start":{"character":2,"line":1}},"kind":130,"text":"text"} :: DefinitionTag { text: "text", kind: SymbolKind(130), deprecated: true, full_range: Range { start: Position { line: 1, character: 2 }, end: Position { line: 3, character: 4 } }, detail: Some("detail") }
+? text kind fullRange
 {"fullRange":{"end":{"character":4,"line":3},"start":{"character":2,"line":1}},"kind":130,"text":"text"} :: DefinitionTag { text: "text", kind: SymbolKind(130), deprecated: false, full_range: Range { start: Position { line: 1, character: 2 }, end: Position { line: 3, character: 4 } }, detail: None }
 {"deprecated":false,"detail":null,"fullRange":{"end":{"character":4,"line":3},"start":{"character":2,"line":1}},"kind":130,"text":"text"} => {"fullRange":{"end":{"character":4,"line":3},"start":{"character":2,"line":1}},"kind":130,"text":"text"} :: DefinitionTag { text: "text", kind: SymbolKind(130), deprecated: false, full_range: Range { start: Position { line: 1, character: 2 }, end: Position { line: 3, character: 4 } }, detail: None }
 ! {"fullRange":{"end":{"character":4,"line":3},"start":{"character":2,"line":1}},"kind":130}
@@ -33,6 +34,7 @@ const DEFINITION_TAG: &str = r#"
 
 const DECLARATION_TAG: &str = r#"
 {"deprecated":true,"detail":"detail","fullRange":{"end":{"character":4,"line":3},"start":{"character":2,"line":1}},"kind":130,"text":"text"} :: DeclarationTag { text: "text", kind: SymbolKind(130), deprecated: true, full_range: Range { start: Position { line: 1, character: 2 }, end: Position { line: 3, character: 4 } }, detail: Some("detail") }
+? text kind fullRange deprecated=false
 {"deprecated":false,"fullRange":{"end":{"character":4,"line":3},"start":{"character":2,"line":1}},"kind":130,"text":"text"} :: DeclarationTag { text: "text", kind: SymbolKind(130), deprecated: false, full_range: Range { start: Position { line: 1, character: 2 }, end: Position { line: 3, character: 4 } }, detail: None }
 {"fullRange":{"end":{"character":4,"line":3},"start":{"character":2,"line":1}},"kind":130,"text":"text"} => {"deprecated":false,"fullRange":{"end":{"character":4,"line":3},"start":{"character":2,"line":1}},"kind":130,"text":"text"} :: DeclarationTag { text: "text", kind: SymbolKind(130), deprecated: false, full_range: Range { start: Position { line: 1, character: 2 }, end: Position { line: 3, character: 4 } }, detail: None }
 ! {"deprecated":false,"fullRange":{"end":{"character":4,"line":3},"start":{"character":2,"line":1}},"kind":130}
@@ -43,6 +45,7 @@ const DECLARATION_TAG: &str = r#"
 
 const REFERENCE_TAG: &str = r#"
 {"text":"text"} :: ReferenceTag { text: "text" }
+? text
 {"kind":130,"text":"text"} => {"text":"text"} :: ReferenceTag { text: "text" }
 ! {"text":1}
 ! {}
@@ -50,6 +53,7 @@ const REFERENCE_TAG: &str = r#"
 
 const UNKNOWN_TAG: &str = r#"
 {"text":"text"} :: UnknownTag { text: "text" }
+? text
 ! {"text":null}
 ! {}
 "#;

@@ -60,6 +60,7 @@ const VERTEX: &str = r#"
 
 const META_DATA: &str = r#"
 {"positionEncoding":"utf-16","projectRoot":"file:///projectRoot","toolInfo":{"name":"name"},"version":"version"} :: MetaData { version: "version", project_root: Uri { text: "file:///projectRoot" }, position_encoding: Utf16, tool_info: Some(ToolInfo { name: "name", args: [], version: None }) }
+? version projectRoot positionEncoding
 {"positionEncoding":"utf-16","projectRoot":"file:///projectRoot","toolInfo":null,"version":"version"} => {"positionEncoding":"utf-16","projectRoot":"file:///projectRoot","version":"version"} :: MetaData { version: "version", project_root: Uri { text: "file:///projectRoot" }, position_encoding: Utf16, tool_info: None }
 ! {"positionEncoding":"utf-16","projectRoot":"file:///projectRoot"}
 ! {"positionEncoding":"utf-16","version":"version"}
@@ -80,6 +81,7 @@ const ENCODING: &str = r#"
 
 const TOOL_INFO: &str = r#"
 {"args":["args"],"name":"name","version":"version"} :: ToolInfo { name: "name", args: ["args"], version: Some("version") }
+? name
 {"name":"name"} :: ToolInfo { name: "name", args: [], version: None }
 {"args":[],"name":"name"} => {"name":"name"} :: ToolInfo { name: "name", args: [], version: None }
 ! {"args":null,"name":"name"}
@@ -89,6 +91,7 @@ const TOOL_INFO: &str = r#"
 
 const PROJECT: &str = r#"
 {"content":"content","kind":"kind","resource":"file:///resource"} :: Project { resource: Some(Uri { text: "file:///resource" }), content: Some("content"), kind: "kind" }
+? kind
 {"kind":"kind"} :: Project { resource: None, content: None, kind: "kind" }
 ! {"content":"content","resource":"file:///resource"}
 ! {"content":1,"kind":"kind"}
@@ -98,6 +101,7 @@ const PROJECT: &str = r#"
 
 const REPOSITORY: &str = r#"
 {"commitId":"commitId","type":"type","url":"url"} :: Repository { typ: "type", url: "url", commit_id: Some("commitId") }
+? type url
 {"type":"type","url":"url"} :: Repository { typ: "type", url: "url", commit_id: None }
 ! {"url":"url"}
 ! {"typ":"type","url":"url"}
@@ -106,12 +110,14 @@ const REPOSITORY: &str = r#"
 
 const DOCUMENT: &str = r#"
 {"languageId":"languageId","uri":"file:///uri"} :: Document { uri: Uri { text: "file:///uri" }, language_id: "languageId" }
+? uri languageId
 ! {"languageId":"languageId"}
 ! {"uri":"file:///uri"}
 "#;
 
 const RESULT_SET: &str = r#"
 {"key":"key"} :: ResultSet { key: Some("key") }
+?
 {} :: ResultSet { key: None }
 {"key":null} => {} :: ResultSet { key: None }
 ! {"key":1}
@@ -120,6 +126,7 @@ const RESULT_SET: &str = r#"
 
 const PACKAGE_INFORMATION: &str = r#"
 {"content":"content","manager":"manager","name":"name","repository":{"type":"type","url":"url"},"uri":"file:///uri","version":"version"} :: PackageInformation { name: "name", manager: "manager", uri: Some(Uri { text: "file:///uri" }), content: Some("content"), repository: Some(Repository { typ: "type", url: "url", commit_id: None }), version: Some("version") }
+? name manager
 {"manager":"manager","name":"name"} :: PackageInformation { name: "name", manager: "manager", uri: None, content: None, repository: None, version: None }
 ! {"manager":"manager"}
 ! {"name":"name"}
@@ -128,6 +135,7 @@ const PACKAGE_INFORMATION: &str = r#"
 
 const EVENT: &str = r#"
 {"data":63,"kind":"begin","scope":"document"} :: Event { kind: Begin, scope: Document, payload: Number(63) }
+? kind scope data
 {"data":"data","kind":"end","scope":"project"} :: Event { kind: End, scope: Project, payload: String("data") }
 {"data":63,"kind":"begin","scope":"project"} :: Event { kind: Begin, scope: Project, payload: Number(63) }
 ! {"data":63,"scope":"document"}
