@@ -4,14 +4,16 @@ use Rattle.std.specs.Prelude.{is_some, ◌||◌, slice_get, ◌^◌, ◌-◌, So
 use Rattle.std.specs.List.{find, list_any, before_first, after_first, position_or_len}
 use Rattle.std.specs.Ordering.{is_eq, match_ordering}
 use Rattle.std.specs.Map.{lookup, remove_entry}
+use Rattle.std.specs.Set.{remove_key}
 use Rattle.std.specs.Cmp.{IsEquivalence}
 use Rattle.std.specs.BTreeMap.{is_at, insert_entry}
+use Rattle.std.specs.BTreeSet.{insert_key}
 use Rattle.std.specs.HashMap.{HashMap, get}
 use Rattle.std.proofs.lemmas.Bool.{eqb-true, eq-eqb}
 use Rattle.std.proofs.lemmas.Grind.{common_steps}
 use Rattle.lsp_keyed.specs.declared.keyed.Numbers.{Numbers}
-use Rattle.lsp_keyed.specs.Items.{has_number, IsAbove, next_number}
-use Rattle.lsp_keyed.specs.Index.{listed, first, rest, AreAbove, AreRising, numbers_of, IsIndexed}
+use Rattle.lsp_keyed.specs.Items.{has_number, without, IsAbove, next_number}
+use Rattle.lsp_keyed.specs.Index.{listed, first, rest, without_number, AreLess, AreAbove, AreRising, numbers_of, IsIndexed}
 
 -- ---- a number among numbers
 
@@ -41,6 +43,15 @@ above n k h = go (nat_lt n k) refl (n == k) refl
     go true p b q = let less : n < k = ltb-true n k p in absurd (omega arith)
     go false p true q = let same : n ≡ k = eqb-true n k q in absurd (omega arith)
     go false p false q = refl
+
+-- a number above all others goes last
+pub key_last : (n : ℕ) (ks : List ℕ) → AreLess n ks → insert_key nat_cmp ks n ≡ ks ++ n ∷ []
+key_last n [] less = refl
+key_last n (k ∷ ks) less = ap (λ o. match_ordering o (n ∷ k ∷ ks) (k ∷ ks) (k ∷ insert_key nat_cmp ks n)) (above n k less.0) ∙ ap (λ l. k ∷ l) (key_last n ks less.1)
+
+pub key_removed : (n : ℕ) (ks : List ℕ) → remove_key (is_at (nat_cmp n)) ks ≡ without_number n ks
+key_removed n [] = refl
+key_removed n (k ∷ ks) = ap (λ b. cond b ks (k ∷ remove_key (is_at (nat_cmp n)) ks)) (is_at-nat n k) ∙ ap (λ l. cond (n == k) ks (k ∷ l)) (key_removed n ks)
 
 pub some_listed : (o : Option Numbers) → is_some o ≡ is_some (first (listed o))
 some_listed None = refl
@@ -87,6 +98,21 @@ module _ {K V : Type 0} where
       at true h = refl
       at false h = h
 
+  -- ---- an entry by its number
+
+  pub lookup_number : (n : ℕ) (es : List (ℕ × (K × V))) → lookup (is_at (nat_cmp n)) es ≡ option_map (λ e. e.1) (find (has_number n) es)
+  lookup_number n [] = refl
+  lookup_number n (e ∷ es) = ap (λ b. cond b (Some e.1) (lookup (is_at (nat_cmp n)) es)) (is_at-nat n e.0) ∙ at (n == e.0) (lookup_number n es)
+    where
+      at : (b : Bool) → lookup (is_at (nat_cmp n)) es ≡ option_map (λ e. e.1) (find (has_number n) es)
+          → cond b (Some e.1) (lookup (is_at (nat_cmp n)) es) ≡ option_map (λ e. e.1) (cond b (Some e) (find (has_number n) es))
+      at true h = refl
+      at false h = h
+
+  pub removed_number : (n : ℕ) (es : List (ℕ × (K × V))) → remove_entry (is_at (nat_cmp n)) es ≡ without n es
+  removed_number n [] = refl
+  removed_number n (e ∷ es) = ap (λ b. cond b es (e ∷ remove_entry (is_at (nat_cmp n)) es)) (is_at-nat n e.0) ∙ ap (λ l. cond (n == e.0) es (e ∷ l)) (removed_number n es)
+
   -- ---- the last number
 
   pub last_above : (n i : ℕ) (e : ℕ × (K × V)) (es : List (ℕ × (K × V))) → IsAbove n es → slice_get es i ≡ Some e → e.0 < n
@@ -129,11 +155,19 @@ module _ {K V : Type 0} where
       ap (λ o. match_ordering o ((n, x) ∷ e ∷ es) ((e.0, x) ∷ es) (e ∷ insert_entry nat_cmp es n x)) (above n e.0 below.0)
       ∙ ap (λ l. e ∷ l) (inserted_last n x es below.1)
 
-  pub removed_last : (n : ℕ) (x : K × V) (es : List (ℕ × (K × V))) → IsAbove n es → remove_entry (is_at (nat_cmp n)) (es ++ (n, x) ∷ []) ≡ es
-  removed_last n x [] below = ap (λ b. cond b [] ((n, x) ∷ [])) (is_at-nat n n ∙ eq-eqb n n refl)
+  pub removed_last : (n : ℕ) (x : K × V) (es : List (ℕ × (K × V))) → IsAbove n es → without n (es ++ (n, x) ∷ []) ≡ es
+  removed_last n x [] below = ap (λ b. cond b [] ((n, x) ∷ [])) (eq-eqb n n refl)
   removed_last n x (e ∷ es) below =
-      ap (λ b. cond b (es ++ (n, x) ∷ []) (e ∷ remove_entry (is_at (nat_cmp n)) (es ++ (n, x) ∷ []))) (is_at-nat n e.0 ∙ apart n e.0 below.0)
+      ap (λ b. cond b (es ++ (n, x) ∷ []) (e ∷ without n (es ++ (n, x) ∷ []))) (apart n e.0 below.0)
       ∙ ap (λ l. e ∷ l) (removed_last n x es below.1)
+
+  pub numbers_less : (test : K → Bool) (n : ℕ) (es : List (ℕ × (K × V))) → IsAbove n es → AreLess n (numbers_of test es)
+  numbers_less test n [] below = tt
+  numbers_less test n (e ∷ es) below = at (test e.1.0) (numbers_less test n es below.1)
+    where
+      at : (b : Bool) → AreLess n (numbers_of test es) → AreLess n (cond b (e.0 ∷ numbers_of test es) (numbers_of test es))
+      at true more = (below.0, more)
+      at false more = more
 
   AreAbove-push : (m n : ℕ) (x : K × V) (es : List (ℕ × (K × V))) → AreAbove m es → m < n → AreAbove m (es ++ (n, x) ∷ [])
   AreAbove-push m n x [] h less = (less, tt)
@@ -169,33 +203,32 @@ module _ {K V : Type 0} where
       go false is more = more is
 
   -- without an entry
-  pub AreAbove-remove : (m : ℕ) (test : ℕ → Bool) (es : List (ℕ × (K × V))) → AreAbove m es → AreAbove m (remove_entry test es)
-  AreAbove-remove m test [] h = tt
-  AreAbove-remove m test (e ∷ es) h = at (test e.0) (AreAbove-remove m test es h.1)
+  AreAbove-without : (m n : ℕ) (es : List (ℕ × (K × V))) → AreAbove m es → AreAbove m (without n es)
+  AreAbove-without m n [] h = tt
+  AreAbove-without m n (e ∷ es) h = at (n == e.0) (AreAbove-without m n es h.1)
     where
-      at : (b : Bool) → AreAbove m (remove_entry test es) → AreAbove m (cond b es (e ∷ remove_entry test es))
+      at : (b : Bool) → AreAbove m (without n es) → AreAbove m (cond b es (e ∷ without n es))
       at true more = h.1
       at false more = (h.0, more)
 
-  pub AreRising-remove : (test : ℕ → Bool) (es : List (ℕ × (K × V))) → AreRising es → AreRising (remove_entry test es)
-  AreRising-remove test [] h = tt
-  AreRising-remove test (e ∷ es) h = at (test e.0) (AreRising-remove test es h.1)
+  AreRising-without : (n : ℕ) (es : List (ℕ × (K × V))) → AreRising es → AreRising (without n es)
+  AreRising-without n [] h = tt
+  AreRising-without n (e ∷ es) h = at (n == e.0) (AreRising-without n es h.1)
     where
-      at : (b : Bool) → AreRising (remove_entry test es) → AreRising (cond b es (e ∷ remove_entry test es))
+      at : (b : Bool) → AreRising (without n es) → AreRising (cond b es (e ∷ without n es))
       at true more = h.1
-      at false more = (AreAbove-remove e.0 test es h.0, more)
+      at false more = (AreAbove-without e.0 n es h.0, more)
 
   -- what is at its number is what is found by its key
-  pub value_at : (test : K → Bool) (n : ℕ) (es : List (ℕ × (K × V))) → AreRising es → first (numbers_of test es) ≡ Some n
-      → lookup (is_at (nat_cmp n)) es ≡ option_map (λ e. e.1) (find (λ e. test e.1.0) es)
-  value_at test n [] rising at = refl
-  value_at test n (e ∷ es) rising at = ap (λ b. cond b (Some e.1) (lookup (is_at (nat_cmp n)) es)) (is_at-nat n e.0) ∙ go (test e.1.0) at (value_at test n es rising.1)
+  pub found_at : (test : K → Bool) (n : ℕ) (es : List (ℕ × (K × V))) → AreRising es → first (numbers_of test es) ≡ Some n → find (has_number n) es ≡ find (λ e. test e.1.0) es
+  found_at test n [] rising at = refl
+  found_at test n (e ∷ es) rising at = go (test e.1.0) at (found_at test n es rising.1)
     where
       go : (b : Bool) → first (cond b (e.0 ∷ numbers_of test es) (numbers_of test es)) ≡ Some n
-          → (first (numbers_of test es) ≡ Some n → lookup (is_at (nat_cmp n)) es ≡ option_map (λ e. e.1) (find (λ e. test e.1.0) es))
-          → cond (n == e.0) (Some e.1) (lookup (is_at (nat_cmp n)) es) ≡ option_map (λ e. e.1) (cond b (Some e) (find (λ e. test e.1.0) es))
-      go true is more = let same : n ≡ e.0 = cc in ap (λ b. cond b (Some e.1) (lookup (is_at (nat_cmp n)) es)) (eq-eqb n e.0 same)
-      go false is more = ap (λ b. cond b (Some e.1) (lookup (is_at (nat_cmp n)) es)) (apart n e.0 (first_above test e.0 n es rising.0 is)) ∙ more is
+          → (first (numbers_of test es) ≡ Some n → find (has_number n) es ≡ find (λ x. test x.1.0) es)
+          → cond (n == e.0) (Some e) (find (has_number n) es) ≡ cond b (Some e) (find (λ x. test x.1.0) es)
+      go true is more = let same : n ≡ e.0 = cc in ap (λ b. cond b (Some e) (find (has_number n) es)) (eq-eqb n e.0 same)
+      go false is more = ap (λ b. cond b (Some e) (find (has_number n) es)) (apart n e.0 (first_above test e.0 n es rising.0 is)) ∙ more is
 
   pub second : (o : Option (ℕ × (K × V))) → option_map (λ x. x.1) (option_map (λ e. e.1) o) ≡ option_map (λ e. e.1.1) o
   second None = refl
@@ -203,18 +236,18 @@ module _ {K V : Type 0} where
 
   -- and what is left is what stands before it and after it
   pub rest_at : (test : K → Bool) (n : ℕ) (es : List (ℕ × (K × V))) → AreRising es → first (numbers_of test es) ≡ Some n
-      → remove_entry (is_at (nat_cmp n)) es ≡ before_first (λ e. test e.1.0) es ++ after_first (λ e. test e.1.0) es
+      → without n es ≡ before_first (λ e. test e.1.0) es ++ after_first (λ e. test e.1.0) es
   rest_at test n [] rising at = refl
-  rest_at test n (e ∷ es) rising at = ap (λ b. cond b es (e ∷ remove_entry (is_at (nat_cmp n)) es)) (is_at-nat n e.0) ∙ go (test e.1.0) at (rest_at test n es rising.1)
+  rest_at test n (e ∷ es) rising at = go (test e.1.0) at (rest_at test n es rising.1)
     where
       go : (b : Bool) → first (cond b (e.0 ∷ numbers_of test es) (numbers_of test es)) ≡ Some n
-          → (first (numbers_of test es) ≡ Some n → remove_entry (is_at (nat_cmp n)) es ≡ before_first (λ e. test e.1.0) es ++ after_first (λ e. test e.1.0) es)
-          → cond (n == e.0) es (e ∷ remove_entry (is_at (nat_cmp n)) es)
+          → (first (numbers_of test es) ≡ Some n → without n es ≡ before_first (λ e. test e.1.0) es ++ after_first (λ e. test e.1.0) es)
+          → cond (n == e.0) es (e ∷ without n es)
           ≡ take (cond (not b) (1 + position_or_len (λ e. test e.1.0) es) 0) (e ∷ es) ++ drop (cond (not b) (1 + position_or_len (λ e. test e.1.0) es) 0 + 1) (e ∷ es)
-      go true is later = let same : n ≡ e.0 = cc in ap (λ b. cond b es (e ∷ remove_entry (is_at (nat_cmp n)) es)) (eq-eqb n e.0 same) ∙ grind (arith, common_steps)
+      go true is later = let same : n ≡ e.0 = cc in ap (λ b. cond b es (e ∷ without n es)) (eq-eqb n e.0 same) ∙ grind (arith, common_steps)
       go false is later =
           let more = later is in
-          ap (λ b. cond b es (e ∷ remove_entry (is_at (nat_cmp n)) es)) (apart n e.0 (first_above test e.0 n es rising.0 is))
+          ap (λ b. cond b es (e ∷ without n es)) (apart n e.0 (first_above test e.0 n es rising.0 is))
           ∙ ap (λ l. e ∷ l) more ∙ grind (arith, common_steps)
 
   -- where none is found, all are left
@@ -228,35 +261,42 @@ module _ {K V : Type 0} where
       go true is more = absurd (cc)
       go false is more = ap (λ l. e ∷ l) (more is) ∙ grind (arith, common_steps)
 
-  -- the key's numbers are the others, and other keys keep theirs
-  numbers_left : (test : K → Bool) (n : ℕ) (es : List (ℕ × (K × V))) → AreRising es → first (numbers_of test es) ≡ Some n
-      → (numbers_of test (remove_entry (is_at (nat_cmp n)) es) ≡ rest (numbers_of test es))
-      × ((u : K → Bool) → ((k : K) → test k ≡ true → u k ≡ false) → numbers_of u (remove_entry (is_at (nat_cmp n)) es) ≡ numbers_of u es)
-  numbers_left test n [] rising at = absurd (cc)
-  numbers_left test n (e ∷ es) rising at = go (test e.1.0) refl at (is_at-nat n e.0) (numbers_left test n es rising.1)
+  -- the entry of number n has this key and value
+  abbrev IsAt : ℕ → K × V → List (ℕ × (K × V)) → Type 0
+  IsAt n x es = option_map (λ e. e.1) (find (has_number n) es) ≡ Some x
+
+  -- the key's numbers are the others
+  numbers_of-without : (test : K → Bool) (n : ℕ) (x : K × V) (es : List (ℕ × (K × V))) → test x.0 ≡ true → IsAt n x es → numbers_of test (without n es) ≡ without_number n (numbers_of test es)
+  numbers_of-without test n x [] passes at = refl
+  numbers_of-without test n x (e ∷ es) passes at = go (n == e.0) refl at (numbers_of-without test n x es passes)
     where
-      go : (b : Bool) → test e.1.0 ≡ b → first (cond b (e.0 ∷ numbers_of test es) (numbers_of test es)) ≡ Some n → is_at (nat_cmp n) e.0 ≡ (n == e.0)
-          → (first (numbers_of test es) ≡ Some n → (numbers_of test (remove_entry (is_at (nat_cmp n)) es) ≡ rest (numbers_of test es))
-          × ((u : K → Bool) → ((k : K) → test k ≡ true → u k ≡ false) → numbers_of u (remove_entry (is_at (nat_cmp n)) es) ≡ numbers_of u es))
-          → (numbers_of test (cond (is_at (nat_cmp n) e.0) es (e ∷ remove_entry (is_at (nat_cmp n)) es)) ≡ rest (cond (test e.1.0) (e.0 ∷ numbers_of test es) (numbers_of test es)))
-          × ((u : K → Bool) → ((k : K) → test k ≡ true → u k ≡ false)
-          → numbers_of u (cond (is_at (nat_cmp n) e.0) es (e ∷ remove_entry (is_at (nat_cmp n)) es)) ≡ cond (u e.1.0) (e.0 ∷ numbers_of u es) (numbers_of u es))
-      go true passes is tells later =
-          let same : n ≡ e.0 = cc in
-          let here : is_at (nat_cmp n) e.0 ≡ true = tells ∙ eq-eqb n e.0 same in (
-            ap (λ b. numbers_of test (cond b es (e ∷ remove_entry (is_at (nat_cmp n)) es))) here ∙ sym (ap (λ b. rest (cond b (e.0 ∷ numbers_of test es) (numbers_of test es))) passes),
-            λ u fails. ap (λ b. numbers_of u (cond b es (e ∷ remove_entry (is_at (nat_cmp n)) es))) here
-                ∙ sym (ap (λ b. cond b (e.0 ∷ numbers_of u es) (numbers_of u es)) (fails e.1.0 passes)),
-          )
-      go false fails is tells later =
-          let there : is_at (nat_cmp n) e.0 ≡ false = tells ∙ apart n e.0 (first_above test e.0 n es rising.0 is) in
-          let more = later is in (
-            ap (λ b. numbers_of test (cond b es (e ∷ remove_entry (is_at (nat_cmp n)) es))) there
-                ∙ ap (λ b. cond b (e.0 ∷ numbers_of test (remove_entry (is_at (nat_cmp n)) es)) (numbers_of test (remove_entry (is_at (nat_cmp n)) es))) fails
-                ∙ more.0 ∙ sym (ap (λ b. rest (cond b (e.0 ∷ numbers_of test es) (numbers_of test es))) fails),
-            λ u apart_u. ap (λ b. numbers_of u (cond b es (e ∷ remove_entry (is_at (nat_cmp n)) es))) there
-                ∙ ap (λ l. cond (u e.1.0) (e.0 ∷ l) l) (more.1 u apart_u),
-          )
+      go : (b : Bool) → (n == e.0) ≡ b → option_map (λ y. y.1) (cond b (Some e) (find (has_number n) es)) ≡ Some x
+          → (IsAt n x es → numbers_of test (without n es) ≡ without_number n (numbers_of test es))
+          → numbers_of test (cond b es (e ∷ without n es)) ≡ without_number n (cond (test e.1.0) (e.0 ∷ numbers_of test es) (numbers_of test es))
+      go true is at later =
+          let same : e.1 ≡ x = cc in
+          let here : test e.1.0 ≡ true = ap (λ (y : K × V). test y.0) same ∙ passes in
+          sym (ap (λ b. without_number n (cond b (e.0 ∷ numbers_of test es) (numbers_of test es))) here
+          ∙ ap (λ b. cond b (numbers_of test es) (e.0 ∷ without_number n (numbers_of test es))) is)
+      go false is at later = both (test e.1.0) (later at)
+        where
+          both : (c : Bool) → numbers_of test (without n es) ≡ without_number n (numbers_of test es)
+              → cond c (e.0 ∷ numbers_of test (without n es)) (numbers_of test (without n es)) ≡ without_number n (cond c (e.0 ∷ numbers_of test es) (numbers_of test es))
+          both true h = ap (λ l. e.0 ∷ l) h ∙ sym (ap (λ b. cond b (numbers_of test es) (e.0 ∷ without_number n (numbers_of test es))) is)
+          both false h = h
+
+  -- and other keys keep theirs
+  numbers_of-others : (test : K → Bool) (n : ℕ) (x : K × V) (es : List (ℕ × (K × V))) → test x.0 ≡ false → IsAt n x es → numbers_of test (without n es) ≡ numbers_of test es
+  numbers_of-others test n x [] fails at = refl
+  numbers_of-others test n x (e ∷ es) fails at = go (n == e.0) at (numbers_of-others test n x es fails)
+    where
+      go : (b : Bool) → option_map (λ y. y.1) (cond b (Some e) (find (has_number n) es)) ≡ Some x
+          → (IsAt n x es → numbers_of test (without n es) ≡ numbers_of test es)
+          → numbers_of test (cond b es (e ∷ without n es)) ≡ cond (test e.1.0) (e.0 ∷ numbers_of test es) (numbers_of test es)
+      go true at later =
+          let same : e.1 ≡ x = cc in
+          sym (ap (λ b. cond b (e.0 ∷ numbers_of test es) (numbers_of test es)) (ap (λ (y : K × V). test y.0) same ∙ fails))
+      go false at later = ap (λ l. cond (test e.1.0) (e.0 ∷ l) l) (later at)
 
   -- ---- the index after a change
 
@@ -285,21 +325,18 @@ module _ {K V : Type 0} where
       found = λ q. updates q ∙ was.found q ∙ ap (numbers_of (eq q)) (sym is);
     }
 
-    pub indexed_taken : (es es2 : List (ℕ × (K × V))) (old new : HashMap K Numbers S) (n : ℕ) (key : K) → IsIndexed eq es old → first (numbers_of (eq key) es) ≡ Some n
-        → es2 ≡ remove_entry (is_at (nat_cmp n)) es
-        → ((q : K) → listed (get eq new q) ≡ cond (eq key q) (rest (listed (get eq old key))) (listed (get eq old q))) → IsIndexed eq es2 new
-    indexed_taken es es2 old new n key was at is updates = record {
-      rising = subst AreRising (sym is) (AreRising-remove (is_at (nat_cmp n)) es was.rising);
-      found = λ q. updates q ∙ go (numbers_left (eq key) n es was.rising at) q (eq key q) refl ∙ ap (numbers_of (eq q)) (sym is);
+    pub indexed_without : (es es2 : List (ℕ × (K × V))) (old new : HashMap K Numbers S) (n : ℕ) (x : K × V) → IsIndexed eq es old → IsAt n x es → es2 ≡ without n es
+        → ((q : K) → listed (get eq new q) ≡ cond (eq x.0 q) (without_number n (listed (get eq old x.0))) (listed (get eq old q))) → IsIndexed eq es2 new
+    indexed_without es es2 old new n x was at is updates = record {
+      rising = subst AreRising (sym is) (AreRising-without n es was.rising);
+      found = λ q. updates q ∙ go q (eq x.0 q) refl ∙ ap (numbers_of (eq q)) (sym is);
     }
       where
-        go : (numbers_of (eq key) (remove_entry (is_at (nat_cmp n)) es) ≡ rest (numbers_of (eq key) es))
-            × ((u : K → Bool) → ((k : K) → eq key k ≡ true → u k ≡ false) → numbers_of u (remove_entry (is_at (nat_cmp n)) es) ≡ numbers_of u es)
-            → (q : K) (b : Bool) → eq key q ≡ b → cond b (rest (listed (get eq old key))) (listed (get eq old q)) ≡ numbers_of (eq q) (remove_entry (is_at (nat_cmp n)) es)
-        go left q true h =
-            ap rest (was.found key) ∙ sym left.0 ∙ numbers_of-alike (eq key) (eq q) (remove_entry (is_at (nat_cmp n)) es) (λ k. laws.congr key q k h)
-        go left q false h =
-            was.found q ∙ sym (left.1 (eq q) (λ k passes. laws.symm q k ∙ sym (laws.congr key k q passes) ∙ h))
+        go : (q : K) (b : Bool) → eq x.0 q ≡ b → cond b (without_number n (listed (get eq old x.0))) (listed (get eq old q)) ≡ numbers_of (eq q) (without n es)
+        go q true h =
+            ap (without_number n) (was.found x.0) ∙ sym (numbers_of-without (eq x.0) n x es (laws.refl x.0) at)
+            ∙ numbers_of-alike (eq x.0) (eq q) (without n es) (λ k. laws.congr x.0 q k h)
+        go q false h = was.found q ∙ sym (numbers_of-others (eq q) n x es (laws.symm q x.0 ∙ h) at)
 
 -- ---- the number after the last
 

@@ -1,11 +1,11 @@
 -- How the entries of a key are found.
-use Rattle.std.specs.Prelude.{◌≡◌, ℕ, ◌<◌, List, [], ◌∷◌, Bool, Option, Some, None, if◌then◌else◌}
+use Rattle.std.specs.Prelude.{◌≡◌, ℕ, ◌<◌, ◌==◌, List, [], ◌∷◌, Bool, Option, Some, None, if◌then◌else◌}
 use Rattle.std.specs.HashMap.{HashMap, get}
 use Rattle.lsp_keyed.specs.declared.keyed.Numbers.{Numbers}
 
 abbrev pub listed : Option Numbers → List ℕ
 listed None = []
-listed (Some ns) = ns.oldest ∷ ns.later.items
+listed (Some ns) = ns.oldest ∷ ns.later.keys
 
 abbrev pub first : List ℕ → Option ℕ
 first [] = None
@@ -14,6 +14,16 @@ first (n ∷ ns) = Some n
 abbrev pub rest : List ℕ → List ℕ
 rest [] = []
 rest (n ∷ ns) = ns
+
+-- the numbers without the first that is n
+abbrev pub without_number : ℕ → List ℕ → List ℕ
+without_number n [] = []
+without_number n (m ∷ ms) = if n == m then ms else m ∷ without_number n ms
+
+-- each number is less than n
+abbrev pub AreLess : ℕ → List ℕ → Type 0
+AreLess n [] = Unit {0}
+AreLess n (m ∷ ms) = (m < n) × AreLess n ms
 
 module _ {K V : Type 0} where
   -- each number is above n

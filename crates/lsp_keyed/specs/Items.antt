@@ -1,5 +1,5 @@
 -- A list of entries, each with a number, a key and a value. The numbers rise.
-use Rattle.std.specs.Prelude.{ℕ, ◌<◌, ◌+◌, ◌==◌, List, [], ◌∷◌, Bool}
+use Rattle.std.specs.Prelude.{ℕ, ◌<◌, ◌+◌, ◌==◌, List, [], ◌∷◌, Bool, if◌then◌else◌}
 
 module _ {K V : Type 0} where
   -- the entry has a key that is equal to this one
@@ -8,6 +8,11 @@ module _ {K V : Type 0} where
 
   abbrev pub has_number : ℕ → ℕ × (K × V) → Bool
   has_number n e = n == e.0
+
+  -- the entries without the first of that number
+  abbrev pub without : ℕ → List (ℕ × (K × V)) → List (ℕ × (K × V))
+  without n [] = []
+  without n (e ∷ es) = if n == e.0 then es else e ∷ without n es
 
   -- n is above each number
   abbrev pub IsAbove : ℕ → List (ℕ × (K × V)) → Type 0

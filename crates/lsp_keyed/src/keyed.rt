@@ -3,13 +3,13 @@ ghost use Rattle.std.specs.Prelude.{◌≡◌, ◌↔◌, ◌^◌, ◌-◌, ◌+
 ghost use Rattle.std.specs.List.{find, list_any, before_first, after_first};
 ghost use Rattle.std.specs.HashMap.{get};
 ghost use Rattle.std.specs.Vec.{vec_len, vec_capacity};
-ghost use Rattle.lsp_keyed.specs.Items.{has_key, has_number as has_number_lem, IsAbove, next_number};
-ghost use Rattle.lsp_keyed.specs.Index.{listed, first, rest, IsIndexed};
+ghost use Rattle.lsp_keyed.specs.Items.{has_key, has_number as has_number_lem, without, IsAbove, next_number};
+ghost use Rattle.lsp_keyed.specs.Index.{listed, first, rest, without_number, AreLess, IsIndexed};
 
 use no_memory::NoMemory;
 use std::alloc::Global;
 use std::cmp::Eq;
-use std::collections::{BTreeMap, HashMap, VecDeque};
+use std::collections::{BTreeMap, BTreeSet, HashMap};
 use std::hash::Hash;
 use std::marker::Model;
 use std::mem;
@@ -18,11 +18,12 @@ use std::mem;
 #[derive(Drop)]
 struct Numbers {
     oldest: u64,
-    later: VecDeque<u64>,
+    later: BTreeSet<u64>,
 }
 
 /// Entries in the order of their numbers, each with a key and a value. Several may have one key. To
-/// put one in, to find the oldest of a key and to take it out costs no walk over the others.
+/// put one in, to find it by its number or the oldest of a key, and to take it out costs no walk
+/// over the others.
 #[derive(Drop)]
 pub struct Keyed<K: Eq + Hash + Drop, V: Drop> {
     alloc: Global,
@@ -78,7 +79,15 @@ impl<K: Eq + Hash + Drop, V: Drop> Keyed<K, V> {
     pub fn oldest(&self, key: &K) -> Option<u64>
         ensures { result ≡ option_map (λ e. e.0) (find (has_key K.eq key.now) self.now) }
     {
-        self.numbers.get(key).map(|numbers| numbers.oldest)
+        oldest_of(&self.numbers, key)
+    }
+
+    /// The key and the value of the entry of the number.
+    pub fn get(&self, number: u64) -> Option<&(K, V)>
+        ensures { option_map (λ e. e.now) result
+            ≡ option_map (λ e. e.1) (find (has_number_lem number) self.now) }
+    {
+        self.entries.get(&number)
     }
 
     /// Whether an entry has the number.
@@ -138,6 +147,21 @@ impl<K: Eq + Hash + Drop, V: Drop> Keyed<K, V> {
         take_entry(&mut self.entries, &mut self.numbers, key)
     }
 
+    /// Takes the entry of the number out. It takes no memory.
+    pub fn remove(&mut self, number: u64) -> Option<(K, V)>
+        ensures entry { result ≡ option_map (λ e. e.1) (find (has_number_lem number) self.old) }
+        ensures rest { self.new ≡ without number self.old }
+    {
+        remove_entry(&mut self.entries, &mut self.numbers, number)
+    }
+
+    /// Takes all entries out. It takes no memory.
+    pub fn clear(&mut self)
+        ensures { self.new ≡ [] }
+    {
+        *self = Keyed::new(self.alloc);
+    }
+
     /// Takes all entries out, and puts their keys after those of the list, which has room for them.
     /// It takes no memory.
     pub fn clear_into(&mut self, keys: &mut Vec<K>)
@@ -187,6 +211,7 @@ fn note<K: Eq + Hash + Drop>(
     key: K,
     number: u64,
 ) -> Result<(), NoMemory>
+    requires { AreLess number (listed (get K.eq numbers.old key)) }
     ensures ok { OnOk result ((q : K) → listed (get K.eq numbers.new q)
         ≡ (if K.eq key q then listed (get K.eq numbers.old key)
         ++ number ∷ [] else listed (get K.eq numbers.old q))) }
@@ -195,10 +220,10 @@ fn note<K: Eq + Hash + Drop>(
 {
     match numbers.get_mut(&key) {
         Some(known) => {
-            known.later.push_back(number)?;
+            push_number(&mut known.later, number)?;
         }
         None => {
-            let later = VecDeque::new(alloc);
+            let later = BTreeSet::new(alloc);
             numbers.insert(
                 key,
                 Numbers {
@@ -209,6 +234,36 @@ fn note<K: Eq + Hash + Drop>(
         }
     }
     Ok(())
+}
+
+// Puts a number after the others.
+fn push_number(numbers: &mut BTreeSet<u64>, number: u64) -> Result<(), NoMemory>
+    requires { AreLess number numbers.old.keys }
+    ensures ok { OnOk result (numbers.new.keys ≡ numbers.old.keys ++ number ∷ []) }
+    ensures err { OnErr result (numbers.new.keys ≡ numbers.old.keys) }
+{
+    numbers.insert(number)?;
+    Ok(())
+}
+
+// Takes the least number out.
+fn pop_number(numbers: &mut BTreeSet<u64>) -> Option<u64>
+    ensures least { result ≡ first numbers.old.keys }
+    ensures others { numbers.new.keys ≡ rest numbers.old.keys }
+{
+    numbers.pop_first()
+}
+
+fn remove_number(numbers: &mut BTreeSet<u64>, number: u64)
+    ensures { numbers.new.keys ≡ without_number number numbers.old.keys }
+{
+    numbers.remove(&number);
+}
+
+fn oldest_of<K: Eq + Hash + Drop>(numbers: &HashMap<K, Numbers>, key: &K) -> Option<u64>
+    ensures { result ≡ first (listed (get K.eq numbers.now key.now)) }
+{
+    numbers.get(key).map(|numbers| numbers.oldest)
 }
 
 fn take_entry<K: Eq + Hash + Drop, V: Drop>(
@@ -223,28 +278,47 @@ fn take_entry<K: Eq + Hash + Drop, V: Drop>(
     ensures rest { entries.new.entries ≡ before_first (has_key K.eq key.now) entries.old.entries
         ++ after_first (has_key K.eq key.now) entries.old.entries }
 {
-    let Some(number) = take_oldest(numbers, key) else {
+    let Some(number) = oldest_of(numbers, key) else {
         return None;
     };
-    entries.remove(&number).map(|(_, value)| value)
+    remove_entry(entries, numbers, number).map(|(_, value)| value)
 }
 
-// Takes the oldest number of the key out.
-fn take_oldest<K: Eq + Hash + Drop>(numbers: &mut HashMap<K, Numbers>, key: &K) -> Option<u64>
-    ensures oldest { result ≡ first (listed (get K.eq numbers.old key.now)) }
-    ensures others { (q : K) → listed (get K.eq numbers.new q)
-        ≡ (if K.eq key.now q then rest (listed (get K.eq numbers.old key.now)) else listed
-        (get K.eq numbers.old q)) }
+// Takes the entry of the number out.
+fn remove_entry<K: Eq + Hash + Drop, V: Drop>(
+    entries: &mut Entries<K, V>,
+    numbers: &mut HashMap<K, Numbers>,
+    number: u64,
+) -> Option<(K, V)>
+    requires { IsIndexed K.eq entries.old.entries numbers.old }
+    ensures indexed { IsIndexed K.eq entries.new.entries numbers.new }
+    ensures entry { result ≡ option_map (λ e. e.1) (find (has_number_lem number) entries.old.entries) }
+    ensures rest { entries.new.entries ≡ without number entries.old.entries }
 {
-    let Some(known) = numbers.get_mut(key) else {
+    let Some(entry) = entries.remove(&number) else {
         return None;
     };
-    let oldest = known.oldest;
-    match known.later.pop_front() {
-        Some(next) => known.oldest = next,
-        None => drop(numbers.remove(key)),
+    unlist(numbers, &entry.0, number);
+    Some(entry)
+}
+
+// Takes a number of the key out.
+fn unlist<K: Eq + Hash + Drop>(numbers: &mut HashMap<K, Numbers>, key: &K, number: u64)
+    ensures { (q : K) → listed (get K.eq numbers.new q)
+        ≡ (if K.eq key.now q then without_number number (listed (get K.eq numbers.old key.now))
+        else listed (get K.eq numbers.old q)) }
+{
+    let Some(known) = numbers.get_mut(key) else {
+        return;
+    };
+    if number == known.oldest {
+        match pop_number(&mut known.later) {
+            Some(next) => known.oldest = next,
+            None => drop(numbers.remove(key)),
+        }
+    } else {
+        remove_number(&mut known.later, number);
     }
-    Some(oldest)
 }
 
 // Puts the keys after those of the list.

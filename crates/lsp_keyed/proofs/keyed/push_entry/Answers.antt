@@ -1,9 +1,12 @@
 -- Where the number can't be listed, the entry is taken out again.
-use Rattle.std.proofs.Common.{ap, ◌∙◌, nat_cmp}
-use Rattle.std.specs.Map.{remove_entry}
-use Rattle.std.specs.BTreeMap.{is_at}
-use Rattle.lsp_keyed.proofs.IndexLemmas.{inserted_last, removed_last, indexed_pushed, indexed_same}
+use Rattle.std.proofs.Common.{ap, sym, ◌∙◌, subst}
+use Rattle.lsp_keyed.specs.Items.{without}
+use Rattle.lsp_keyed.specs.Index.{AreLess}
+use Rattle.lsp_keyed.proofs.IndexLemmas.{inserted_last, removed_number, removed_last, numbers_less, indexed_pushed, indexed_same}
 use Rattle.lsp_keyed.proofs.keyed.push_entry.Goals as goal
+
+pub note-requires : goal.note-requires
+note-requires g c = subst (AreLess c.args.number) (sym (c.requires.indexed.found c.args.same)) (numbers_less (g.K.PartialEq.eq c.args.same) c.args.number c.args.entries.now.entries c.requires.above)
 
 pub returns-in-Ok-clause-ok : goal.returns-in-Ok-clause-ok
 returns-in-Ok-clause-ok g c = c.in_ok-insert.ensures.entries ∙ inserted_last c.args.number (c.args.key, c.args.value) c.args.entries.now.entries c.requires.above
@@ -15,8 +18,8 @@ returns-in-Ok-clause-indexed g c =
 
 pub returns-clause-err : goal.returns-clause-err
 returns-clause-err g c =
-    c.remove.ensures.entries
-    ∙ ap (remove_entry (is_at (nat_cmp c.args.number))) (c.in_ok-insert.ensures.entries ∙ inserted_last c.args.number (c.args.key, c.args.value) c.args.entries.now.entries c.requires.above)
+    c.remove.ensures.entries ∙ removed_number c.args.number c.insert.new.self.entries
+    ∙ ap (without c.args.number) (c.in_ok-insert.ensures.entries ∙ inserted_last c.args.number (c.args.key, c.args.value) c.args.entries.now.entries c.requires.above)
     ∙ removed_last c.args.number (c.args.key, c.args.value) c.args.entries.now.entries c.requires.above
 
 pub returns-clause-indexed : goal.returns-clause-indexed
