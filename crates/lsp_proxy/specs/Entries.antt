@@ -1,5 +1,5 @@
 -- The requests that were passed on and wait for a response, in the order of their drawn ids.
-use Rattle.std.specs.Prelude.{◌≡◌, ℕ, nat_lt, IsTrue, List, [], ◌∷◌, ◌++◌, Bool, true, ◌&&◌, ◌==◌, ⊤, refl, Option, Some, None, if◌then◌else◌}
+use Rattle.std.specs.Prelude.{◌≡◌, ℕ, nat_lt, IsTrue, List, [], ◌∷◌, ◌++◌, Bool, true, ◌&&◌, ◌==◌, refl, Option, Some, None, if◌then◌else◌}
 use Rattle.lsp_rpc.specs.Message.{IdData}
 use Rattle.lsp_rpc.specs.Ids.{same_id, same_id-Decides, id_writes}
 use Rattle.std.specs.Cmp.{IsEquivalence, decided}
@@ -43,11 +43,6 @@ are_below n (e ∷ es) = nat_lt e.n n && are_below n es
 
 abbrev pub AreBelow : ℕ → List Entry → Type 0
 AreBelow n es = IsTrue (are_below n es)
-
--- no two entries have one asker
-abbrev pub AreApart : List Entry → Type 0
-AreApart [] = ⊤
-AreApart (e ∷ es) = (place_of e.asker es ≡ None) × AreApart es
 
 -- ---- askers are equal where their data are
 

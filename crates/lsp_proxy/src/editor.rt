@@ -124,7 +124,8 @@ impl Proxy {
             return one(self.alloc, Side::Editor(k), refused);
         }
         let n = self.next;
-        let sent = one(self.alloc, Side::Server, under_drawn(n, request))?;
+        let passed = under_drawn(n, request);
+        let sent = one(self.alloc, Side::Server, passed)?;
         self.asked.push(n, Asker { editor: k, id })?;
         self.next += 1;
         Ok(sent)
