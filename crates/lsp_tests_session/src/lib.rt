@@ -8,6 +8,8 @@
 #[cfg(test)]
 mod proxy;
 #[cfg(test)]
+mod proxy_rows;
+#[cfg(test)]
 mod read_write;
 #[cfg(test)]
 mod relay;

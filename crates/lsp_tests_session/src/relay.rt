@@ -8,7 +8,7 @@ use std::alloc::{AllocError, Global};
 use std::test::Fail;
 
 // The frames of the texts, one after the other.
-fn framed(alloc: Global, texts: &[&str]) -> Result<Vec<u8>, AllocError> {
+pub(crate) fn framed(alloc: Global, texts: &[&str]) -> Result<Vec<u8>, AllocError> {
     let mut bytes = Vec::new(alloc);
     for text in texts {
         let head = format!(in alloc; "Content-Length: {}\r\n\r\n", text.len())?;
@@ -32,7 +32,7 @@ const SENT: &[&str] = &[
     r#"{"jsonrpc":"2.0","method":"proxy/out","params":{"message":{"id":7,"jsonrpc":"2.0","result":"a"},"side":1}}"#,
 ];
 
-fn arguments_of(alloc: Global, arguments: &[&str]) -> Result<Vec<String>, AllocError> {
+pub(crate) fn arguments_of(alloc: Global, arguments: &[&str]) -> Result<Vec<String>, AllocError> {
     let mut all = Vec::new(alloc);
     for argument in arguments {
         all.push(String::from_str(alloc, argument)?)?;
