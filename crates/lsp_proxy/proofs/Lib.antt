@@ -1,7 +1,10 @@
 pub mod CountLemmas
 pub mod EntryLemmas
+pub mod HereLemmas
 pub mod IdLemmas
 pub mod OriginLemmas
 pub mod ProxyLemmas
+pub mod RowLemmas
 pub mod SentLemmas
 pub mod TableLemmas
+pub mod TakenLemmas

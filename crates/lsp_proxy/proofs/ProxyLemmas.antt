@@ -54,10 +54,10 @@ not_editor (Some m) k h is =
     let same : m ≡ k = cc in
     true≢false (sym (eq-eqb m k same) ∙ h)
 
-of_head : (o : Option ℕ) (e : Entry) (es : List Entry) → AreOf o (e ∷ es) → o ≡ Some e.asker.editor
+pub of_head : (o : Option ℕ) (e : Entry) (es : List Entry) → AreOf o (e ∷ es) → o ≡ Some e.asker.editor
 of_head o e es h = is_editor_some o e.asker.editor (and_parts (is_editor o e.asker.editor) (are_of o es) h).0
 
-of_tail : (o : Option ℕ) (e : Entry) (es : List Entry) → AreOf o (e ∷ es) → AreOf o es
+pub of_tail : (o : Option ℕ) (e : Entry) (es : List Entry) → AreOf o (e ∷ es) → AreOf o es
 of_tail o e es h = (and_parts (is_editor o e.asker.editor) (are_of o es) h).1
 
 same_editor : (k : ℕ) (e : Entry) (es : List Entry) → AreOf (Some k) (e ∷ es) → k ≡ e.asker.editor

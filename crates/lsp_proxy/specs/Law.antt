@@ -1,11 +1,13 @@
 -- What a proxy sends over a list of events.
-use Rattle.std.specs.Prelude.{◌≡◌, ℕ, ◌+◌, List, [], ◌∷◌, ◌++◌, Bool, false, ◌&&◌, ◌==◌, Option, Some, None, if◌then◌else◌, ⊤}
+use Rattle.std.specs.Prelude.{◌≡◌, ◌⊎◌, ℕ, ◌+◌, List, [], ◌∷◌, ◌++◌, Bool, true, false, ◌&&◌, ◌==◌, Option, Some, None, Result, bytes_eq, codes, if◌then◌else◌, ⊤}
 use Rattle.std.specs.List.{AllByRecursion}
-use Rattle.lsp_rpc.specs.Message.{IdData, MessageData, response, request}
+use Rattle.serde_json.specs.Data.{Data}
+use Rattle.lsp_rpc.specs.Message.{IdData, ErrorData, RequestData, MessageData, response, request}
 use Rattle.lsp_rpc.specs.Ids.{same_id}
 use Rattle.lsp_proxy.specs.declared.side.Side.{Side}
 use Rattle.lsp_proxy.specs.declared.side.Side.TheVariants.{Server, Editor}
-use Rattle.lsp_proxy.specs.Proxy.{State, Sent, Outcome, from_editor, from_server}
+use Rattle.lsp_proxy.specs.Entries.{AskerData, Entry}
+use Rattle.lsp_proxy.specs.Proxy.{State, Sent, Outcome, Opening, awaited, from_editor, from_server, presence, is_gone, answer, bare, passed_as, cancel_note, cancel_target}
 
 -- a message, and the side that it comes from
 abbrev pub Event : Type 0
@@ -49,24 +51,91 @@ AreDistinct (i ∷ ids) = AllByRecursion (λ j. same_id i j ≡ false) ids × Ar
 abbrev pub one_if : Bool → ℕ
 one_if b = if b then 1 else 0
 
-abbrev pub is_response_to : ℕ → IdData → Side × MessageData → Bool
-is_response_to k i (Editor j, response r) = (k == j) && same_id i r.id
-is_response_to k i other = false
+abbrev pub same_side : Side → Side → Bool
+same_side Server Server = true
+same_side (Editor k) (Editor j) = k == j
+same_side a b = false
 
--- how many responses editor k gets under the id
-abbrev pub responses_to : ℕ → IdData → Sent → ℕ
-responses_to k i [] = 0
-responses_to k i (s ∷ ss) = one_if (is_response_to k i s) + responses_to k i ss
+abbrev pub is_response_at : Side → IdData → Side × MessageData → Bool
+is_response_at side i (to, response r) = same_side side to && same_id i r.id
+is_response_at side i (to, request r) = false
+
+-- how many responses the side gets under the id
+abbrev pub responses_at : Side → IdData → Sent → ℕ
+responses_at side i [] = 0
+responses_at side i (s ∷ ss) = one_if (is_response_at side i s) + responses_at side i ss
 
 abbrev pub has_id : IdData → Option IdData → Bool
 has_id i None = false
 has_id i (Some j) = same_id i j
 
+abbrev pub is_request_at : Side → IdData → Event → Bool
+is_request_at side i (from, request r) = same_side side from && has_id i r.id
+is_request_at side i (from, response r) = false
+
+-- how many requests the side sends under the id
+abbrev pub requests_at : Side → IdData → List Event → ℕ
+requests_at side i [] = 0
+requests_at side i (e ∷ es) = one_if (is_request_at side i e) + requests_at side i es
+
+-- how many responses editor k gets under the id
+abbrev pub responses_to : ℕ → IdData → Sent → ℕ
+responses_to k i ss = responses_at (Editor k) i ss
+
 abbrev pub is_request_of : ℕ → IdData → Event → Bool
-is_request_of k i (Editor j, request r) = (k == j) && has_id i r.id
-is_request_of k i other = false
+is_request_of k i e = is_request_at (Editor k) i e
 
 -- how many requests editor k sends under the id
 abbrev pub requests_of : ℕ → IdData → List Event → ℕ
-requests_of k i [] = 0
-requests_of k i (e ∷ es) = one_if (is_request_of k i e) + requests_of k i es
+requests_of k i es = requests_at (Editor k) i es
+
+-- ---- who gets what
+
+-- the editor that it goes to isn't gone
+abbrev pub GoesToOneHere : State → Side × MessageData → Type 0
+GoesToOneHere s (Editor k, m) = is_gone (presence k s) ≡ false
+GoesToOneHere s (Server, m) = ⊤
+
+abbrev pub IsAmong : {X : Type 0} → X → List X → Type 0
+IsAmong {X} x xs = (earlier : List X) × (later : List X) × (xs ≡ earlier ++ x ∷ later)
+
+-- the asker waits for the response to `initialize` under n
+abbrev pub WaitsUnder : ℕ → AskerData → Opening → Type 0
+WaitsUnder n a o = (askers : List AskerData) × (o ≡ awaited n askers) × IsAmong a askers
+
+-- the request goes on under the next id, where its asker waits for the response
+abbrev pub IsPassedOn : RequestData → AskerData → State → Outcome → Type 0
+IsPassedOn r a s o =
+    (o.1 ≡ (Server, passed_as s.next (bare r)) ∷ [])
+    × (IsAmong {X = Entry} (record { n = s.next; asker = a }) o.0.asked ⊎ WaitsUnder s.next a o.0.opening)
+
+-- nothing is sent, and its asker waits for the response to an `initialize` that was passed on
+abbrev pub IsWaiting : AskerData → Outcome → Type 0
+IsWaiting a o = (o.1 ≡ []) × (n : ℕ) × WaitsUnder n a o.0.opening
+
+abbrev pub IsAnswered : AskerData → Outcome → Type 0
+IsAnswered a o = (body : Result Data ErrorData) × (o.1 ≡ (Editor a.editor, answer a.id body) ∷ [])
+
+abbrev pub IsTaken : RequestData → AskerData → State → Outcome → Type 0
+IsTaken r a s o = IsPassedOn r a s o ⊎ (IsWaiting a o ⊎ IsAnswered a o)
+
+-- ---- cancels
+
+abbrev pub is_none : Option IdData → Bool
+is_none None = true
+is_none (Some i) = false
+
+abbrev pub is_cancel : RequestData → Bool
+is_cancel r = is_none r.id && bytes_eq r.method (codes "$/cancelRequest")
+
+-- the server is sent the number of an entry of editor k under the id that the cancel names
+abbrev pub CancelsAsked : ℕ → RequestData → State → Side × MessageData → Type 0
+CancelsAsked k r s sent =
+    (i : IdData) × (n : ℕ) × (cancel_target r.params ≡ Some i) × (sent ≡ (Server, cancel_note n))
+    × IsAmong {X = Entry} (record { n = n; asker = record { editor = k; id = i } }) s.asked
+
+-- an editor is sent the number of an entry of its own under the id that the server's cancel names
+abbrev pub CancelsRequested : RequestData → State → Side × MessageData → Type 0
+CancelsRequested r s sent =
+    (i : IdData) × (n : ℕ) × (k : ℕ) × (cancel_target r.params ≡ Some i) × (sent ≡ (Editor k, cancel_note n))
+    × IsAmong {X = Entry} (record { n = n; asker = record { editor = k; id = i } }) s.requested

@@ -1,10 +1,12 @@
 //! What holds over any list of messages.
-ghost use Rattle.std.specs.Prelude.{ℕ, List, ◌≤◌};
-ghost use Rattle.lsp_rpc.specs.Message.{IdData};
-ghost use Rattle.lsp_proxy.specs.Law.{Event, react, sent_over, request_ids, AreDistinct, responses_to, requests_of};
+ghost use Rattle.std.specs.Prelude.{ℕ, List, ◌≤◌, ◌≡◌, Some, true, false};
+ghost use Rattle.lsp_rpc.specs.Message.{IdData, RequestData, request};
+ghost use Rattle.lsp_proxy.specs.declared.side.Side.{Side as SideOf};
+ghost use Rattle.lsp_proxy.specs.declared.side.Side.TheVariants.{Editor, Server};
+ghost use Rattle.lsp_proxy.specs.Law.{Event, react, sent_over, request_ids, AreDistinct, responses_at, requests_at, GoesToOneHere, IsTaken, is_cancel, CancelsAsked, CancelsRequested};
 ghost use Rattle.std.specs.List.{AllByRecursion};
 ghost use Rattle.lsp_proxy.specs.Origin.{HasOrigin, state_of};
-ghost use Rattle.lsp_proxy.specs.Proxy.{opening_state};
+ghost use Rattle.lsp_proxy.specs.Proxy.{State, opening_state, presence, is_gone};
 
 /// No two requests that a proxy sends have one id, whichever side they go to.
 pub fn ids_differ()
@@ -12,10 +14,12 @@ pub fn ids_differ()
         → AreDistinct (request_ids (sent_over events (opening_state editors))) }
 {}
 
-/// An editor gets at most as many responses under an id as it sent requests under it.
+/// The server and each editor get at most as many responses under an id as they sent requests
+/// under it.
 pub fn responses_asked()
-    ensures { (editors : ℕ) (events : List Event) (k : ℕ) (i : IdData)
-        → responses_to k i (sent_over events (opening_state editors)) ≤ requests_of k i events }
+    ensures { (editors : ℕ) (events : List Event) (side : SideOf) (i : IdData)
+        → responses_at side i (sent_over events (opening_state editors))
+        ≤ requests_at side i events }
 {}
 
 /// Each response that an editor gets is the proxy's own, at its request under that id, or the body
@@ -26,4 +30,33 @@ pub fn responses_come()
     ensures { (editors : ℕ) (history : List Event) (event : Event)
         → AllByRecursion (HasOrigin editors history event)
         (react event (state_of editors history)).1 }
+{}
+
+/// Nothing goes to an editor that is gone.
+pub fn gone_hear_nothing()
+    ensures { (editors : ℕ) (history : List Event) (event : Event)
+        → AllByRecursion (GoesToOneHere (state_of editors history))
+        (react event (state_of editors history)).1 }
+{}
+
+/// Each request of an editor that isn't gone is passed on and alone is sent, or waits for the
+/// response to `initialize`, or is answered.
+pub fn requests_taken()
+    ensures { (s : State) (k : ℕ) (r : RequestData) (i : IdData) → r.id ≡ Some i
+        → is_gone (presence k s) ≡ false
+        → IsTaken r (record { editor = k; id = i }) s (react (Editor k, request r) s) }
+{}
+
+/// What an editor's cancel sends carries the number of an open request of that editor under the id
+/// that it names.
+pub fn editor_cancels_its_own()
+    ensures { (s : State) (k : ℕ) (r : RequestData) → is_cancel r ≡ true
+        → AllByRecursion (CancelsAsked k r s) (react (Editor k, request r) s).1 }
+{}
+
+/// What the server's cancel sends carries the number of an open request of the server under the id
+/// that it names, and goes to the editor that has it.
+pub fn server_cancels_its_own()
+    ensures { (s : State) (r : RequestData) → is_cancel r ≡ true
+        → AllByRecursion (CancelsRequested r s) (react (Server, request r) s).1 }
 {}
