@@ -3,10 +3,12 @@
 
 Two editors send SIZE requests, which stay open. Then, with those open, EVENTS further events are measured: a
 request of an editor, the server's response to it, a request that is refused because its id is open, and a
-cancel of an open request.
+cancel of an open request. The same with SIZE requests of the server that stay open under one id: a request of the
+server under that id, an editor's response to it, a response to one in the midst of those that are open, and a
+request of the server in its place, so that responses come in another order than requests.
 
 Then the server sends NOTES notifications of about 13 KB to each number of editors in EDITORS. The time is the
-processor's in both.
+processor's in all.
 
 Usage: bench/proxy.py [PROGRAM [PROGRAM]] [SIZE ..]     (default: 1000 10000 100000)
 """
@@ -54,6 +56,29 @@ def answered(size):
     yield told(1, LAST)
 
 
+def opened_alike(size):
+    """The requests of the server that stay open, all under one id."""
+    return (told(0, request(7)) for _ in range(size))
+
+
+def responded(drawn):
+    return told(1, b'{"id":%d,"jsonrpc":"2.0","result":null}' % drawn)
+
+
+def answered_alike(size):
+    """The events that are measured, four at a time; the first and the last of four draw an id."""
+    midst = [number * 7919 % size for number in range(min(size, EVENTS // 4))]
+    for number in range(EVENTS // 4):
+        drawn = size + 2 * number
+        place = number % len(midst)
+        yield told(0, request(7))
+        yield responded(drawn)
+        yield responded(midst[place])
+        yield told(0, request(7))
+        midst[place] = drawn + 1
+    yield told(1, LAST)
+
+
 def note():
     """A notification of the server: 120 diagnostics of one document."""
     diagnostics = b",".join(DIAGNOSTIC % (number, number, number) for number in range(120))
@@ -93,6 +118,16 @@ def events(size):
     return Row("proxy/events", "lsp_proxy_main", [Figure(title, "us"), Figure(title, "peak KiB", max)], run, inputs)
 
 
+def events_alike(size):
+    title = "an event of the proxy, {:,} open requests under one id".format(size)
+
+    def run(program, before, after):
+        seconds, kilobytes = fed(program, 2, before, sent(1, request(size - 1)), after)
+        return seconds * 1e6 / EVENTS, kilobytes
+    inputs = [lambda file: file.writelines(opened_alike(size)), lambda file: file.writelines(answered_alike(size))]
+    return Row("proxy/alike", "lsp_proxy_main", [Figure(title, "us"), Figure(title, "peak KiB", max)], run, inputs)
+
+
 def broadcast(editors):
     title = "a notification of {:,} bytes, editors: {}".format(len(note()), editors)
 
@@ -105,6 +140,7 @@ def broadcast(editors):
 
 def rows(sizes):
     yield from map(events, sizes.or_else(1_000, 10_000, 100_000))
+    yield from map(events_alike, sizes.or_else(1_000, 10_000, 100_000))
     yield from map(broadcast, EDITORS)
 
 
