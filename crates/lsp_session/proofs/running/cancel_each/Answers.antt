@@ -12,10 +12,10 @@ returns-in_err-error-clause-part c =
     on_any_err c.from_residual.result
     (some_left (map show_message c.args.out.now.messages.items) (map cancelled (map show_id c.args.ids.items)) (map show_message c.loop-id.out.messages.items) (map cancelled (map show_id c.loop-id.rest.items)) c.loop-id.invariant.total c.loop-id.invariant.put)
 
-pub returns-in_err-put-clause-part : goal.returns-in_err-put-clause-part
-returns-in_err-put-clause-part c =
+pub returns-in_err-answer-clause-part : goal.returns-in_err-answer-clause-part
+returns-in_err-answer-clause-part c =
     let old = map show_message c.args.out.now.messages.items in
     let left = map cancelled (map show_id c.loop-id.rest.items) in
-    let same = c.in_err-put.ensures.err in
-    on_any_err c.from_residual-in_err-put.result
-    (some_left old (map cancelled (map show_id c.args.ids.items)) (map show_message c.put.new.out.messages.items) left (ap (λ l. l ++ left) same ∙ c.loop-id.invariant.total) (subst (Extends old) (sym same) c.loop-id.invariant.put))
+    let same = c.in_err-answer.ensures.err in
+    on_any_err c.from_residual-in_err-answer.result
+    (some_left old (map cancelled (map show_id c.args.ids.items)) (map show_message c.answer.new.self.messages.items) left (ap (λ l. l ++ left) same ∙ c.loop-id.invariant.total) (subst (Extends old) (sym same) c.loop-id.invariant.put))
