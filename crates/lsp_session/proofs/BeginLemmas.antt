@@ -100,7 +100,7 @@ module _ {H C T : Type 0} (semantics : Semantics H C T) where
   admission_starts s (fault code) = tt
   admission_starts s tick = tt
 
-  requested : (s : State H semantics.Call semantics.Task) (item : ItemData) (id : Option IdData) (entry : Entry) (c : semantics.Call) → (admission_of semantics s item).verdict ≡ Starts id entry c
+  pub requested : (s : State H semantics.Call semantics.Task) (item : ItemData) (id : Option IdData) (entry : Entry) (c : semantics.Call) → (admission_of semantics s item).verdict ≡ Starts id entry c
       → IsRequested semantics s.service item id entry c
   requested s item id entry c e = subst (StartsAre (λ id entry c. IsRequested semantics s.service item id entry c)) e (admission_starts s item)
 

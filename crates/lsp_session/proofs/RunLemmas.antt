@@ -21,6 +21,7 @@ use Rattle.lsp_session.specs.Count.{one_if, times, answers_to, faults}
 use Rattle.lsp_session.specs.Laws.{FactsHold, AnsweredOnce, CancelledOnce, RoundsPollAll, is_fresh, polled_by}
 use Rattle.lsp_session.proofs.FitLemmas.{or_none, none_both, none_out, no_length}
 use Rattle.lsp_session.proofs.FactLemmas.{fits_opening, step_fits}
+use Rattle.lsp_session.proofs.SoundLemmas.{run_sound}
 use Rattle.lsp_session.proofs.CountLemmas.{run_counts, run_says, step_settled, step_table, polls_settled}
 use Rattle.lsp_session.proofs.LifeLemmas.{rounds_exited, step_lives}
 use Rattle.lsp_session.proofs.LawLemmas.{exits, admitted_out}
@@ -97,6 +98,7 @@ module _ {H C T : Type 0} (semantics : Semantics H C T) (laws : IsLawful semanti
   facts order rounds service items e last h = (
     run_settled order rounds _ _ items e (settled_opening service h.max h.wait) h.runs,
     run_fits order rounds _ _ items e (fits_opening service h.max h.wait h.some) h.runs,
+    λ none. run_sound semantics laws order rounds _ _ items e none tt h.runs,
   )
 
   pub answered : {P : Type 0} (order : Order P) → AnsweredOnce semantics order

@@ -10,10 +10,11 @@ use Rattle.lsp_desk.specs.Lives.{rank}
 use Rattle.lsp_session.specs.declared.table.Entry.{Entry}
 use Rattle.lsp_session.specs.declared.table.Layer.{Layer}
 use Rattle.lsp_session.specs.declared.table.Layer.TheVariants.{Initialize, Exit, Cancel}
-use Rattle.lsp_session.specs.Item.{ItemData, message}
+use Rattle.lsp_session.specs.Item.{ItemData, message, item_has_float}
 use Rattle.lsp_session.specs.Semantics.{Semantics, Phase, Fresh, Held}
 use Rattle.lsp_session.specs.Admission.{Cancels, Starts, is_live, cancelled_id}
 use Rattle.lsp_session.specs.State.{Work, State, Effect, IsSettled, FitsLife, live, opening, marked, dues}
+use Rattle.lsp_session.specs.Works.{AreSound}
 use Rattle.lsp_session.specs.Run.{answer, cancelled, Admits, admission_of, Order, Poll, PollsAt, Round, Drains, Picked, Step, Run, is_exit, has_exit}
 use Rattle.lsp_session.specs.Count.{times, answers_to, owed, Counts}
 
@@ -98,10 +99,11 @@ pub record Serves {H C T P : Type 0} (semantics : Semantics H C T) (order : Orde
   pub then : P
   pub runs : Run (Step semantics order rounds) (record { session = opening service max wait; pick = pick }) items e (record { session = last; pick = then })
 
--- in every state that a run comes to the live ids differ, no call waits while a slot is free, and the calls fit the life
+-- in every state that a run comes to the live ids differ, no call waits while a slot is free, the calls fit the life, and
+-- where no item holds a float each call is sound
 abbrev pub FactsHold : {H C T P : Type 0} → Semantics H C T → Order P → Type 0
 FactsHold {H} semantics order = (rounds : ℕ) (service : H) (items : List ItemData) (e : Effect) (last : State H semantics.Call semantics.Task)
-    → Serves semantics order rounds service items e last → IsSettled last × FitsLife last
+    → Serves semantics order rounds service items e last → IsSettled last × FitsLife last × (list_any item_has_float items ≡ false → AreSound semantics (last.slots ++ last.queue))
 
 -- each owed request and each fault is answered once, but for the requests that are still live; after an exit none is
 pub record AnsweredOnce {H C T P : Type 0} (semantics : Semantics H C T) (order : Order P) : Type 0 where

@@ -37,8 +37,8 @@ pub fn lives_go_on<D: Caller, H: Handlers<D>>()
     ensures { LivesGoOn H.semantics }
 {}
 
-/// In every state that a run comes to, live ids differ, no call waits while a slot is free, and the
-/// calls fit the life.
+/// In every state that a run comes to, live ids differ, no call waits while a slot is free, the calls
+/// fit the life, and where no item holds a float each call is sound.
 pub fn facts_hold<D: Caller, H: Handlers<D>, P: Pick>()
     ensures { FactsHold H.semantics (order_by P.gives P.later) }
 {}
