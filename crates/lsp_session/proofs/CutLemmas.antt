@@ -5,7 +5,8 @@ use Rattle.std.proofs.lemmas.List.{append-nil, append_cancel_left}
 use Rattle.lsp_rpc.specs.Message.{RequestData, MessageData, request}
 use Rattle.lsp_desk.specs.Trace.{Makes}
 use Rattle.lsp_desk.specs.Meaning.{Meaning, Grows, Grown, PollsOn}
-use Rattle.lsp_desk.proofs.TraceLemmas.{grows_none, grows_on, makes_of}
+use Rattle.lsp_desk.proofs.TraceLemmas.{grows_none, grows_on, makes_of, makes_life}
+use Rattle.lsp_desk.specs.declared.life.Life.TheVariants.{Exited}
 use Rattle.lsp_session.specs.Item.{ItemData}
 use Rattle.lsp_session.specs.Semantics.{Semantics}
 use Rattle.lsp_session.specs.State.{State, Effect, nothing, both, marked, dues, live, moved_up}
@@ -178,3 +179,8 @@ closed_quits m s old new messages same chief done = record {
   leaves = refl;
   adds = refl;
 }
+
+-- and the life then
+pub closed_life : {D : Type 0} (m : Meaning D) (old new : D) (messages : List RequestData) → m.chief old ≡ true → PollsOn m old new (λ own. own ≡ closed messages ∷ []) → Exited ≡ (m.now new).life
+closed_life m old new messages chief done =
+    sym (makes_life (m.now old) (m.now new) (closed messages ∷ []) done.trace (makes_of m old new done.trace (closed messages ∷ []) chief done.grows done.holds))

@@ -1,16 +1,16 @@
 -- What a failing call leaves of the life.
-use Rattle.std.proofs.Common.{◌≡◌, inl, inr, List, [], true, sym, ◌∙◌, ap, subst}
-use Rattle.std.specs.Prelude.{Result, Ok, Err, IfErr, OnErr}
+use Rattle.std.proofs.Common.{◌≡◌, ◌^◌, ◌-◌, ℕ, refl, inl, inr, List, [], true, sym, ◌∙◌, ap, subst}
+use Rattle.std.specs.Prelude.{Result, Ok, Err, IfOk, IfErr}
 use Rattle.lsp_desk.specs.declared.life.Life.{Life}
 use Rattle.lsp_desk.specs.declared.call.DeskFault.{DeskFault}
 use Rattle.lsp_desk.specs.declared.call.DeskFault.TheVariants as faults
 use Rattle.lsp_desk.specs.Call.{Call, is_client}
 use Rattle.lsp_desk.specs.Reply.{Reply}
 use Rattle.lsp_desk.specs.Trace.{DeskEntry, owns}
-use Rattle.lsp_desk.specs.Meaning.{Meaning, Calls, Adds, Spends, FailsOn}
+use Rattle.lsp_desk.specs.Meaning.{Meaning, Calls, Adds, Spends, PollsOn, FailsOn}
 use Rattle.lsp_desk.proofs.TraceLemmas.{life_is, life_along, grows_none}
 use Rattle.lsp_session.specs.Semantics.{AreClient}
-use Rattle.lsp_session.specs.Fails.{PollFails, KeepsLife}
+use Rattle.lsp_session.specs.Fails.{PollFails, KeepsLife, FailsKept, Called}
 use Rattle.lsp_session.proofs.PollLemmas.{client_along}
 
 -- ---- a call that failed
@@ -22,6 +22,21 @@ none_along show _ (faults.Spent n) own life is = ap (life_along life) is
 
 pub failed_life : {D R : Type 0} (m : Meaning D) (show : R → Reply) (old new : D) (call : Call) (fault : DeskFault) → m.chief old ≡ true → Calls m show old call (Err fault) new → KeepsLife m old new
 failed_life m show old new call fault chief p = life_is (m.now old) (m.now new) p.trace p.grows.replays (p.grows.others chief) ∙ none_along show call fault (owns p.trace) (m.now old).life p.adds
+
+-- what a call says of a fault that its desk is spent
+abbrev pub SaysSpent : {D A : Type 0} → Meaning D → D → Result A DeskFault → Type 0
+SaysSpent m new r = (n : ℕ) → r ≡ Err (faults.Spent n) → (n ≡ 2 ^ 64 - 1) × (m.spent new ≡ true)
+
+spends_of : {D A : Type 0} (m : Meaning D) (new : D) (fault : DeskFault) → SaysSpent {A = A} m new (Err fault) → Spends m new fault
+spends_of m new faults.NoMemory says = tt
+spends_of m new (faults.Spent n) says = says n refl
+
+pub call_failed : {D R : Type 0} (m : Meaning D) (show : R → Reply) (old new : D) (call : Call) (fault : DeskFault) → m.chief old ≡ true → Calls m show old call (Err fault) new → SaysSpent {A = R} m new (Err fault)
+    → FailsKept m old new fault
+call_failed {R = R} m show old new call fault chief p says = record {
+  failed = record { trace = p.trace; grows = p.grows; spends = spends_of {A = R} m new fault says };
+  kept = failed_life m show old new call fault chief p;
+}
 
 -- ---- a poll that failed
 
@@ -44,6 +59,11 @@ poll_fails m old new fault p = record { trace = p.trace; grows = p.grows; spends
 pub poll_life : {D : Type 0} (m : Meaning D) (old new : D) (fault : DeskFault) → m.chief old ≡ true → PollFails m old new fault → KeepsLife m old new
 poll_life m old new fault chief p = life_is (m.now old) (m.now new) p.trace p.grows.replays (p.grows.others chief) ∙ client_along (m.now old).life (owns p.trace) p.asks
 
-pub polls_life : {A D : Type 0} (m : Meaning D) (old new : D) (r : Result A DeskFault) → m.chief old ≡ true → IfErr r (λ fault. PollFails m old new fault) → OnErr r (KeepsLife m old new)
-polls_life m old new (Ok x) chief p = tt
-polls_life m old new (Err fault) chief p = poll_life m old new fault chief p
+pub poll_failed : {D : Type 0} (m : Meaning D) (old new : D) (fault : DeskFault) → m.chief old ≡ true → PollFails m old new fault → FailsKept m old new fault
+poll_failed m old new fault chief p = record { failed = poll_fails m old new fault p; kept = poll_life m old new fault chief p }
+
+-- what a server's poll says is said of the calls on the desk
+pub poll_called : {A D : Type 0} (m : Meaning D) (old new : D) (P : A → List DeskEntry → Type 0) (r : Result A DeskFault) → m.chief old ≡ true → IfOk r (λ x. PollsOn m old new (P x)) → IfErr r (λ fault. PollFails m old new fault)
+    → Called m old P new r
+poll_called m old new P (Ok x) chief begun failed = begun
+poll_called m old new P (Err fault) chief begun failed = poll_failed m old new fault chief failed

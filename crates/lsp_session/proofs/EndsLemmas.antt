@@ -1,0 +1,46 @@
+-- How calls of a session end.
+use Rattle.std.proofs.Common.{◌≡◌, inl, inr, sym, subst, ◌++◌}
+use Rattle.std.specs.Prelude.{Result, Ok, Err}
+use Rattle.std.specs.Result.{IsErrAnd}
+use Rattle.lsp_desk.specs.declared.call.DeskFault.{DeskFault}
+use Rattle.lsp_desk.specs.declared.call.DeskFault.TheVariants as faults
+use Rattle.lsp_desk.specs.Meaning.{Meaning, FailsOn}
+use Rattle.lsp_desk.proofs.TraceLemmas.{grows_on}
+use Rattle.lsp_session.specs.declared.running.Running.{Running}
+use Rattle.lsp_session.specs.Semantics.{Semantics}
+use Rattle.lsp_session.specs.State.{State, Effect}
+use Rattle.lsp_session.specs.Session.{IsCut}
+use Rattle.lsp_session.specs.View.{running_view, Keeps, KeepsAll, TellsLife}
+use Rattle.lsp_session.specs.Ends.{Does, Breaks, CallEnds, PartEnds}
+use Rattle.lsp_session.proofs.RunningLemmas.{extends_as}
+
+module _ {H D C T : Type 0} (semantics : Semantics H C T) (m : Meaning D) (old new : Running H D C T) (P : State H semantics.Call semantics.Task → Effect → State H semantics.Call semantics.Task → Type 0) where
+  -- an error that a `?` made
+  pub breaks : {A : Type 0} (r : Result A DeskFault) (fault : DeskFault) → IsErrAnd r (λ x. x ≡ fault) → Breaks semantics m old P new fault → CallEnds semantics m old P new r
+  breaks (Ok x) fault is b = absurd is
+  breaks (Err e) fault is b = subst (Breaks semantics m old P new) (sym is) b
+
+  pub breaks_part : {A : Type 0} (r : Result A DeskFault) (fault : DeskFault) → IsErrAnd r (λ x. x ≡ fault) → Breaks semantics m old P new fault → PartEnds semantics m old P new r
+  breaks_part (Ok x) fault is b = absurd is
+  breaks_part (Err e) fault is b = subst (Breaks semantics m old P new) (sym is) b
+
+  -- nothing was put out, and no exit was noted
+  pub breaks_silent : (fault : DeskFault) → (running_view semantics m new).out ≡ (running_view semantics m old).out → new.exited ≡ old.exited → FailsOn m old.desk new.desk fault → TellsLife m new
+      → Breaks semantics m old P new fault
+  breaks_silent fault out exited failed life = record { failed = failed; stays = record { out = extends_as _ _ out; exited = exited }; puts = inl out; life = life }
+
+  -- out of memory, after all calls on the desk
+  pub breaks_short : IsCut m (running_view semantics m old) P (running_view semantics m new) → new.exited ≡ old.exited → TellsLife m new → Breaks semantics m old P new faults.NoMemory
+  breaks_short cut exited life = record {
+    failed = record { trace = cut.effect.trace ++ cut.further.trace; grows = grows_on m old.desk cut.desk new.desk cut.effect.trace cut.further.trace cut.grows cut.further.grows; spends = tt };
+    stays = record { out = record { more = cut.puts.some; is = cut.puts.is }; exited = exited };
+    puts = inr cut;
+    life = life;
+  }
+
+  -- what a call's last part does, the call does
+  pub ends_after : {A : Type 0} (mid : Running H D C T) (Q : State H semantics.Call semantics.Task → Effect → State H semantics.Call semantics.Task → Type 0) (r : Result A DeskFault)
+      → (Does semantics m (Keeps semantics m) mid Q new → Does semantics m (KeepsAll semantics m) old P new) → ((fault : DeskFault) → Breaks semantics m mid Q new fault → Breaks semantics m old P new fault)
+      → PartEnds semantics m mid Q new r → CallEnds semantics m old P new r
+  ends_after mid Q (Ok x) does breaks p = does p
+  ends_after mid Q (Err e) does breaks p = breaks e p
