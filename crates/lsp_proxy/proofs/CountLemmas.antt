@@ -146,12 +146,12 @@ module _ (side : Side) (i : IdData) where
       omega (arith, pays, more)
   bound_row s (answers k r id body under own here) = let pays = paid (Editor k) r id under in omega (arith, pays)
   bound_row s (cancels k r) = let none = none_cancel Server (asked_place k (cancel_target r.params) s) in omega (arith, none)
-  bound_row s (leaves k r) =
+  bound_row s (leaves k r exit) =
       let refusals = all_refused (filter (is_of k) s.requested) in
       let parts = total-filter (λ e. owed_server e.asker) (is_of k) s.requested in
       omega (arith, refusals, parts)
-  bound_row s (closes k r) = let parts = left_pays k s (shutdown_request s.next) refl in omega (arith, parts)
-  bound_row s (ends k r) = let parts = left_pays k s exit_note refl in omega (arith, parts)
+  bound_row s (closes k r exit) = let parts = left_pays k s (shutdown_request s.next) refl in omega (arith, parts)
+  bound_row s (ends k r exit) = let parts = left_pays k s exit_note refl in omega (arith, parts)
   bound_row s (replies k r n a at) = let less = total-without owed_server n a s.requested at in omega (arith, less)
   bound_row s (opens r n m askers under is at) =
       let was : in_opening s.opening ≡ total owed_asker askers = ap in_opening is in

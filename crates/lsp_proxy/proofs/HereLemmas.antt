@@ -1,18 +1,22 @@
--- Nothing goes to an editor that is gone.
-use Rattle.std.proofs.Common.{◌≡◌, ◌+◌, arith, ℕ, suc, List, [], ◌∷◌, ◌++◌, Bool, true, false, cond, not, Option, Some, None, option_and_then, Result, map, nat_lt, refl, sym, ap, ◌∙◌, subst, true≢false}
+-- Who is here, and that nothing goes to others.
+use Rattle.std.proofs.Common.{◌≡◌, ◌<◌, ◌+◌, arith, ℕ, zero, suc, List, [], ◌∷◌, ◌++◌, Bool, true, false, cond, not, ◌==◌, Option, Some, None, option_and_then, Result, map, nat_lt, ltb-true, lt-ltb, bytes_eq, codes, refl, sym, ap, ◌∙◌, subst, true≢false}
+use Rattle.std.specs.Prelude.{⊤, slice_set, replicate}
 use Rattle.std.specs.List.{AllByRecursion, filter}
+use Rattle.std.proofs.lemmas.Bool.{eqb-true, eq-eqb, and_parts, and_from}
+use Rattle.std.proofs.lemmas.Slice.Eq.{bytes_eq-Decides}
 use Rattle.serde_json.specs.Data.{Data}
-use Rattle.lsp_rpc.specs.Message.{IdData, ErrorData, RequestData, request}
+use Rattle.lsp_rpc.specs.Message.{IdData, ErrorData, RequestData, MessageData, response, request}
 use Rattle.lsp_rpc.specs.Ids.{same_id}
 use Rattle.lsp_proxy.specs.declared.side.Side.{Side}
 use Rattle.lsp_proxy.specs.declared.side.Side.TheVariants.{Server, Editor}
 use Rattle.lsp_proxy.specs.declared.side.Presence.{Presence}
+use Rattle.lsp_proxy.specs.declared.side.Presence.TheVariants.{Here, Down, Gone}
 use Rattle.lsp_proxy.specs.Entries.{AskerData, Entry}
-use Rattle.lsp_proxy.specs.Proxy.{State, Sent, bare, cancel_limit, cancel_note, shutdown_request, exit_note, refused, is_of, cancel_passed, asked_place, cancel_target, answered_to, is_here_in, is_here, first_requested, cancel_entry, here_from, first_of, lowest, presence_in, presence, is_gone, AreOf}
-use Rattle.lsp_proxy.specs.Law.{Event, react, GoesToOneHere}
+use Rattle.lsp_proxy.specs.Proxy.{State, Sent, Outcome, bare, cancel_limit, cancel_note, shutdown_request, exit_note, refused, is_of, cancel_passed, asked_place, cancel_target, answered_to, is_here_in, is_here, first_requested, cancel_entry, here_from, first_of, lowest, presence_in, presence, is_gone, AreOf, last_id, last_message, answers_internal, left, closed, leave, called, are_gone_but, from_editor}
+use Rattle.lsp_proxy.specs.Law.{Event, react, GoesToOneHere, is_none, is_exit, is_exit_of, is_here_after}
 use Rattle.lsp_proxy.specs.Origin.{state_of}
 use Rattle.lsp_proxy.proofs.ProxyLemmas.{of_head, of_tail, of-without, of-pushed, of_left, lowest-down}
-use Rattle.lsp_proxy.proofs.RowLemmas.{Row, idle, begins, waits, shuts, passes, answers, announces, notes, cancels, leaves, closes, ends, replies, stray, is_shut, opens, returns, calls, refuses, server_cancels, tells, after, sent_at, row}
+use Rattle.lsp_proxy.proofs.RowLemmas.{Row, idle, begins, waits, shuts, passes, answers, announces, notes, cancels, leaves, closes, ends, replies, stray, is_shut, opens, returns, calls, refuses, server_cancels, tells, event_of, after, sent_at, row}
 
 -- ---- editors that are here
 
@@ -40,8 +44,13 @@ lowest_here ps k is = go (here_from 0 ps) is (here_all ps)
 
 -- ---- what is sent
 
+-- the editor that it goes to isn't gone
+abbrev GoesHere : State → Side × MessageData → Type 0
+GoesHere s (Editor k, m) = is_gone (presence k s) ≡ false
+GoesHere s (Server, m) = ⊤
+
 abbrev Goes : State → Sent → Type 0
-Goes s sent = AllByRecursion (GoesToOneHere s) sent
+Goes s sent = AllByRecursion (GoesHere s) sent
 
 goes_refused : (s : State) (es : List Entry) (more : Sent) → Goes s more → Goes s (map refused es ++ more)
 goes_refused s [] more m = m
@@ -72,7 +81,7 @@ goes_returned : (s : State) (body : Result Data ErrorData) (a : AskerData) (b : 
 goes_returned s body a true is = (not_gone (is_gone (presence a.editor s)) is, tt)
 goes_returned s body a false is = tt
 
-goes_cancel : (s : State) (to : Side) (o : Option ℕ) → GoesToOneHere s (to, exit_note) → Goes s (cancel_passed to o)
+goes_cancel : (s : State) (to : Side) (o : Option ℕ) → GoesHere s (to, exit_note) → Goes s (cancel_passed to o)
 goes_cancel s to None here = tt
 goes_cancel s Server (Some n) here = go (nat_lt n cancel_limit)
   where
@@ -104,9 +113,9 @@ goes_row s of (answers k r i body under own here) = (here, tt)
 goes_row s of (announces k r) = (tt, tt)
 goes_row s of (notes k r) = (tt, tt)
 goes_row s of (cancels k r) = goes_cancel s Server (asked_place k (cancel_target r.params) s) tt
-goes_row s of (leaves k r) = all_refused s (filter (is_of k) s.requested)
-goes_row s of (closes k r) = goes_refused s (filter (is_of k) s.requested) ((Server, shutdown_request s.next) ∷ []) (tt, tt)
-goes_row s of (ends k r) = goes_refused s (filter (is_of k) s.requested) ((Server, exit_note) ∷ []) (tt, tt)
+goes_row s of (leaves k r exit) = all_refused s (filter (is_of k) s.requested)
+goes_row s of (closes k r exit) = goes_refused s (filter (is_of k) s.requested) ((Server, shutdown_request s.next) ∷ []) (tt, tt)
+goes_row s of (ends k r exit) = goes_refused s (filter (is_of k) s.requested) ((Server, exit_note) ∷ []) (tt, tt)
 goes_row s of (replies k r n a at) = (tt, tt)
 goes_row s of (stray r n under none apart) = tt
 goes_row s of (is_shut r n under at) = (tt, tt)
@@ -128,9 +137,9 @@ OfLowest s = AreOf (lowest s.editors) s.requested
 
 of_row : (s : State) → OfLowest s → (x : Row s) → OfLowest (after x)
 of_row s of (shuts k r i under method here) = subst (λ o. AreOf o s.requested) (sym (lowest-down k s.editors here)) of
-of_row s of (leaves k r) = of_left k s.editors s.requested of
-of_row s of (closes k r) = of_left k s.editors s.requested of
-of_row s of (ends k r) = of_left k s.editors s.requested of
+of_row s of (leaves k r exit) = of_left k s.editors s.requested of
+of_row s of (closes k r exit) = of_left k s.editors s.requested of
+of_row s of (ends k r exit) = of_left k s.editors s.requested of
 of_row s of (replies k r n a at) = of-without (lowest s.editors) n s.requested of
 of_row s of (calls k r i under to) =
     subst (λ o. AreOf o (s.requested ++ record { n = s.next; asker = record { editor = k; id = i } } ∷ [])) (sym to)
@@ -143,7 +152,123 @@ of_lowest editors (e ∷ h) =
     let x = row (state_of editors h) e in
     subst (λ o. OfLowest o.0) x.2 (of_row (state_of editors h) (of_lowest editors h) x.0)
 
-pub none_to_gone : (editors : ℕ) (h : List Event) (e : Event) → AllByRecursion (GoesToOneHere (state_of editors h)) (react e (state_of editors h)).1
+-- ---- who has sent `exit`
+
+-- an editor's place is set, and others stay where they are
+other_set : (ps : List Presence) (j k : ℕ) (p : Presence) → (k ≡ j → ⊥) → presence_in (slice_set ps j p) k ≡ presence_in ps k
+other_set [] j k p apart = refl
+other_set (x ∷ ps) zero zero p apart = absurd (apart refl)
+other_set (x ∷ ps) zero (suc k) p apart = refl
+other_set (x ∷ ps) (suc j) zero p apart = refl
+other_set (x ∷ ps) (suc j) (suc k) p apart = other_set ps j k p (λ same. apart (ap suc same))
+
+own_set : (ps : List Presence) (j : ℕ) → is_gone (presence_in (slice_set ps j Gone) j) ≡ true
+own_set [] j = refl
+own_set (x ∷ ps) zero = refl
+own_set (x ∷ ps) (suc j) = own_set ps j
+
+down_set : (ps : List Presence) (j k : ℕ) → is_gone (presence_in ps j) ≡ false → is_gone (presence_in (slice_set ps j Down) k) ≡ is_gone (presence_in ps k)
+down_set [] j k here = refl
+down_set (x ∷ ps) zero zero here = sym here
+down_set (x ∷ ps) zero (suc k) here = refl
+down_set (x ∷ ps) (suc j) zero here = refl
+down_set (x ∷ ps) (suc j) (suc k) here = down_set ps j k here
+
+apart_at_exit : (k j : ℕ) (r : RequestData) → is_exit r ≡ true → is_exit_of k (Editor j, request r) ≡ false → k ≡ j → ⊥
+apart_at_exit k j r exit apart same = true≢false (sym (and_from (k == j) (is_exit r) (eq-eqb k j same) exit) ∙ apart)
+
+stays_row : (s : State) (k : ℕ) (x : Row s) → is_exit_of k (event_of x) ≡ false → is_gone (presence k (after x)) ≡ is_gone (presence k s)
+stays_row s k (shuts j r i under method here) apart = down_set s.editors j k here
+stays_row s k (leaves j r exit) apart = ap is_gone (other_set s.editors j k Gone (apart_at_exit k j r exit apart))
+stays_row s k (closes j r exit) apart = ap is_gone (other_set s.editors j k Gone (apart_at_exit k j r exit apart))
+stays_row s k (ends j r exit) apart = ap is_gone (other_set s.editors j k Gone (apart_at_exit k j r exit apart))
+stays_row s k other apart = refl
+
+stays : (s : State) (k : ℕ) (e : Event) → is_exit_of k e ≡ false → is_gone (presence k (react e s).0) ≡ is_gone (presence k s)
+stays s k e apart =
+    let x = row s e in
+    subst (λ o. is_gone (presence k o.0) ≡ is_gone (presence k s)) x.2 (stays_row s k x.0 (ap (is_exit_of k) x.1 ∙ apart))
+
+-- the method is no other than that of `exit`
+none_of_others : (r : RequestData) → is_exit r ≡ true → (r.id ≡ None) × ((name : List ℕ) → bytes_eq (codes "exit") name ≡ false → bytes_eq r.method name ≡ false)
+none_of_others r exit =
+    let parts = and_parts (is_none r.id) (bytes_eq r.method (codes "exit")) exit in
+    (none r.id parts.0, λ name apart. ap (λ m. bytes_eq m name) ((bytes_eq-Decides r.method (codes "exit")).0 parts.1) ∙ apart)
+  where
+    none : (o : Option IdData) → is_none o ≡ true → o ≡ None
+    none None h = refl
+    none (Some i) h = absurd (true≢false (sym h))
+
+leave_goes : (s : State) (j : ℕ) → is_gone (presence j (leave j s).0) ≡ true
+unfolding leave closed
+leave_goes s j = go (are_gone_but j 0 s.editors) (nat_lt s.next last_id)
+  where
+    go : (b c : Bool) → is_gone (presence j (cond {A = Outcome} b (cond c (record (left j s) { next = s.next + 1; closing = Some s.next }) (left j s), answers_internal j s.requested ++ (Server, last_message s.next) ∷ []) (left j s, answers_internal j s.requested)).0) ≡ true
+    go true true = own_set s.editors j
+    go true false = own_set s.editors j
+    go false c = own_set s.editors j
+
+exits : (s : State) (k : ℕ) (e : Event) → is_exit_of k e ≡ true → is_gone (presence k (react e s).0) ≡ true
+unfolding from_editor
+exits s k (Server, m) exit = absurd (true≢false (sym exit))
+exits s k (Editor j, response r) exit = absurd (true≢false (sym exit))
+exits s k (Editor j, request r) exit =
+    let parts = and_parts (k == j) (is_exit r) exit in
+    subst (λ n. is_gone (presence n (from_editor j (request r) s).0) ≡ true) (sym (eqb-true k j parts.0)) (go (is_gone (presence j s)) refl)
+  where
+    left_at : is_gone (presence j (called j r None s).0) ≡ true
+    left_at =
+        let parts = and_parts (k == j) (is_exit r) exit in
+        let others = (none_of_others r parts.1).1 in
+        let is = (and_parts (is_none r.id) (bytes_eq r.method (codes "exit")) parts.1).1 in
+        rw (others (codes "initialize") refl, others (codes "initialized") refl, others (codes "shutdown") refl, is) (leave_goes s j)
+
+    go : (b : Bool) → is_gone (presence j s) ≡ b → is_gone (presence j (cond b (s, []) (called j r r.id s)).0) ≡ true
+    go true gone = gone
+    go false here =
+        let parts = and_parts (k == j) (is_exit r) exit in
+        subst (λ o. is_gone (presence j (called j r o s).0) ≡ true) (sym (none_of_others r parts.1).0) left_at
+
+here_below : (n k : ℕ) → k < n → is_gone (presence_in (replicate n Here) k) ≡ false
+here_below zero k less = absurd (omega (arith, less))
+here_below (suc n) zero less = refl
+here_below (suc n) (suc k) less = here_below n k (omega (arith, less))
+
+gone_above : (n k : ℕ) → (k < n → ⊥) → is_gone (presence_in (replicate n Here) k) ≡ true
+gone_above zero k above = refl
+gone_above (suc n) zero above = absurd (above (omega arith))
+gone_above (suc n) (suc k) above = gone_above n k (λ less. above (omega (arith, less)))
+
+here_is : (editors : ℕ) (h : List Event) (k : ℕ) → is_gone (presence k (state_of editors h)) ≡ not (is_here_after editors h k)
+here_is editors [] k = go (nat_lt k editors) refl
+  where
+    go : (b : Bool) → nat_lt k editors ≡ b → is_gone (presence_in (replicate editors Here) k) ≡ not b
+    go true is = here_below editors k (ltb-true k editors is)
+    go false is = gone_above editors k (λ less. true≢false (sym (lt-ltb k editors less) ∙ is))
+here_is editors (e ∷ h) k = go (is_exit_of k e) refl (here_is editors h k)
+  where
+    go : (b : Bool) → is_exit_of k e ≡ b → is_gone (presence k (state_of editors h)) ≡ not (is_here_after editors h k)
+        → is_gone (presence k (react e (state_of editors h)).0) ≡ not (cond b false (is_here_after editors h k))
+    go true exit before = exits (state_of editors h) k e exit
+    go false apart before = stays (state_of editors h) k e apart ∙ before
+
+pub not_gone_after : (editors : ℕ) (h : List Event) (k : ℕ) → is_here_after editors h k ≡ true → is_gone (presence k (state_of editors h)) ≡ false
+not_gone_after editors h k here = here_is editors h k ∙ ap not here
+
+here_after : (editors : ℕ) (h : List Event) (k : ℕ) → is_gone (presence k (state_of editors h)) ≡ false → is_here_after editors h k ≡ true
+here_after editors h k is = go (is_here_after editors h k) (sym (here_is editors h k) ∙ is)
+  where
+    go : (b : Bool) → not b ≡ false → b ≡ true
+    go true h = refl
+    go false h = absurd (true≢false h)
+
+all_after : (editors : ℕ) (h : List Event) (sent : Sent) → Goes (state_of editors h) sent → AllByRecursion (GoesToOneHere editors h) sent
+all_after editors h [] all = tt
+all_after editors h ((Server, m) ∷ sent) all = (tt, all_after editors h sent all.1)
+all_after editors h ((Editor k, m) ∷ sent) all = (here_after editors h k all.0, all_after editors h sent all.1)
+
+pub none_to_gone : (editors : ℕ) (h : List Event) (e : Event) → AllByRecursion (GoesToOneHere editors h) (react e (state_of editors h)).1
 none_to_gone editors h e =
     let x = row (state_of editors h) e in
-    subst (λ o. Goes (state_of editors h) o.1) x.2 (goes_row (state_of editors h) (of_lowest editors h) x.0)
+    all_after editors h (react e (state_of editors h)).1
+    (subst (λ o. Goes (state_of editors h) o.1) x.2 (goes_row (state_of editors h) (of_lowest editors h) x.0))

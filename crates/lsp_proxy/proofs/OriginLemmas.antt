@@ -413,7 +413,7 @@ module _ (editors : ℕ) where
           begun = opening_quiet h e (IsApart s.next s.asked s.closing) (IsApart (s.next + 1) (s.asked ++ x ∷ []) s.closing) s.opening
               (λ m a. (omega (arith, a.0), (asker_at-append m x s.asked a.1.0 (eqb-less m s.next a.0), a.1.1))) (λ n. refl) known.begun;
         }
-    known_row (closes k r) made =
+    known_row (closes k r exit) made =
         quiet_more (Editor k, request r) (s.next + 1) (Some s.next) (λ n. refl) (omega arith) (omega arith, none_at s.next s.asked known.below) (λ m less c. eqb-less m s.next less)
     known_row (stray r n under none apart) made = unasked r (none_under n r s.asked under none) (leaves_awaited r n s.opening under apart)
     known_row (is_shut r n under at) made =
@@ -450,8 +450,8 @@ module _ (editors : ℕ) where
     known_row (announces k r) made = quiet (Editor k, request r) (λ n. refl)
     known_row (notes k r) made = quiet (Editor k, request r) (λ n. refl)
     known_row (cancels k r) made = quiet (Editor k, request r) (λ n. refl)
-    known_row (leaves k r) made = quiet (Editor k, request r) (λ n. refl)
-    known_row (ends k r) made = quiet (Editor k, request r) (λ n. refl)
+    known_row (leaves k r exit) made = quiet (Editor k, request r) (λ n. refl)
+    known_row (ends k r exit) made = quiet (Editor k, request r) (λ n. refl)
     known_row (replies k r n a at) made = quiet (Editor k, response r) (λ n. refl)
     known_row (refuses r i under) made = quiet (Server, request r) (λ n. refl)
     known_row (server_cancels r) made = quiet (Server, request r) (λ n. refl)
@@ -493,9 +493,9 @@ module _ (editors : ℕ) where
     sends_row (announces k r) = (tt, tt)
     sends_row (notes k r) = (tt, tt)
     sends_row (cancels k r) = no_cancel (Editor k, request r) h Server (asked_place k (cancel_target r.params) s)
-    sends_row (leaves k r) = subst (Sends h (Editor k, request r)) (append-nil (map refused (filter (is_of k) s.requested))) (no_refused (Editor k, request r) h (filter (is_of k) s.requested) [] tt)
-    sends_row (closes k r) = no_refused (Editor k, request r) h (filter (is_of k) s.requested) ((Server, shutdown_request s.next) ∷ []) (tt, tt)
-    sends_row (ends k r) = no_refused (Editor k, request r) h (filter (is_of k) s.requested) ((Server, exit_note) ∷ []) (tt, tt)
+    sends_row (leaves k r exit) = subst (Sends h (Editor k, request r)) (append-nil (map refused (filter (is_of k) s.requested))) (no_refused (Editor k, request r) h (filter (is_of k) s.requested) [] tt)
+    sends_row (closes k r exit) = no_refused (Editor k, request r) h (filter (is_of k) s.requested) ((Server, shutdown_request s.next) ∷ []) (tt, tt)
+    sends_row (ends k r exit) = no_refused (Editor k, request r) h (filter (is_of k) s.requested) ((Server, exit_note) ∷ []) (tt, tt)
     sends_row (replies k r n a at) = (tt, tt)
     sends_row (stray r n under none apart) = tt
     sends_row (is_shut r n under at) = (tt, tt)

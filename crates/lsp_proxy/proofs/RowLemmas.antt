@@ -2,6 +2,7 @@
 use Rattle.std.proofs.Common.{◌≡◌, ◌+◌, ℕ, List, [], ◌∷◌, ◌++◌, Bool, true, false, cond, ◌==◌, Option, Some, None, option_and_then, Result, Ok, map, nat_lt, bytes_eq, codes, refl, sym, ap, subst, inl, inr, ◌⊎◌}
 use Rattle.std.specs.Prelude.{slice_set}
 use Rattle.std.specs.List.{filter}
+use Rattle.std.proofs.lemmas.Bool.{and_from}
 use Rattle.serde_json.specs.Data.{Data, null}
 use Rattle.lsp_rpc.specs.Message.{IdData, ErrorData, RequestData, ResponseData, MessageData, response, request}
 use Rattle.lsp_proxy.specs.declared.side.Side.TheVariants.{Server, Editor}
@@ -9,7 +10,7 @@ use Rattle.lsp_proxy.specs.declared.side.Presence.{Presence}
 use Rattle.lsp_proxy.specs.declared.side.Presence.TheVariants.{Here, Down, Gone}
 use Rattle.lsp_proxy.specs.Entries.{AskerData, asker_at, place_of, without}
 use Rattle.lsp_proxy.specs.Proxy.{State, Sent, Outcome, Opening, unopened, awaited, opened, answer, drawn_of, bare, passed_as, invalid, internal, last_id, shutdown_request, exit_note, begin_initialize, initialize_at, initialize, initialized, shut_down, pass_request, ask_at, ask_as, ask, answers_internal, left, closed, are_gone_but, leave, cancel_passed, asked_place, cancel_target, cancel, note_as, note, called, reply_to, replied_under, replied, heard, from_editor, answered_to, opening_after, is_here_in, is_here, waiting_sent, by_waiting, initialize_answered, answer_to, answered, is_closing, response_under, server_response, pass_to, request_to, lowest, server_request, first_requested, cancel_entry, server_cancel, here_from, broadcast, server_called, from_server, presence, is_gone}
-use Rattle.lsp_proxy.specs.Law.{Event, react}
+use Rattle.lsp_proxy.specs.Law.{Event, react, is_none, is_exit}
 use Rattle.lsp_proxy.specs.Origin.{is_drawn, is_response_under}
 
 -- no response to `initialize` is awaited under n
@@ -34,9 +35,9 @@ pub data Row (s : State) : Type 0 where
   announces : (k : ℕ) (r : RequestData) → Row s
   notes : (k : ℕ) (r : RequestData) → Row s
   cancels : (k : ℕ) (r : RequestData) → Row s
-  leaves : (k : ℕ) (r : RequestData) → Row s
-  closes : (k : ℕ) (r : RequestData) → Row s
-  ends : (k : ℕ) (r : RequestData) → Row s
+  leaves : (k : ℕ) (r : RequestData) → is_exit r ≡ true → Row s
+  closes : (k : ℕ) (r : RequestData) → is_exit r ≡ true → Row s
+  ends : (k : ℕ) (r : RequestData) → is_exit r ≡ true → Row s
   -- its responses
   replies : (k : ℕ) (r : ResponseData) (n : ℕ) (a : AskerData) → asker_at n s.requested ≡ Some a → Row s
   -- the server's responses
@@ -61,9 +62,9 @@ module _ {s : State} where
   event_of (announces k r) = (Editor k, request r)
   event_of (notes k r) = (Editor k, request r)
   event_of (cancels k r) = (Editor k, request r)
-  event_of (leaves k r) = (Editor k, request r)
-  event_of (closes k r) = (Editor k, request r)
-  event_of (ends k r) = (Editor k, request r)
+  event_of (leaves k r exit) = (Editor k, request r)
+  event_of (closes k r exit) = (Editor k, request r)
+  event_of (ends k r exit) = (Editor k, request r)
   event_of (replies k r n a at) = (Editor k, response r)
   event_of (stray r n under none apart) = (Server, response r)
   event_of (is_shut r n under at) = (Server, response r)
@@ -81,9 +82,9 @@ module _ {s : State} where
   after (shuts k r i under method here) = record s { editors = slice_set s.editors k Down }
   after (passes k r i under) = record s { next = s.next + 1; asked = s.asked ++ record { n = s.next; asker = record { editor = k; id = i } } ∷ [] }
   after (announces k r) = record s { announced = true }
-  after (leaves k r) = left k s
-  after (closes k r) = record (left k s) { next = s.next + 1; closing = Some s.next }
-  after (ends k r) = left k s
+  after (leaves k r exit) = left k s
+  after (closes k r exit) = record (left k s) { next = s.next + 1; closing = Some s.next }
+  after (ends k r exit) = left k s
   after (replies k r n a at) = record s { requested = without n s.requested }
   after (is_shut r n under at) = record s { closing = None }
   after (opens r n m askers under is at) = record s { opening = opening_after r.body }
@@ -100,9 +101,9 @@ module _ {s : State} where
   sent_at (announces k r) = (Server, request (bare r)) ∷ []
   sent_at (notes k r) = (Server, request (bare r)) ∷ []
   sent_at (cancels k r) = cancel_passed Server (asked_place k (cancel_target r.params) s)
-  sent_at (leaves k r) = answers_internal k s.requested
-  sent_at (closes k r) = answers_internal k s.requested ++ (Server, shutdown_request s.next) ∷ []
-  sent_at (ends k r) = answers_internal k s.requested ++ (Server, exit_note) ∷ []
+  sent_at (leaves k r exit) = answers_internal k s.requested
+  sent_at (closes k r exit) = answers_internal k s.requested ++ (Server, shutdown_request s.next) ∷ []
+  sent_at (ends k r exit) = answers_internal k s.requested ++ (Server, exit_note) ∷ []
   sent_at (replies k r n a at) = (Server, answer a.id r.body) ∷ []
   sent_at (is_shut r n under at) = (Server, exit_note) ∷ []
   sent_at (opens r n m askers under is at) = map (answered_to r.body) (filter (is_here_in s.editors) askers)
@@ -159,13 +160,13 @@ module _ (s : State) where
         go Down = own i invalid under (inl refl)
         go Gone = nothing
 
-    leave_row : Made (leave k s)
+    leave_row : is_exit r ≡ true → Made (leave k s)
     unfolding leave closed
-    leave_row = row_if s e (are_gone_but k 0 s.editors) _ _ (λ _. go (nat_lt s.next last_id)) (λ _. (leaves k r, refl, refl))
+    leave_row exit = row_if s e (are_gone_but k 0 s.editors) _ _ (λ _. go (nat_lt s.next last_id)) (λ _. (leaves k r exit, refl, refl))
       where
         go : (b : Bool) → Made (cond b (record (left k s) { next = s.next + 1; closing = Some s.next }) (left k s), answers_internal k s.requested ++ (Server, cond b (shutdown_request s.next) exit_note) ∷ [])
-        go true = (closes k r, refl, refl)
-        go false = (ends k r, refl, refl)
+        go true = (closes k r exit, refl, refl)
+        go false = (ends k r exit, refl, refl)
 
     note_row : (p : Presence) → Made (note_as p k (bare r) s)
     unfolding cancel
@@ -182,7 +183,7 @@ module _ (s : State) where
         row_if s e (bytes_eq r.method (codes "initialize")) _ _ (λ _. nothing) (λ _.
         row_if s e (bytes_eq r.method (codes "initialized")) _ _ (λ _. row_if s e s.announced _ _ (λ _. nothing) (λ _. (announces k r, refl, refl))) (λ _.
         row_if s e (bytes_eq r.method (codes "shutdown")) _ _ (λ _. nothing) (λ _.
-        row_if s e (bytes_eq r.method (codes "exit")) _ _ (λ _. leave_row) (λ _. note_row (presence k s)))))
+        row_if s e (bytes_eq r.method (codes "exit")) _ _ (λ method. leave_row (and_from (is_none r.id) (bytes_eq r.method (codes "exit")) (ap is_none under) method)) (λ _. note_row (presence k s)))))
 
   replied_row : (k : ℕ) (r : ResponseData) (o : Option ℕ) → IsRow s (Editor k, response r) (replied_under k r o s)
   replied_row k r None = (idle (Editor k, response r) (λ n. refl), refl, refl)

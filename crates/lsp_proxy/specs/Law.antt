@@ -1,5 +1,5 @@
 -- What a proxy sends over a list of events.
-use Rattle.std.specs.Prelude.{◌≡◌, ◌⊎◌, ℕ, ◌+◌, List, [], ◌∷◌, ◌++◌, Bool, true, false, ◌&&◌, ◌==◌, Option, Some, None, Result, bytes_eq, codes, if◌then◌else◌, ⊤}
+use Rattle.std.specs.Prelude.{IsTrue, ◌≡◌, ◌⊎◌, ℕ, nat_lt, ◌+◌, List, [], ◌∷◌, ◌++◌, Bool, true, false, ◌&&◌, ◌==◌, Option, Some, None, Result, bytes_eq, codes, if◌then◌else◌, ⊤}
 use Rattle.std.specs.List.{AllByRecursion}
 use Rattle.serde_json.specs.Data.{Data}
 use Rattle.lsp_rpc.specs.Message.{IdData, ErrorData, RequestData, MessageData, response, request}
@@ -7,7 +7,7 @@ use Rattle.lsp_rpc.specs.Ids.{same_id}
 use Rattle.lsp_proxy.specs.declared.side.Side.{Side}
 use Rattle.lsp_proxy.specs.declared.side.Side.TheVariants.{Server, Editor}
 use Rattle.lsp_proxy.specs.Entries.{AskerData, Entry}
-use Rattle.lsp_proxy.specs.Proxy.{State, Sent, Outcome, Opening, awaited, from_editor, from_server, presence, is_gone, answer, bare, passed_as, cancel_note, cancel_target}
+use Rattle.lsp_proxy.specs.Proxy.{State, Sent, Outcome, Opening, awaited, from_editor, from_server, answer, bare, passed_as, cancel_note, cancel_target}
 
 -- a message, and the side that it comes from
 abbrev pub Event : Type 0
@@ -91,10 +91,27 @@ requests_of k i es = requests_at (Editor k) i es
 
 -- ---- who gets what
 
--- the editor that it goes to isn't gone
-abbrev pub GoesToOneHere : State → Side × MessageData → Type 0
-GoesToOneHere s (Editor k, m) = is_gone (presence k s) ≡ false
-GoesToOneHere s (Server, m) = ⊤
+abbrev pub is_none : Option IdData → Bool
+is_none None = true
+is_none (Some i) = false
+
+abbrev pub is_exit : RequestData → Bool
+is_exit r = is_none r.id && bytes_eq r.method (codes "exit")
+
+-- the event is editor k's `exit`
+abbrev pub is_exit_of : ℕ → Event → Bool
+is_exit_of k (Editor j, request r) = (k == j) && is_exit r
+is_exit_of k other = false
+
+-- editor k is one of so many, and hasn't sent `exit`. A history has the latest event first
+abbrev pub is_here_after : ℕ → List Event → ℕ → Bool
+is_here_after editors [] k = nat_lt k editors
+is_here_after editors (e ∷ h) k = if is_exit_of k e then false else is_here_after editors h k
+
+-- an editor that it goes to is here
+abbrev pub GoesToOneHere : ℕ → List Event → Side × MessageData → Type 0
+GoesToOneHere editors h (Editor k, m) = IsTrue (is_here_after editors h k)
+GoesToOneHere editors h (Server, m) = ⊤
 
 abbrev pub IsAmong : {X : Type 0} → X → List X → Type 0
 IsAmong {X} x xs = (earlier : List X) × (later : List X) × (xs ≡ earlier ++ x ∷ later)
@@ -120,10 +137,6 @@ abbrev pub IsTaken : RequestData → AskerData → State → Outcome → Type 0
 IsTaken r a s o = IsPassedOn r a s o ⊎ (IsWaiting a o ⊎ IsAnswered a o)
 
 -- ---- cancels
-
-abbrev pub is_none : Option IdData → Bool
-is_none None = true
-is_none (Some i) = false
 
 abbrev pub is_cancel : RequestData → Bool
 is_cancel r = is_none r.id && bytes_eq r.method (codes "$/cancelRequest")

@@ -1,12 +1,12 @@
 //! What holds over any list of messages.
-ghost use Rattle.std.specs.Prelude.{ℕ, List, ◌≤◌, ◌≡◌, Some, true, false};
+ghost use Rattle.std.specs.Prelude.{ℕ, List, ◌≤◌, ◌≡◌, Some, true, IsTrue};
 ghost use Rattle.lsp_rpc.specs.Message.{IdData, RequestData, request};
 ghost use Rattle.lsp_proxy.specs.declared.side.Side.{Side as SideOf};
 ghost use Rattle.lsp_proxy.specs.declared.side.Side.TheVariants.{Editor, Server};
-ghost use Rattle.lsp_proxy.specs.Law.{Event, react, sent_over, request_ids, AreDistinct, responses_at, requests_at, GoesToOneHere, IsTaken, is_cancel, CancelsAsked, CancelsRequested};
+ghost use Rattle.lsp_proxy.specs.Law.{Event, react, sent_over, request_ids, AreDistinct, responses_at, requests_at, GoesToOneHere, is_here_after, IsTaken, is_cancel, CancelsAsked, CancelsRequested};
 ghost use Rattle.std.specs.List.{AllByRecursion};
 ghost use Rattle.lsp_proxy.specs.Origin.{HasOrigin, state_of};
-ghost use Rattle.lsp_proxy.specs.Proxy.{State, opening_state, presence, is_gone};
+ghost use Rattle.lsp_proxy.specs.Proxy.{State, opening_state};
 
 /// No two requests that a proxy sends have one id, whichever side they go to.
 pub fn ids_differ()
@@ -32,19 +32,20 @@ pub fn responses_come()
         (react event (state_of editors history)).1 }
 {}
 
-/// Nothing goes to an editor that is gone.
+/// Nothing goes to an editor that has sent `exit`, or that isn't below the number of editors.
 pub fn gone_hear_nothing()
     ensures { (editors : ℕ) (history : List Event) (event : Event)
-        → AllByRecursion (GoesToOneHere (state_of editors history))
+        → AllByRecursion (GoesToOneHere editors history)
         (react event (state_of editors history)).1 }
 {}
 
-/// Each request of an editor that isn't gone is passed on and alone is sent, or waits for the
-/// response to `initialize`, or is answered.
+/// Each request of another editor is passed on and alone is sent, or waits for the response to
+/// `initialize`, or is answered.
 pub fn requests_taken()
-    ensures { (s : State) (k : ℕ) (r : RequestData) (i : IdData) → r.id ≡ Some i
-        → is_gone (presence k s) ≡ false
-        → IsTaken r (record { editor = k; id = i }) s (react (Editor k, request r) s) }
+    ensures { (editors : ℕ) (history : List Event) (k : ℕ) (r : RequestData) (i : IdData)
+        → r.id ≡ Some i → IsTrue (is_here_after editors history k)
+        → let s = state_of editors history in
+        IsTaken r (record { editor = k; id = i }) s (react (Editor k, request r) s) }
 {}
 
 /// What an editor's cancel sends carries the number of an open request of that editor under the id
