@@ -19,7 +19,7 @@ enum Without<'w> {
     Written(&'w str),
 }
 
-fn without<'w>(words: &'w str, name: &str) -> Without<'w> {
+fn said_of<'w>(words: &'w str, name: &str) -> Without<'w> {
     for word in words.split_whitespace() {
         match word.split_once('=') {
             None if word == name => return Without::Unfit,
@@ -46,7 +46,7 @@ fn expected(
 ) -> Result<String, RowError> {
     let mut members = written.clone()?;
     drop(members.remove(name));
-    match without(words, name) {
+    match said_of(words, name) {
         Without::Unfit => return Ok(String::from_str(alloc, UNFIT)?),
         Without::Unwritten => {}
         Without::Written(text) => {
