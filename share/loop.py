@@ -48,6 +48,7 @@ class Loop:
         self._deadline: Optional[float] = None
         self._ended_since: Optional[float] = None
         self._selector = selectors.DefaultSelector()
+        self._watched: dict[int, int] = {}
 
     def run(self, server: Child, proxy: Child) -> Reason:
         """Carries until there is a reason to end, says what is left to say, and closes every
@@ -163,14 +164,16 @@ class Loop:
 
     def _watch(self, fd: int, mask: int, take: Optional[Callable[[], Any]] = None) -> None:
         """Waits for this at that end. `take` is called where it can be read."""
-        known = self._selector.get_map().get(fd)
-        if known is None:
-            if mask:
-                self._selector.register(fd, mask, take)
-        elif not mask:
+        known = self._watched.get(fd, 0)
+        if known == mask:
+            return
+        if not mask:
             self._selector.unregister(fd)
-        elif known.events != mask:
+        elif known:
             self._selector.modify(fd, mask, take)
+        else:
+            self._selector.register(fd, mask, take)
+        self._watched[fd] = mask
 
     def _watch_all(self) -> None:
         is_proxy_full = self._proxy.outlet.size >= _HIGH

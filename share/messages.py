@@ -7,6 +7,8 @@ from dataclasses import dataclass
 from enum import Enum, IntEnum
 from typing import Any, Optional
 
+from values import read_carried
+
 Message = dict[str, Any]
 
 
@@ -56,12 +58,12 @@ def head_of(body: bytes) -> Head:
     """The head of a message that the proxy wrote."""
     found = _HEAD.match(body)
     if found is None:
-        return Head(Kind.ANSWER, json.loads(body).get("id"), is_error=True)
+        return Head(Kind.ANSWER, read_carried(body).get("id"), is_error=True)
     id, method = found.groups()
-    number = None if id is None else json.loads(id)
+    number = None if id is None else read_carried(id)
     if method is None:
         return Head(Kind.ANSWER, number)
-    return Head(Kind.NOTIFICATION if id is None else Kind.REQUEST, number, json.loads(method))
+    return Head(Kind.NOTIFICATION if id is None else Kind.REQUEST, number, read_carried(method))
 
 
 def kind_of(message: Message) -> Kind:

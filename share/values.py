@@ -54,6 +54,13 @@ def _refuse_constant(text: str) -> Any:
     raise ValueError("%s is no JSON" % text)
 
 
+# One that is made once reads a short text in half the time of one that json.loads makes.
+_plain = json.JSONDecoder()
+_carrying = json.JSONDecoder(parse_float=_carried, parse_constant=_refuse_constant)
+_carrying_long = json.JSONDecoder(parse_float=_carried, parse_int=_integer, parse_constant=_refuse_constant)
+_marking = json.JSONDecoder(parse_float=_Number, parse_int=_integer_or_number, parse_constant=_refuse_constant)
+
+
 def _escaped(value: Any) -> Any:
     """The value with one more mark before each text that begins with it, and each number that can't
     be carried.
@@ -74,9 +81,9 @@ def read(body: bytes) -> Any:
     try:
         text = body.decode("utf-8")
         if _MARK_BYTES in body or _MARK_ESCAPED.search(body):
-            return _escaped(json.loads(text, parse_float=_Number, parse_int=_integer_or_number, parse_constant=_refuse_constant))
-        parse_int = _integer if _MANY_DIGITS in body.translate(_DIGITS_ALIKE) else None
-        return json.loads(text, parse_float=_carried, parse_int=parse_int, parse_constant=_refuse_constant)
+            return _escaped(_marking.decode(text))
+        decoder = _carrying_long if _MANY_DIGITS in body.translate(_DIGITS_ALIKE) else _carrying
+        return decoder.decode(text)
     except RecursionError:
         raise TooDeep() from None
     except ValueError as why:
@@ -87,7 +94,7 @@ def read_carried(body: bytes) -> Any:
     """The value of a text that the proxy wrote, or will read: each number that it can't carry stays
     a marked text.
     """
-    return json.loads(body)
+    return _plain.decode(body.decode("utf-8"))
 
 
 def write(value: Any) -> bytes:
