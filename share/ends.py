@@ -13,6 +13,10 @@ from typing import Any, Iterator, Optional
 
 _STEP = 0.01
 _PATIENCE = 1.0
+# What fills a pipe is ahead of all that comes later, so a child's pipes hold less than they could.
+_PIPE_SIZE = 32 << 10
+# Python 3.9 doesn't name it.
+_SET_PIPE_SIZE = getattr(fcntl, "F_SETPIPE_SZ", 1031)
 # A fault of the program itself raises these. Blocked, they still end it then, and are seen where
 # another sends them.
 _FAULTS = {signal.SIGSEGV, signal.SIGBUS, signal.SIGFPE, signal.SIGILL}
@@ -54,6 +58,14 @@ def _unblock() -> None:
     signal.pthread_sigmask(signal.SIG_SETMASK, ())
 
 
+def _make_small(pipe: int) -> None:
+    """Has a pipe hold less, where the system can."""
+    try:
+        fcntl.fcntl(pipe, _SET_PIPE_SIZE, _PIPE_SIZE)
+    except OSError:
+        pass
+
+
 class Child:
     """A process in a session of its own, with pipes for its input and its output."""
 
@@ -62,6 +74,8 @@ class Child:
                                          start_new_session=True, preexec_fn=_unblock)
         self.input: int = self._process.stdin.fileno()
         self.output: int = self._process.stdout.fileno()
+        for end in (self.input, self.output):
+            _make_small(end)
 
     @property
     def is_ended(self) -> bool:

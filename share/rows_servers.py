@@ -61,7 +61,7 @@ def server_reads_nothing(room: Room) -> None:
     share = room.share()
     first, second = room.editors(share)
     first.put(id=1, method="test/sleep", params=300)
-    wanted(first.fill() > 300_000, "the first says more than is taken")
+    wanted(first.fill() > 150_000, "the first says more than is taken")
     first.cut()
     second.cut()
     wanted(share.status() == 1, "the status is 1")
