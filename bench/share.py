@@ -24,7 +24,7 @@ PROXY = os.path.join(ROOT, "crates", "lsp_proxy_main", "out", "lsp_proxy_main")
 CLANGD = ["clangd", "--log=error"]
 TEXT = "int add(int first, int second) { return first + second; }\nint main(void) { return add(1, 2); }\n"
 URI = "file:///unread.c"
-HOVERS, TURNS, TRIPS = 300, 3, 400
+HOVERS, TURNS, TRIPS = 300, 5, 400
 UNREAD, SIZE = 800, 100_000
 SENT, SENT_SIZE = 6150, 13_000
 
@@ -73,45 +73,47 @@ def round_trips(proxy, folder):
         through.leave()
 
 
-def asks_slowly(second, number):
+def asks_slowly(first, second, number):
     """Asks for an answer, two before each round trip."""
     for each in (2 * number, 2 * number + 1):
         second.put(id=each, method="test/big", params=SIZE)
+    return number < UNREAD // 2
 
 
-def asks_at_once(second, number):
+def asks_at_once(first, second, number):
     """Asks for all answers before the first round trip."""
     for each in range(0 if number else UNREAD):
         second.put(id=each, method="test/big", params=SIZE)
+    return number < TRIPS
 
 
-def is_sent(second, number):
-    """Has the server send diagnostics of a file that it alone has open."""
+def is_sent(first, second, number):
+    """Is sent diagnostics of a file that it alone has open, until all are."""
     if not number:
         second.open(URI, "")
-        second.put(id=1, method="test/stream", params={"uri": URI, "count": SENT, "size": SENT_SIZE})
+        first.put(id="sent", method="test/stream", params={"uri": URI, "count": SENT, "size": SENT_SIZE})
+    return not first.has("sent")
 
 
-def unread(proxy, act):
+def unread(proxy, act, sides):
     """Round trips of one editor while another acts so, and reads nothing."""
     with Room(proxy, "") as room:
-        share = room.share(editors=2)
+        share = room.share(editors=sides)
         first, second = room.editors(share)
         trips = []
-        for number in range(TRIPS):
-            act(second, number)
+        while act(first, second, len(trips)):
             begun = time.perf_counter()
-            first.ask(number, "test/echo", [number])
+            first.ask(len(trips), "test/echo", [len(trips)])
             trips.append((time.perf_counter() - begun) * 1000)
-        shown("80 MB unread, %s: echo of the other" % act.__name__, trips)
+        shown("80 MB unread, %s, %d sides: echo of the other" % (act.__name__, sides), trips)
         print("lsp_share's most memory: %d KiB; %s" % (peak(share.process.pid), share.said().strip() or "nothing said"))
 
 
 def main():
     """Measures both."""
     proxy = os.path.abspath(sys.argv[1]) if len(sys.argv) > 1 else PROXY
-    for act in (asks_slowly, asks_at_once, is_sent):
-        unread(proxy, act)
+    for act, sides in ((asks_slowly, 2), (asks_at_once, 2), (is_sent, 2), (is_sent, 4)):
+        unread(proxy, act, sides)
     with tempfile.TemporaryDirectory() as folder:
         round_trips(proxy, folder)
 

@@ -122,6 +122,10 @@ class Editor:
         """The answer under this id."""
         return self.take(lambda m: "method" not in m and m.get("id") == id, "the answer to %r" % (id,))
 
+    def has(self, id: Any) -> bool:
+        """Whether an answer under this id has come, and isn't taken out."""
+        return any("method" not in m and m.get("id") == id for m in self._came)
+
     def ask(self, id: Any, method: str, params: Any = None) -> Any:
         """The answer to a request."""
         self.put(id=id, method=method, **({} if params is None else {"params": params}))
