@@ -2,7 +2,7 @@
 text of it.
 
 One editor owns the text: the server has that one's. An editor with an equal text follows, and owns
-it once it changes it. What an editor with another text says of the file goes no further, until its
+it once it changes it, or closes the file and opens it with another text. What an editor with another text says of the file goes no further, until its
 text is the owner's again.
 """
 from collections import deque
@@ -38,6 +38,8 @@ class File:
     version: int
     copies: dict[int, Copy] = field(default_factory=dict)
     versions: deque = field(default_factory=lambda: deque(maxlen=_VERSIONS_KEPT))
+    # Who closed the file while it had the server's text, which nobody has changed since.
+    closers: set[int] = field(default_factory=set)
 
     def is_current(self, side: int) -> bool:
         """Whether this editor's text is the one that the server has."""
@@ -167,7 +169,20 @@ class Files:
         if side in file.copies:
             return self._change(file, side, _whole_change(uri, version, copy.text))
         file.copies[side] = copy
+        if side in file.closers and not file.is_current(side):
+            return self._load(file, side)
         return self._meet(file, side)
+
+    @staticmethod
+    def _load(file: File, side: int) -> Outcome:
+        """An editor closed the file and opens it with another text, as some do to load it anew. It
+        owns the text as if it had changed it.
+        """
+        file.owner = side
+        file.closers.clear()
+        change = _whole_change(file.uri, file.step(), file.copies[side].text)
+        file.settle()
+        return Outcome(passed=[(side, change)])
 
     def _meet(self, file: File, side: int) -> Outcome:
         """An editor's new text, beside that of the owner."""
@@ -184,6 +199,7 @@ class Files:
         if not was_current:
             return self._meet(file, side)
         file.owner = side
+        file.closers.clear()
         version = file.step()
         file.settle()
         return Outcome(passed=[(side, _with_document(message, uri=file.uri, version=version))])
@@ -193,6 +209,8 @@ class Files:
         if len(file.copies) == 1:
             del self._files[unquote(file.uri)]
             return Outcome(passed=[(side, notification("textDocument/didClose", {"textDocument": {"uri": file.uri}}))])
+        if file.is_current(side):
+            file.closers.add(side)
         text = file.copies.pop(side).text
         return self._hand_on(file, text) if side == file.owner else Outcome()
 

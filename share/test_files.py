@@ -111,6 +111,19 @@ class Documents(unittest.TestCase):
         self._passed(1, _change("a", 3))
         self.assertEqual(len(self.files.hear(2, hover).passed), 1)
 
+    def test_loaded_by_close_and_open(self):
+        for closer in (1, 2):
+            self.files = Files()
+            self._passed(1, _open("a", 1))
+            self._passed(2, _open("a", 1))
+            self.assertEqual(self._passed(closer, _did("Close")), [])
+            self.assertEqual(self._passed(closer, _open("b", 7)), [(closer, "didChange", 7)])
+            hover = request(1, "textDocument/hover", {"textDocument": {"uri": URI}})
+            self.assertEqual([len(self.files.hear(side, hover).passed) for side in (closer, 3 - closer)], [1, 0])
+            self._passed(closer, _did("Close"))
+            self._passed(3 - closer, _change("c", 8))
+            self.assertEqual(self._passed(closer, _open("b", 9)), [])
+
     def test_opened_twice(self):
         self._passed(1, _open("a", 1))
         self.assertEqual(self._passed(1, _open("b", 9)), [(1, "didChange", 9)])
