@@ -7,7 +7,7 @@ use prog.Atomic.{either}
 use native.Mathlib.Decide.{ℕ_discrete}
 use native.Mathlib.Nat.{mod-eq_of_lt}
 use Rattle.std.proofs.lemmas.Bool.Decides.{nat_tests}
-use Rattle.lsp_desk.specs.Trace.{Fits as FitsEntry, after, times}
+use Rattle.lsp_desk.specs.Trace.{Fits as FitsEntry, after, AllBelow, times}
 use Rattle.atomic_table.specs.Table.{State, stepped, Allows, Act, keeps, takes, gives, step, Valid, carried_after}
 use Rattle.atomic_table.proofs.Lists.{at_set, set_here, set_else}
 use Rattle.lsp_desk.specs.declared.plain.PlainDesk.{PlainDesk}
@@ -58,19 +58,19 @@ rebuild s k id v w at words homes log ticket home words_are homes_are order smal
       (at_set s.views id j w u e);
 }
 
+length_at : {A : Type 0} (l : List A) (i : ℕ) (x : A) → get_elem? l i ≡ some x → i < length l
+length_at [] i x q = absurd (some-ne-none x (sym q))
+length_at (y ∷ l) zero x q = omega arith
+length_at (y ∷ l) (suc i) x q = let r = length_at l i x q in omega arith
+
 -- whoever is away still is, where the view that changes keeps its phase
 pub away_on : (s : State PlainDesk View) (k : Kept s) (id : ℕ) (v w : View) → get_elem? s.views id ≡ some v → w.phase ≡ v.phase
     → k.home ≡ none → (j : ℕ) × (u : View) × (get_elem? (set s.views id w) j ≡ some u) × (u.phase ≡ Holding (length k.log))
 away_on s k id v w at same e = let a = k.away e in go a.0 a.1 a.2 a.3 (native.Mathlib.Decide.ℕ_discrete a.0 id)
   where
-    len : {A : Type 0} (l : List A) (i : ℕ) (x : A) → get_elem? l i ≡ some x → i < length l
-    len [] i x q = absurd (some-ne-none x (sym q))
-    len (y ∷ l) zero x q = omega arith
-    len (y ∷ l) (suc i) x q = let r = len l i x q in omega arith
-
     go : (j : ℕ) (u : View) → get_elem? s.views j ≡ some u → u.phase ≡ Holding (length k.log) → Dec (j ≡ id) → (j : ℕ) × (u : View) × (get_elem? (set s.views id w) j ≡ some u) × (u.phase ≡ Holding (length k.log))
     go j u there is (yes p) = let both : v ≡ u = some-injective v u (sym at ∙ ap (get_elem? s.views) (sym p) ∙ there) in
-        (id, w, set_here s.views id w (len s.views id v at), same ∙ ap (λ (z : View). z.phase) both ∙ is)
+        (id, w, set_here s.views id w (length_at s.views id v at), same ∙ ap (λ (z : View). z.phase) both ∙ is)
     go j u there is (no n) = (j, u, set_else s.views id j w n ∙ there, is)
 
 pub out_on : (s : State PlainDesk View) (k : Kept s) (id : ℕ) (v w : View) → get_elem? s.views id ≡ some v → w.phase ≡ v.phase
@@ -80,19 +80,29 @@ out_on s k id v w at same j t u e is = ⊎_elim
     (λ (x : (j ≢ id) × (get_elem? s.views j ≡ some u)). k.out j t u x.1 is)
     (at_set s.views id j w u e)
 
+-- a view changes that has the same turns, and the words stay
+pub stays : (s : State PlainDesk View) (k : Kept s) (id : ℕ) (v w : View) → get_elem? s.views id ≡ some v → (words : List ℕ) → words ≡ k.ticket ∷ length k.log ∷ []
+    → w.made ≡ v.made → w.phase ≡ v.phase → w.owner ≡ v.owner → w.share ≡ v.share → Sits k.log k.ticket w → Kept record { words = words; homes = s.homes; views = set s.views id w }
+stays s k id v w at words are made phase owner share sits = rebuild s k id v w at words s.homes k.log k.ticket k.home are k.homes k.order k.small k.legal k.clean k.at_home
+    (away_on s k id v w at phase) (out_on s k id v w at phase) (λ x. let a : times x w.made ≡ times x v.made = ap (times x) made in let b : held x w.phase ≡ held x v.phase = ap (held x) phase in omega arith)
+    owner share (λ j u _ e. k.sits j u e) sits
+
+-- a load writes what it found
+pub found_stays : (s : State PlainDesk View) (k : Kept s) → set s.words 0 (slice_index s.words 0) ≡ k.ticket ∷ length k.log ∷ []
+found_stays s k = ap (λ ws. set ws 0 (slice_index ws 0)) k.words
+
 pub looks : (slots id : ℕ) (me : Mine) → Allows Kept slots id me 0 (λ n. n) (Read (step slots 0 0 0 none) me)
 looks slots id me s k len at small =
     let m = k.sits id me.0 at in
-    let n : ℕ = slice_index s.words 0 in
-    let is : n ≡ k.ticket = ap (λ ws. slice_index ws 0) k.words in
-    let w = reading me.0 n in (
+    let is : slice_index s.words 0 ≡ k.ticket = ap (λ ws. slice_index ws 0) k.words in
+    let low = m.read in
+    let w = reading me.0 (slice_index s.words 0) in (
       w,
       keeps,
       tt,
-      rebuild s k id me.0 w at _ _ k.log k.ticket k.home (ap (λ ws. set ws 0 (slice_index ws 0)) k.words) k.homes k.order k.small k.legal k.clean k.at_home
-          (away_on s k id me.0 w at refl) (out_on s k id me.0 w at refl) (λ x. omega arith) refl refl (λ j u _ e. k.sits j u e)
+      stays s k id me.0 w at _ (found_stays s k) refl refl refl refl
           (record { rest = m.rest; begins = m.begins; beyond = m.beyond; told = m.told; clients = m.clients; inside = m.inside; stands = m.stands; read = omega arith; spent = m.spent }),
-      refl,
+      (omega arith, refl),
     )
 
 -- a turn that two views have is no turn
@@ -109,19 +119,11 @@ has_holding t v is = let h : held t v.phase ≡ one_at t t = ap (held t) is in l
 pub was_drawn : (s : State PlainDesk View) (k : Kept s) (t id : ℕ) (v : View) → get_elem? s.views id ≡ some v → 1 ≤ turns t v → t < k.ticket
 was_drawn s k t id v at h = let a = total_at (turns t) s.views id v at in let o = k.once t in once_some t k.ticket (omega arith)
 
-pub stays : (s : State PlainDesk View) (k : Kept s) (id : ℕ) (v : View) → get_elem? s.views id ≡ some v → (words : List ℕ) → words ≡ k.ticket ∷ length k.log ∷ []
-    → Kept record { words = words; homes = s.homes; views = set s.views id v }
-stays s k id v at words are = rebuild s k id v v at words s.homes k.log k.ticket k.home are k.homes k.order k.small k.legal k.clean k.at_home
-    (away_on s k id v v at refl) (out_on s k id v v at refl) (λ x. omega arith) refl refl (λ j u _ e. k.sits j u e) (k.sits id v at)
-
-is_idle : (p : Phase) (t : ℕ) → p ≡ Idle → p ≡ Holding t → ⊥
-is_idle p t a b = absurd (cc)
+pub idle_holds : {t : ℕ} → Idle ≡ Holding t → ⊥
+idle_holds e = absurd (cc)
 
 is_drawn : (p : Phase) (n t : ℕ) → p ≡ Drawn n → p ≡ Holding t → ⊥
 is_drawn p n t a b = absurd (cc)
-
-pub same_turn : (n t : ℕ) → Holding n ≡ Holding t → n ≡ t
-same_turn n t e = cc
 
 -- whoever is away is another, where the view that changes was not
 pub away_other : (s : State PlainDesk View) (k : Kept s) (id : ℕ) (v w : View) → get_elem? s.views id ≡ some v → (v.phase ≡ Holding (length k.log) → ⊥)
@@ -143,7 +145,7 @@ draws_hit s k id v n at idle share small is =
     let w = drawing v n in
     let h : held_now v = zero_held v idle in
     rebuild s k id v w at _ _ k.log (n + 1) k.home (ap (λ ws. set ws 0 (n + 1)) k.words) k.homes (let o = k.order in omega arith) small k.legal k.clean k.at_home
-    (away_other s k id v w at (is_idle v.phase _ idle)) (out_other s k id w (λ t e. absurd (cc)))
+    (away_other s k id v w at (λ e. idle_holds (sym idle ∙ e))) (out_other s k id w (λ t e. absurd (cc)))
     (λ x. let a = once_suc x n in let b : once_below x n ≡ once_below x k.ticket = ap (once_below x) is in let c = h x in omega arith) refl refl
     (λ j u _ e. let mu = k.sits j u e in record { rest = mu.rest; begins = mu.begins; beyond = mu.beyond; told = mu.told; clients = mu.clients; inside = mu.inside; stands = mu.stands; read = (let r = mu.read in omega arith); spent = mu.spent })
     (record { rest = m.rest; begins = m.begins; beyond = m.beyond; told = m.told; clients = m.clients; inside = m.inside; stands = (let o = k.order in omega arith); read = (let r = m.read in omega arith); spent = λ e. absurd (omega arith) })
@@ -170,7 +172,7 @@ draws slots id n me idle share small s k len at fits = go (m == n) refl
     go : (b : Bool) → (m == n) ≡ b → (w : View) × (a : Act PlainDesk) × Valid s.homes me.1 a × Kept (stepped s 0 (either b (n + 1) m) id me.1 w a)
         × MatchBool b (Is (w, carried_after me.1 a) (drawing me.0 n, me.1)) (Is (w, carried_after me.1 a) me)
     go true e = (drawing me.0 n, keeps, tt, draws_hit s k id me.0 n at idle share small (let q : m ≡ n = grind (arith, nat_tests) in sym q ∙ is), refl)
-    go false e = (me.0, keeps, tt, stays s k id me.0 at _ (ap (λ ws. set ws 0 (slice_index ws 0)) k.words), refl)
+    go false e = (me.0, keeps, tt, stays s k id me.0 me.0 at _ (found_stays s k) refl refl refl refl (k.sits id me.0 at), refl)
 
 pub home_there : (s : State PlainDesk View) (k : Kept s) (id t : ℕ) (v : View) → get_elem? s.views id ≡ some v → v.phase ≡ Drawn t → t ≡ length k.log → (y : PlainDesk) × (k.home ≡ some y)
 home_there s k id t v at is here = go k.home refl
@@ -183,11 +185,6 @@ home_there s k id t v at is here = go k.home refl
     go : (h : Option PlainDesk) → k.home ≡ h → (y : PlainDesk) × (k.home ≡ some y)
     go (some y) e = (y, e)
     go none e = let a = k.away e in absurd (apart a.0 a.1 a.2 a.3 (ℕ_discrete a.0 id))
-
-length_at : {A : Type 0} (l : List A) (i : ℕ) (x : A) → get_elem? l i ≡ some x → i < length l
-length_at [] i x q = absurd (some-ne-none x (sym q))
-length_at (y ∷ l) zero x q = omega arith
-length_at (y ∷ l) (suc i) x q = let r = length_at l i x q in omega arith
 
 pub takes_kept : (s : State PlainDesk View) (k : Kept s) (id t : ℕ) (v : View) (at : get_elem? s.views id ≡ some v) → v.phase ≡ Drawn t → 0 < v.share → t ≡ length k.log → (words : List ℕ) → words ≡ k.ticket ∷ length k.log ∷ []
     → Kept record { words = words; homes = set s.homes 0 none; views = set s.views id (holding v t (v.seen ++ (k.sits id v at).rest)) }
@@ -207,7 +204,7 @@ takes_kept s k id t v at is share here words are =
       beyond = m.beyond;
       told = m.told;
       clients = λ _. tt;
-      inside = below_mono (length v.seen) (length (v.seen ++ m.rest)) v.made (omega (arith, length-append v.seen m.rest)) m.inside;
+      inside = m.inside;
       stands = (here, refl);
       read = m.read;
       spent = λ e. absurd (omega arith);
@@ -243,7 +240,7 @@ has_all s k id t v at is here all x less =
     omega arith
 
 pub takes_turn : (slots id t : ℕ) (me : Mine) → me.0.phase ≡ Drawn t → me.1 ≡ [] → 0 < me.0.share → Allows Kept slots id me 1 (λ n. n) (Took (step slots 1 0 0 none) me)
-takes_turn slots id t me is empty share s k len at fits = go (found == t) refl
+takes_turn slots id t me is empty share s k len at fits = go (ℕ_discrete found t)
   where
     found : ℕ
     found = slice_index s.words 1
@@ -254,15 +251,13 @@ takes_turn slots id t me is empty share s k len at fits = go (found == t) refl
     words : set s.words 1 found ≡ k.ticket ∷ length k.log ∷ []
     words = ap (λ ws. set ws 1 (slice_index ws 1)) k.words
 
-    told : (b : Bool) → (found == t) ≡ b → (me2 : Mine) → MatchBool b (GotTurn me.0 t me2) (me2 ≡ me) → Took (step slots 1 0 0 none) me found me2
-    told b e me2 p u q = let same : t ≡ u = drawn_same me.0.phase t u is q in
-        subst (λ (z : ℕ). MatchBool (found == z) (GotTurn me.0 z me2) (me2 ≡ me)) same (subst (λ (c : Bool). MatchBool c (GotTurn me.0 t me2) (me2 ≡ me)) (sym e) p)
+    told : (me2 : Mine) → (found ≡ t → GotTurn me.0 t me2) × ((found ≡ t → ⊥) → me2 ≡ me) → Took (step slots 1 0 0 none) me found me2
+    told me2 p u q = subst (λ (z : ℕ). (found ≡ z → GotTurn me.0 z me2) × ((found ≡ z → ⊥) → me2 ≡ me)) (drawn_same me.0.phase t u is q) p
 
-    go : (b : Bool) → (found == t) ≡ b → (w : View) × (a : Act PlainDesk) × Valid s.homes me.1 a × Kept (stepped s 1 found id me.1 w a)
-        × Took (step slots 1 0 0 none) me found (w, carried_after me.1 a)
-    go false e = (me.0, keeps, tt, stays s k id me.0 at _ words, told false e me refl)
-    go true e =
-        let here : t ≡ length k.log = (let q : found ≡ t = grind (arith, nat_tests) in sym q ∙ serving) in
+    go : Dec (found ≡ t) → (w : View) × (a : Act PlainDesk) × Valid s.homes me.1 a × Kept (stepped s 1 found id me.1 w a) × Took (step slots 1 0 0 none) me found (w, carried_after me.1 a)
+    go (no ne) = (me.0, keeps, tt, stays s k id me.0 me.0 at _ words refl refl refl refl (k.sits id me.0 at), told me ((λ e. absurd (ne e)), (λ _. refl)))
+    go (yes e) =
+        let here : t ≡ length k.log = sym e ∙ serving in
         let y = home_there s k id t me.0 at is here in
         let m = k.sits id me.0 at in
         let w = holding me.0 t (me.0.seen ++ m.rest) in
@@ -276,12 +271,12 @@ takes_turn slots id t me is empty share s k len at fits = go (found == t) refl
           state = k.at_home y.0 y.1 ∙ ap now_of m.begins;
           turn = here ∙ ap length m.begins;
           clients = m.clients;
-          inside = below_mono (length me.0.seen) (length (me.0.seen ++ m.rest)) me.0.made (omega (arith, length-append me.0.seen m.rest)) m.inside;
+          inside = subst (λ l. AllBelow (length l) me.0.made) m.begins m.inside;
           none_yet = (let a = total_at (turns t) s.views id me.0 at in let o = k.once t in let le = once_le t k.ticket in let h : held t me.0.phase ≡ one_at t t = ap (held t) is in let q = one_same t in omega arith);
           once = λ x. (let a = total_at (turns x) s.views id me.0 at in let o = k.once x in let le = once_le x k.ticket in omega arith);
           whole = λ all x less. has_all s k id t me.0 at is here all x (let q : length k.log ≡ length (me.0.seen ++ m.rest) = ap length m.begins in omega arith);
         } in
-        (w, takes 0 y.0, ap (λ hs. get_elem? hs 0) k.homes ∙ ap some y.1, takes_kept s k id t me.0 at is share here _ words, told true e _ got)
+        (w, takes 0 y.0, ap (λ hs. get_elem? hs 0) k.homes ∙ ap some y.1, takes_kept s k id t me.0 at is share here _ words, told _ ((λ _. got), (λ ne. absurd (ne e))))
 
 -- the turn of a seat that holds the desk is the next one, and it has seen the whole history
 pub passes_kept : (s : State PlainDesk View) (k : Kept s) (id t : ℕ) (me : Mine) (item : Item) (ready : Ready item t me) → get_elem? s.views id ≡ some me.0 → 0 < me.0.share
@@ -304,7 +299,7 @@ passes_kept s k id t me item ready at share words are =
     (λ y e. ap plain_state (sym (some-injective ready.desk y e)) ∙ ready.state ∙ ap (λ l. after (now_of l) (entry_of item)) (sym whole) ∙ sym (run_append opening k.log (item ∷ [])))
     (λ e. absurd (some-ne-none ready.desk e))
     (λ j u' u e q. ⊎_elim
-    (λ (x : (j ≡ id) × (w ≡ u)). absurd (idle_no (ap (λ (z : View). z.phase) x.1 ∙ q)))
+    (λ (x : (j ≡ id) × (w ≡ u)). absurd (idle_holds (ap (λ (z : View). z.phase) x.1 ∙ q)))
     (λ (x : (j ≢ id) × (get_elem? s.views j ≡ some u)). absurd (none_out j u' u x.0 x.1 (inr q)))
     (at_set s.views id j w u e))
     (λ x. let a = times_append x v.made (t ∷ []) in let h : held x v.phase ≡ one_at x t = ap (held x) ready.phase in omega arith)
@@ -315,7 +310,7 @@ passes_kept s k id t me item ready at share words are =
       beyond = mu.beyond ++ item ∷ [];
       told = ap (λ l. l ++ item ∷ []) mu.told ∙ append_assoc u.told mu.beyond (item ∷ []);
       clients = λ is. client_append mu.rest (item ∷ []) (mu.clients is) (ready.client (not_owner s k id j v u at e apart is), tt);
-      inside = mu.inside;
+      inside = below_mono (length k.log) (length log) u.made (omega arith) mu.inside;
       stands = still (length k.log) (length log) mu.rest (mu.rest ++ item ∷ []) u.phase more (λ q. none_out j t u apart e (inl (q ∙ ap Drawn (sym st.0)))) (λ n q. none_out j n u apart e (inr q)) mu.stands;
       read = mu.read;
       spent = mu.spent;
@@ -326,16 +321,12 @@ passes_kept s k id t me item ready at share words are =
       beyond = m.beyond ++ item ∷ [];
       told = ap (λ l. l ++ item ∷ []) m.told ∙ append_assoc v.told m.beyond (item ∷ []);
       clients = λ _. tt;
-      inside = below_append (length (v.seen ++ item ∷ [])) v.made (t ∷ []) (below_mono (length v.seen) (length (v.seen ++ item ∷ [])) v.made (omega (arith, length-append v.seen (item ∷ []))) m.inside)
-          ((let q = st.0 in let r = ap length longer in omega arith), tt);
+      inside = below_append (length log) v.made (t ∷ []) (below_mono (length k.log) (length log) v.made (omega arith) m.inside) ((let q = st.0 in omega arith), tt);
       stands = tt;
       read = m.read;
       spent = λ e. absurd (omega arith);
     })
   where
-    idle_no : {t : ℕ} → Idle ≡ Holding t → ⊥
-    idle_no e = absurd (cc)
-
     -- no other has drawn this turn, and no other holds the desk
     alone : (s : State PlainDesk View) (k : Kept s) (id t : ℕ) (v : View) → get_elem? s.views id ≡ some v → v.phase ≡ Holding t → t ≡ length k.log
         → (j n : ℕ) (u : View) → j ≢ id → get_elem? s.views j ≡ some u → (u.phase ≡ Drawn t) ⊎ (u.phase ≡ Holding n) → ⊥

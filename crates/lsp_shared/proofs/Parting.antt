@@ -1,6 +1,6 @@
 -- Splitting a seat, joining two, and the first state.
-use Rattle.std.proofs.Common.{◌≡◌, ◌≢◌, ℕ, zero, suc, ◌+◌, ◌/◌, ◌<◌, ◌≤◌, ltb, Bool, true, false, List, [], ◌∷◌, ◌++◌, length, set, refl, sym, ap, ◌∙◌, subst, ⊎_elim, arith, true≢false, append-nil, if◌then◌else◌}
-use Rattle.std.specs.Prelude.{slice_index}
+use Rattle.std.proofs.Common.{◌≡◌, ◌≢◌, ℕ, zero, suc, ◌+◌, ◌-◌, ◌/◌, ◌^◌, ◌==◌, ◌<◌, ◌≤◌, ◌||◌, ltb, Bool, true, false, List, [], ◌∷◌, ◌++◌, length, set, refl, sym, ap, ◌∙◌, subst, ⊎_elim, arith, true≢false, append-nil, if◌then◌else◌}
+use Rattle.std.specs.Prelude.{slice_index, max}
 use Rattle.std.proofs.lemmas.Bool.Decides.{nat_tests}
 use mathlib.Core.Option.{some, none, some-ne-none, some-injective}
 use lib.ListN.{get_elem?}
@@ -10,16 +10,16 @@ use Rattle.atomic_table.proofs.Lists.{at_set, at_snoc, set_else, at_longer}
 use Rattle.lsp_desk.specs.declared.plain.PlainDesk.{PlainDesk}
 use Rattle.lsp_desk.specs.Desk.{DeskState, opening}
 use Rattle.lsp_desk.specs.Plain.{plain_state}
-use Rattle.lsp_desk.specs.Trace.{after}
+use Rattle.lsp_desk.specs.Trace.{after, AllBelow}
 use Rattle.lsp_shared.specs.declared.view.Item.{Item}
 use Rattle.lsp_shared.specs.declared.view.Phase.TheVariants.{Idle, Holding}
 use Rattle.lsp_shared.specs.declared.view.View.{View}
 use Rattle.lsp_shared.specs.Rule.{Kept, Sits, Stands, turns, held, IsLegal, AreClean, AllClient, entry_of, newcomer}
-use Rattle.lsp_shared.specs.Steps.{Mine, half, rest_of, joined, empty, longer, shorter, learned, Learned, Begins}
+use Rattle.lsp_shared.specs.Steps.{Mine, half, rest_of, joined, empty, longer, learned, Learned, Heard, Begins, AddsClients, IsSound}
 use Rattle.lsp_shared.proofs.Totals.{total_set, total_at, total_snoc, times_append, once_le, below_mono, below_append, clean_take}
-use Rattle.lsp_shared.proofs.Moves.{rebuild, away_on, out_on}
+use Rattle.lsp_shared.proofs.Moves.{stays, found_stays, away_on, out_on, idle_holds}
 
-off : false ≡ true → ⊥
+pub off : false ≡ true → ⊥
 off e = true≢false (sym e)
 
 pub splits : (id : ℕ) (v : View) → 2 ≤ v.share → Splits Kept id v (rest_of v) (half v)
@@ -42,7 +42,7 @@ splits id v share s k at =
       clean = k.clean;
       at_home = k.at_home;
       away = λ e. let a = away_on s k id v l at refl e in (a.0, a.1, at_longer (set s.views id l) (r ∷ []) a.0 a.1 a.2, a.3);
-      out = λ j t u e is. ⊎_elim (λ (q : get_elem? (set s.views id l) j ≡ some u). out_on s k id v l at refl j t u q is) (λ (q : r ≡ u). absurd (idle_no (ap (λ (z : View). z.phase) q ∙ is))) (at_snoc (set s.views id l) r u j e);
+      out = λ j t u e is. ⊎_elim (λ (q : get_elem? (set s.views id l) j ≡ some u). out_on s k id v l at refl j t u q is) (λ (q : r ≡ u). absurd (idle_holds (ap (λ (z : View). z.phase) q ∙ is))) (at_snoc (set s.views id l) r u j e);
       once = λ x. let a = total_set (turns x) s.views id v l at in let b = total_snoc (turns x) (set s.views id l) r in let c = k.once x in omega arith;
       owned = λ j u e is. ⊎_elim
           (λ (q : get_elem? (set s.views id l) j ≡ some u). ⊎_elim
@@ -60,9 +60,6 @@ splits id v share s k at =
           (λ (q : r ≡ u). subst (Sits k.log k.ticket) q (record { rest = m.rest; begins = m.begins; beyond = k.log; told = refl; clients = λ z. absurd (off z); inside = tt; stands = tt; read = omega arith; spent = λ _. (refl, refl) }))
           (at_snoc (set s.views id l) r u j e);
     }
-  where
-    idle_no : {t : ℕ} → Idle ≡ Holding t → ⊥
-    idle_no e = absurd (cc)
 
 at_cases : {X : Type 0} (l : List View) (i j : ℕ) (a b : View) → get_elem? (set l i a) j ≡ some b → (a ≡ b → X) → (get_elem? l j ≡ some b → X) → X
 at_cases l i j a b e f g = ⊎_elim (λ t. f t.1) (λ t. g t.1) (at_set l i j a b e)
@@ -71,26 +68,15 @@ client_drop : (c d : List Item) → AllClient (c ++ d) → AllClient d
 client_drop [] d p = p
 client_drop (x ∷ xs) d p = client_drop xs d p.1
 
-tail_of : List Item → List Item
-tail_of [] = []
-tail_of (x ∷ xs) = xs
+client_take : (c d : List Item) → AllClient (c ++ d) → AllClient c
+client_take [] d p = tt
+client_take (x ∷ xs) d p = (p.0, client_take xs d p.1)
 
-head_of : Item → List Item → Item
-head_of d [] = d
-head_of d (x ∷ xs) = x
-
-suffix_client : (a b c d : List Item) → a ++ b ≡ c ++ d → length a ≤ length c → AllClient b → AllClient d
-suffix_client [] b c d e le p = client_drop c d (subst AllClient e p)
-suffix_client (x ∷ xs) b [] d e le p = absurd (omega arith)
-suffix_client (x ∷ xs) b (y ∷ ys) d e le p = suffix_client xs b ys d (tails e) (omega arith) p
-  where
-    tails : {x y : Item} {xs ys : List Item} → x ∷ xs ≡ y ∷ ys → xs ≡ ys
-    tails e = cc
-
-pub prefix_of : (a b c d : List Item) → a ++ b ≡ c ++ d → length a ≤ length c → Begins a c
-prefix_of [] b c d e le = (c, refl)
-prefix_of (x ∷ xs) b [] d e le = absurd (omega arith)
-prefix_of (x ∷ xs) b (y ∷ ys) d e le = let r = prefix_of xs b ys d (tails e) (omega arith) in (r.0, λ i. sym (heads e) i ∷ r.1 i)
+-- of two beginnings of one list the shorter begins the longer
+split_at : (a b c d : List Item) → a ++ b ≡ c ++ d → length a ≤ length c → (r : List Item) × (c ≡ a ++ r) × (b ≡ r ++ d)
+split_at [] b c d e le = (c, refl, e)
+split_at (x ∷ xs) b [] d e le = absurd (omega arith)
+split_at (x ∷ xs) b (y ∷ ys) d e le = let r = split_at xs b ys d (tails e) (omega arith) in (r.0, (λ i. sym (heads e) i ∷ r.1 i), r.2)
   where
     tails : {x y : Item} {xs ys : List Item} → x ∷ xs ≡ y ∷ ys → xs ≡ ys
     tails e = cc
@@ -98,38 +84,21 @@ prefix_of (x ∷ xs) b (y ∷ ys) d e le = let r = prefix_of xs b ys d (tails e)
     heads : {x y : Item} {xs ys : List Item} → x ∷ xs ≡ y ∷ ys → x ≡ y
     heads e = cc
 
--- both lists begin the history, so both lists that are picked of them do
-joined_sits : (log : List Item) (ticket : ℕ) (v w : View) (m : Sits log ticket v) (n : Sits log ticket w) → 0 < v.share → v.phase ≡ Idle → (c : Bool) → ltb (length v.seen) (length w.seen) ≡ c
-    → Sits log ticket record { seen = if c then w.seen else v.seen; told = if c then v.seen else w.seen; made = v.made ++ w.made; read = v.read; share = v.share + w.share; owner = v.owner; phase = v.phase }
-joined_sits log ticket v w m n share idle true e =
-    let le : length v.seen ≤ length w.seen = grind (arith, nat_tests) in
-    record {
-      rest = n.rest;
-      begins = n.begins;
-      beyond = m.rest;
-      told = m.begins;
-      clients = λ is. suffix_client v.seen m.rest w.seen n.rest (sym m.begins ∙ n.begins) le (m.clients is);
-      inside = below_append (length w.seen) v.made w.made (below_mono (length v.seen) (length w.seen) v.made le m.inside) n.inside;
-      stands = subst (Stands (length log) n.rest) (sym idle) tt;
-      read = m.read;
-      spent = λ z. absurd (omega arith);
-    }
-joined_sits log ticket v w m n share idle false e =
-    let le : length w.seen ≤ length v.seen = grind (arith, nat_tests) in
-    record {
-      rest = m.rest;
-      begins = m.begins;
-      beyond = n.rest;
-      told = n.begins;
-      clients = m.clients;
-      inside = below_append (length v.seen) v.made w.made m.inside (below_mono (length w.seen) (length v.seen) w.made le n.inside);
-      stands = subst (Stands (length log) m.rest) (sym idle) tt;
-      read = m.read;
-      spent = λ z. absurd (omega arith);
-    }
+joined_sits : (log : List Item) (ticket : ℕ) (v w : View) → Sits log ticket v → Sits log ticket w → 0 < v.share → Sits log ticket (joined v w)
+joined_sits log ticket v w m n share = record {
+  rest = m.rest;
+  begins = m.begins;
+  beyond = n.rest;
+  told = n.begins;
+  clients = m.clients;
+  inside = below_append (length log) v.made w.made m.inside n.inside;
+  stands = m.stands;
+  read = (let a = m.read in let b = n.read in omega arith);
+  spent = λ z. absurd (omega arith);
+}
 
-pub joins : (id : ℕ) (v : View) (other : ℕ) (w : View) → 0 < v.share → v.phase ≡ Idle → w.phase ≡ Idle → w.owner ≡ false → Joins Kept id v other w (joined v w) empty
-joins id v other w share idle idle2 no_owner s k at apart there0 =
+pub joins : (id : ℕ) (v : View) (other : ℕ) (w : View) → 0 < v.share → w.phase ≡ Idle → w.owner ≡ false → Joins Kept id v other w (joined v w) empty
+joins id v other w share idle no_owner s k at apart there0 =
     let b = joined v w in
     let m = k.sits id v at in
     let there : get_elem? s.views other ≡ some w = sym (set_else s.views id other b apart) ∙ there0 in
@@ -148,12 +117,12 @@ joins id v other w share idle idle2 no_owner s k at apart there0 =
       legal = k.legal;
       clean = k.clean;
       at_home = k.at_home;
-      away = λ e. let a = away_on s k id v b at refl e in (a.0, a.1, set_else views other a.0 empty (λ p. idle_no (sym idle2 ∙ ap (λ (z : View). z.phase) (some-injective w a.1 (sym there0 ∙ ap (get_elem? views) (sym p) ∙ a.2)) ∙ a.3)) ∙ a.2, a.3);
+      away = λ e. let a = away_on s k id v b at refl e in (a.0, a.1, set_else views other a.0 empty (λ p. idle_holds (sym idle ∙ ap (λ (z : View). z.phase) (some-injective w a.1 (sym there0 ∙ ap (get_elem? views) (sym p) ∙ a.2)) ∙ a.3)) ∙ a.2, a.3);
       out = λ j t u e is. at_cases views other j empty u e
-          (λ (q : empty ≡ u). absurd (idle_no (ap (λ (z : View). z.phase) q ∙ is)))
+          (λ (q : empty ≡ u). absurd (idle_holds (ap (λ (z : View). z.phase) q ∙ is)))
           (λ q. out_on s k id v b at refl j t u q is);
       once = λ x. let a = total_set (turns x) s.views id v b at in let c = total_set (turns x) views other w empty there0 in let d = k.once x in let f = times_append x v.made w.made in
-          let g : held x w.phase ≡ 0 = ap (held x) idle2 in omega arith;
+          let g : held x w.phase ≡ 0 = ap (held x) idle in omega arith;
       owned = λ j u e is. at_cases views other j empty u e
           (λ (q : empty ≡ u). absurd (off (ap (λ (z : View). z.owner) q ∙ is)))
           (λ q. ⊎_elim
@@ -164,37 +133,64 @@ joins id v other w share idle idle2 no_owner s k at apart there0 =
       sits = λ j u e. at_cases views other j empty u e
           (λ (q : empty ≡ u). subst (Sits k.log k.ticket) q (record { rest = k.log; begins = refl; beyond = k.log; told = refl; clients = λ z. absurd (off z); inside = tt; stands = tt; read = omega arith; spent = λ _. (refl, refl) }))
           (λ q. ⊎_elim
-          (λ (t : (j ≡ id) × (b ≡ u)). subst (Sits k.log k.ticket) t.1 (joined_sits k.log k.ticket v w m n share idle (ltb (length v.seen) (length w.seen)) refl))
+          (λ (t : (j ≡ id) × (b ≡ u)). subst (Sits k.log k.ticket) t.1 (joined_sits k.log k.ticket v w m n share))
           (λ (t : (j ≢ id) × (get_elem? s.views j ≡ some u)). k.sits j u t.1)
           (at_set s.views id j b u q));
     }
-  where
-    idle_no : {t : ℕ} → Idle ≡ Holding t → ⊥
-    idle_no e = absurd (cc)
 
 legal_take : (d : DeskState) (a b : List Item) → IsLegal d (a ++ b) → IsLegal d a
 legal_take d [] b p = tt
 legal_take d (x ∷ xs) b p = (p.0, legal_take (after d (entry_of x)) xs b p.1)
 
-pub learns : (slots id : ℕ) (me : Mine) → Allows Kept slots id me 0 (λ n. n) (Learned (step slots 0 0 0 none) me)
-learns slots id me s k len at small =
-    let m = k.sits id me.0 at in
-    let w = learned me.0 in (
+-- the view with the longer of what it has seen and what it was told, and which of the two begins the other
+record Hears (log : List Item) (ticket : ℕ) (v : View) (l : List Item) : Type 0 where
+  sits : Sits log ticket record { seen = l; told = []; made = v.made; read = v.read; share = v.share; owner = v.owner; phase = v.phase }
+  seen : Begins v.seen l
+  told : Begins v.told l
+  clients : v.owner ≡ true → AddsClients v.seen l
+
+hears : (log : List Item) (ticket : ℕ) (v : View) → Sits log ticket v → v.phase ≡ Idle → (c : Bool) → ltb (length v.seen) (length v.told) ≡ c → Hears log ticket v (if c then v.told else v.seen)
+hears log ticket v m idle true e =
+    let le : length v.seen ≤ length v.told = grind (arith, nat_tests) in
+    let s = split_at v.seen m.rest v.told m.beyond (sym m.begins ∙ m.told) le in
+    let asks : v.owner ≡ true → AllClient (s.0 ++ m.beyond) = (λ is. subst AllClient s.2 (m.clients is)) in
+    record {
+      sits = record { rest = m.beyond; begins = m.told; beyond = log; told = refl; clients = λ is. client_drop s.0 m.beyond (asks is); inside = m.inside; stands = subst (Stands (length log) m.beyond) (sym idle) tt; read = m.read; spent = m.spent };
+      seen = (s.0, s.1);
+      told = ([], sym (append-nil v.told));
+      clients = λ is. (s.0, s.1, client_take s.0 m.beyond (asks is));
+    }
+hears log ticket v m idle false e =
+    let le : length v.told ≤ length v.seen = grind (arith, nat_tests) in
+    let s = split_at v.told m.beyond v.seen m.rest (sym m.told ∙ m.begins) le in
+    record {
+      sits = record { rest = m.rest; begins = m.begins; beyond = log; told = refl; clients = m.clients; inside = m.inside; stands = m.stands; read = m.read; spent = m.spent };
+      seen = ([], sym (append-nil v.seen));
+      told = (s.0, s.1);
+      clients = λ _. ([], sym (append-nil v.seen), tt);
+    }
+
+pub learns : (slots id : ℕ) (me : Mine) → me.0.phase ≡ Idle → Allows Kept slots id me 0 (λ n. n) (Learned (step slots 0 0 0 none) me)
+learns slots id me idle s k len at small =
+    let v = me.0 in
+    let m = k.sits id v at in
+    let w = learned v in
+    let h = hears k.log k.ticket v m idle (ltb (length v.seen) (length v.told)) refl in (
       w,
       keeps,
       tt,
-      rebuild s k id me.0 w at _ _ k.log k.ticket k.home (ap (λ ws. set ws 0 (slice_index ws 0)) k.words) k.homes k.order k.small k.legal k.clean k.at_home
-          (away_on s k id me.0 w at refl) (out_on s k id me.0 w at refl) (λ x. omega arith) refl refl (λ j u _ e. k.sits j u e)
-          (record { rest = m.rest; begins = m.begins; beyond = k.log; told = refl; clients = m.clients; inside = m.inside; stands = m.stands; read = m.read; spent = m.spent }),
+      stays s k id v w at _ (found_stays s k) refl refl refl refl h.sits,
       (
         refl,
-        (λ le. prefix_of me.0.told m.beyond me.0.seen m.rest (sym m.told ∙ m.begins) le),
         record {
-          legal = legal_take opening me.0.seen m.rest (subst (IsLegal opening) m.begins k.legal);
-          clean = clean_take me.0.seen m.rest (subst AreClean m.begins k.clean);
-          inside = m.inside;
-          once = λ x. (let a = total_at (turns x) s.views id me.0 at in let o = k.once x in let le = once_le x k.ticket in omega arith);
-          share = (let a = total_at (λ z. z.share) s.views id me.0 at in let b = k.shares in omega arith);
+          seen = h.seen;
+          told = h.told;
+          clients = h.clients;
+          legal = legal_take opening w.seen h.sits.rest (subst (IsLegal opening) h.sits.begins k.legal);
+          clean = clean_take w.seen h.sits.rest (subst AreClean h.sits.begins k.clean);
+          once = λ x. (let a = total_at (turns x) s.views id v at in let o = k.once x in let le = once_le x k.ticket in omega arith);
+          share = (let a = total_at (λ z. z.share) s.views id v at in let b = k.shares in omega arith);
+          read = (let r = m.read in let t = k.small in omega arith);
         },
       ),
     )
@@ -213,31 +209,47 @@ begins desk new = record {
   clean = tt;
   at_home = λ y e. ap plain_state (sym (some-injective desk y e)) ∙ new;
   away = λ e. absurd (some-ne-none desk e);
-  out = λ j t u e is. absurd (idle_no (ap (λ (z : View). z.phase) (one j u e).1 ∙ is));
+  out = λ j t u e is. absurd (idle_holds (ap (λ (z : View). z.phase) (one j u e).1 ∙ is));
   once = λ x. grind (arith, nat_tests);
   owned = λ j u e is. (one j u e).0;
   shares = omega arith;
   sits = λ j u e. subst (Sits [] 0) (one j u e).1 (record { rest = []; begins = refl; beyond = []; told = refl; clients = λ _. tt; inside = tt; stands = tt; read = omega arith; spent = λ z. absurd (omega arith) });
 }
   where
-    idle_no : {t : ℕ} → Idle ≡ Holding t → ⊥
-    idle_no e = absurd (cc)
-
     one : (j : ℕ) (u : View) → get_elem? (newcomer ∷ []) j ≡ some u → (j ≡ 0) × (newcomer ≡ u)
     one zero u e = (refl, some-injective newcomer u e)
     one (suc j) u e = absurd (some-ne-none u (sym e))
 
-pub longer_starts : (a b : List Item) → length (shorter a b) ≤ length (longer a b)
-longer_starts a b = go (ltb (length a) (length b)) refl
+pub longest : (a b : List Item) → length (longer a b) ≡ max (length a) (length b)
+longest a b = go (ltb (length a) (length b)) refl
   where
-    go : (c : Bool) → ltb (length a) (length b) ≡ c → length (if c then a else b) ≤ length (if c then b else a)
-    go true e = grind (arith, nat_tests)
-    go false e = grind (arith, nat_tests)
+    go : (c : Bool) → ltb (length a) (length b) ≡ c → length (if c then b else a) ≡ max (length a) (length b)
+    go true e = let le : length a < length b = grind (arith, nat_tests) in omega arith
+    go false e = let le : length b ≤ length a = grind (arith, nat_tests) in omega arith
 
--- where the shorter begins the longer, both do
-pub both_begin : (a b : List Item) → Begins (shorter a b) (longer a b) → Begins a (longer a b) × Begins b (longer a b)
-both_begin a b = go (ltb (length a) (length b))
+-- what is true of a seat that took another in
+pub takes_in : (v w u : View) → u ≡ learned (joined v w) → Heard (joined v w) → AllBelow (length v.seen) v.made → AllBelow (length w.seen) w.made
+    → Begins v.seen u.seen × Begins w.seen u.seen × (v.owner ≡ true → AddsClients v.seen u.seen) × IsSound u
+takes_in v w u is h a b = subst (λ (x : View). Begins v.seen x.seen × Begins w.seen x.seen × (v.owner ≡ true → AddsClients v.seen x.seen) × IsSound x) (sym is) (h.seen, h.told, h.clients, sound)
   where
-    go : (c : Bool) → Begins (if c then a else b) (if c then b else a) → Begins a (if c then b else a) × Begins b (if c then b else a)
-    go true p = (p, ([], sym (append-nil b)))
-    go false p = (([], sym (append-nil a)), p)
+    most : length (longer v.seen w.seen) ≡ max (length v.seen) (length w.seen)
+    most = longest v.seen w.seen
+
+    sound : IsSound (learned (joined v w))
+    sound = record {
+      legal = h.legal;
+      clean = h.clean;
+      inside = let n = length (longer v.seen w.seen) in let e = most in below_append n v.made w.made (below_mono (length v.seen) n v.made (omega arith) a) (below_mono (length w.seen) n w.made (omega arith) b);
+      once = h.once;
+      share = h.share;
+      read = h.read;
+    }
+
+-- of two seats one is spent where the larger of the turns that they read is the last one
+pub joined_spent : (a b : ℕ) → max a b < 2 ^ 64 → (a == 2 ^ 64 - 1) || (b == 2 ^ 64 - 1) ≡ (max a b == 2 ^ 64 - 1)
+joined_spent a b less = go (a == 2 ^ 64 - 1) refl (b == 2 ^ 64 - 1) refl
+  where
+    go : (p : Bool) → (a == 2 ^ 64 - 1) ≡ p → (q : Bool) → (b == 2 ^ 64 - 1) ≡ q → p || q ≡ (max a b == 2 ^ 64 - 1)
+    go true e q f = let is : a ≡ 2 ^ 64 - 1 = grind (arith, nat_tests) in let both : max a b ≡ 2 ^ 64 - 1 = omega arith in sym (ap (λ (n : ℕ). n == 2 ^ 64 - 1) both)
+    go false e true f = let is : b ≡ 2 ^ 64 - 1 = grind (arith, nat_tests) in let both : max a b ≡ 2 ^ 64 - 1 = omega arith in sym (ap (λ (n : ℕ). n == 2 ^ 64 - 1) both)
+    go false e false f = grind (arith, nat_tests)

@@ -10,7 +10,7 @@ abbrev pub desk_id : SharedDesk → TableId
 desk_id desk = desk.table.shared.table_id
 
 abbrev pub first_desk : OwnerSeat → TableId
-first_desk seat = seat.seat.table_id
+first_desk seat = seat.rested.seat.table_id
 
 abbrev pub rested_desk : Rested → TableId
 rested_desk r = r.seat.table_id

@@ -2,6 +2,5 @@ pub mod Rule
 pub mod Steps
 pub mod Props
 pub mod Phases
-pub mod Chairs
 pub mod Seats
 pub mod Desks

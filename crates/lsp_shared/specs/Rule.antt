@@ -96,7 +96,7 @@ pub record Sits (log : List Item) (ticket : ℕ) (v : View) : Type 0 where
   pub beyond : List Item
   pub told : log ≡ v.told ++ beyond
   pub clients : v.owner ≡ true → AllClient rest
-  pub inside : AllBelow (length v.seen) v.made
+  pub inside : AllBelow (length log) v.made
   pub stands : Stands (length log) rest v.phase
   pub read : v.read ≤ ticket
   pub spent : v.share ≡ 0 → (v.made ≡ []) × (v.phase ≡ Idle)

@@ -1,37 +1,42 @@
--- What a seat with its runtime means.
-use Rattle.std.specs.Prelude.{◌≡◌, ℕ, suc, false, true, List, [], ◌∷◌, map, length, MatchBool}
+-- What a seat means.
+use Rattle.std.specs.Prelude.{◌≡◌, ◌+◌, ℕ, suc, false, true, List, [], ◌∷◌, map, length, Some, MatchBool, MatchOption}
 use mathlib.Core.Path.{refl, sym, ap, subst}
 use Rattle.lsp_desk.specs.Desk.{opening}
-use Rattle.lsp_desk.specs.Trace.{after_all, AllBelow}
+use Rattle.lsp_desk.specs.Flow.{all_given, all_answered, open_tickets}
+use Rattle.lsp_desk.specs.Trace.{DeskEntry, after_all, AllBelow, times}
 use Rattle.lsp_desk.specs.Meaning.{Meaning, IsLawful}
 use Rattle.atomic_table.specs.Seated.{TableId}
-use Rattle.lsp_shared.specs.declared.client.SharedClient.{SharedClient}
-use Rattle.lsp_shared.specs.declared.client.DeskOwner.{DeskOwner}
+use Rattle.lsp_shared.specs.declared.rested.Rested.{Rested}
+use Rattle.lsp_shared.specs.declared.role.Role.{Ghosts}
+use Rattle.lsp_shared.specs.declared.seat.DeskSeat.{DeskSeat}
 use Rattle.lsp_shared.specs.declared.view.View.{View}
 use Rattle.lsp_shared.specs.declared.view.Item.{Item}
-use Rattle.lsp_shared.specs.Rule.{entry_of}
-use Rattle.lsp_shared.specs.Chairs.{chair_meaning, of_told}
+use Rattle.lsp_shared.specs.Rule.{now_of, entry_of}
+use Rattle.lsp_shared.specs.Desks.{rested_desk, rested_view, rested_spent}
 
-abbrev pub client_meaning : {R : Type 0} → Meaning (SharedClient R)
-client_meaning = record {
-  now = λ c. chair_meaning.now c.chair.chair;
-  alone = λ c. chair_meaning.alone c.chair.chair;
-  history = λ c. chair_meaning.history c.chair.chair;
-  own = λ c. chair_meaning.own c.chair.chair;
-  spent = λ c. chair_meaning.spent c.chair.chair;
-  kin = λ c. chair_meaning.kin c.chair.chair;
-  chief = λ c. chair_meaning.chief c.chair.chair;
-}
+-- which desk, and which share
+abbrev pub kin_of : TableId → ℕ → List ℕ
+kin_of z share = share ∷ z.words ∷ z.slots ∷ z.views_name ∷ z.atom ∷ z.block ∷ z.offset ∷ z.slot_names
 
-abbrev pub owner_meaning : {R : Type 0} → Meaning (DeskOwner R)
-owner_meaning = record {
-  now = λ c. chair_meaning.now c.chair.chair;
-  alone = λ c. chair_meaning.alone c.chair.chair;
-  history = λ c. chair_meaning.history c.chair.chair;
-  own = λ c. chair_meaning.own c.chair.chair;
-  spent = λ c. chair_meaning.spent c.chair.chair;
-  kin = λ c. chair_meaning.kin c.chair.chair;
-  chief = λ c. chair_meaning.chief c.chair.chair;
+-- what a seat has seen, as entries
+abbrev pub entries_seen : View → List DeskEntry
+entries_seen v = map entry_of v.seen
+
+-- the tickets given in what a seat has seen are, each as often, those whose answers were taken, are kept, or are awaited
+abbrev pub TicketsAddUp : View → Type 0
+TicketsAddUp v = (n : ℕ) → times n (all_given (entries_seen v)) ≡ times n (all_answered (entries_seen v)) + times n (open_tickets (now_of v.seen))
+
+-- ---- a value that holds a seat at rest
+
+abbrev pub meaning_by : {D : Type 0} → (D → Rested) → Meaning D
+meaning_by rested = record {
+  now = λ d. now_of (rested_view (rested d)).seen;
+  alone = λ _. false;
+  history = λ d. Some (entries_seen (rested_view (rested d)));
+  own = λ d. (rested_view (rested d)).made;
+  spent = λ d. rested_spent (rested d);
+  kin = λ d. kin_of (rested_desk (rested d)) (rested_view (rested d)).share;
+  chief = λ d. (rested_view (rested d)).owner;
 }
 
 -- as many entries as items
@@ -43,31 +48,33 @@ seen_long (x ∷ xs) = ap suc (seen_long xs)
 abbrev pub not_alone : {P : Type 0} → false ≡ true → P
 not_alone {P} same = subst (λ b. MatchBool b P (Unit {0})) same tt
 
-abbrev pub client_laws : {R : Type 0} → IsLawful (client_meaning {R = R})
-client_laws = record {
-  alone_unspent = λ c alone. not_alone alone;
-  now_told = λ c h told. of_told (λ l. chair_meaning.now c.chair.chair ≡ after_all opening l) told refl;
-  own_inside = λ c h told. of_told (λ l. AllBelow (length l) c.chair.chair.seat.me.0.made) told (subst (λ (n : ℕ). AllBelow n c.chair.chair.seat.me.0.made) (sym (seen_long c.chair.chair.seat.me.0.seen)) c.chair.chair.inside);
-  own_once = λ c h told n. c.chair.chair.once n;
+-- a history that is told is the one that was seen
+abbrev pub of_told : (P : List DeskEntry → Type 0) {seen h : List DeskEntry} → Some seen ≡ Some h → P seen → P h
+of_told P same p = subst (λ told. MatchOption told (Unit {0}) P) same p
+
+abbrev pub laws_by : {D : Type 0} (rested : D → Rested) → IsLawful (meaning_by rested)
+laws_by rested = record {
+  alone_unspent = λ d alone. not_alone alone;
+  now_told = λ d h told. of_told (λ l. now_of (rested_view (rested d)).seen ≡ after_all opening l) told refl;
+  own_inside = λ d h told. let v = rested_view (rested d) in of_told (λ l. AllBelow (length l) v.made) told (subst (λ (n : ℕ). AllBelow n v.made) (sym (seen_long v.seen)) (rested d).inside);
+  own_once = λ d h told n. (rested d).once n;
 }
 
-abbrev pub owner_laws : {R : Type 0} → IsLawful (owner_meaning {R = R})
-owner_laws = record {
-  alone_unspent = λ c alone. not_alone alone;
-  now_told = λ c h told. of_told (λ l. chair_meaning.now c.chair.chair ≡ after_all opening l) told refl;
-  own_inside = λ c h told. of_told (λ l. AllBelow (length l) c.chair.chair.seat.me.0.made) told (subst (λ (n : ℕ). AllBelow n c.chair.chair.seat.me.0.made) (sym (seen_long c.chair.chair.seat.me.0.seen)) c.chair.chair.inside);
-  own_once = λ c h told n. c.chair.chair.once n;
-}
+-- ---- a seat at its desk
 
--- what a seat knows, and which desk is its
-abbrev pub owner_view : {R : Type 0} → DeskOwner R → View
-owner_view c = c.chair.chair.seat.me.0
+module _ {R K : Type 0} {g : Ghosts K} where
+  abbrev pub at_rest : DeskSeat R K g → Rested
+  at_rest c = c.rested
 
-abbrev pub owner_desk : {R : Type 0} → DeskOwner R → TableId
-owner_desk c = c.chair.chair.seat.table_id
+  abbrev pub seat_meaning : Meaning (DeskSeat R K g)
+  seat_meaning = meaning_by at_rest
 
-abbrev pub client_view : {R : Type 0} → SharedClient R → View
-client_view c = c.chair.chair.seat.me.0
+  abbrev pub seat_laws : IsLawful seat_meaning
+  seat_laws = laws_by at_rest
 
-abbrev pub client_desk : {R : Type 0} → SharedClient R → TableId
-client_desk c = c.chair.chair.seat.table_id
+  -- what a seat knows, and which desk is its
+  abbrev pub seat_view : DeskSeat R K g → View
+  seat_view c = rested_view c.rested
+
+  abbrev pub seat_desk : DeskSeat R K g → TableId
+  seat_desk c = rested_desk c.rested

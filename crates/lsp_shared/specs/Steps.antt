@@ -1,5 +1,5 @@
 -- What each step does to a view.
-use Rattle.std.specs.Prelude.{◌≡◌, ◌++◌, ◌+◌, ◌-◌, ◌^◌, ◌/◌, ◌<◌, ◌≤◌, ℕ, true, false, ltb, ◌==◌, if◌then◌else◌, List, [], ◌∷◌, length, MatchBool, None, Result, Ok, Err}
+use Rattle.std.specs.Prelude.{◌≡◌, ◌++◌, ◌+◌, ◌-◌, ◌^◌, ◌/◌, ◌<◌, ◌≤◌, ℕ, true, false, ltb, ◌==◌, if◌then◌else◌, List, [], ◌∷◌, length, max, MatchBool, Option, None, Some, Result, Ok, Err}
 use Rattle.atomic_table.specs.Table.{Me, Step}
 use Rattle.lsp_desk.specs.declared.plain.PlainDesk.{PlainDesk}
 use Rattle.lsp_desk.specs.declared.call.ClientReply.{ClientReply}
@@ -36,10 +36,15 @@ abbrev pub passing : View → ℕ → Item → View
 passing v t item = record { seen = v.seen ++ item ∷ []; told = v.told; made = v.made ++ t ∷ []; read = v.read; share = v.share; owner = v.owner; phase = Idle }
 
 abbrev pub Read : Step PlainDesk → Mine → ℕ → Mine → Type 0
-Read st me n me2 = me2 ≡ (reading me.0 n, me.1)
+Read st me n me2 = (me.0.read ≤ n) × (me2 ≡ (reading me.0 n, me.1))
 
 abbrev pub Drew : Step PlainDesk → Mine → ℕ → Mine → Type 0
 Drew st me n me2 = MatchBool (n == st.first) (me2 ≡ (drawing me.0 st.first, me.1)) (me2 ≡ me)
+
+-- a turn was drawn, or there is none where the last number was read; a turn that is read later is no less
+abbrev pub HasDrawn : Mine → Option ℕ → Mine → Type 0
+HasDrawn me None me2 = me2 ≡ (reading me.0 (2 ^ 64 - 1), me.1)
+HasDrawn me (Some n) me2 = (n + 1 < 2 ^ 64) × (me.0.read ≤ n) × (me2 ≡ (drawing (reading me.0 n) n, me.1))
 
 -- the turn has come: the desk stands as its history says
 pub record GotTurn (v : View) (t : ℕ) (me2 : Mine) : Type 0 where
@@ -58,7 +63,7 @@ pub record GotTurn (v : View) (t : ℕ) (me2 : Mine) : Type 0 where
   pub whole : v.share ≡ 2 ^ 63 → (x : ℕ) → x < length (v.seen ++ rest) → times x v.made ≡ 1
 
 abbrev pub Took : Step PlainDesk → Mine → ℕ → Mine → Type 0
-Took st me n me2 = (t : ℕ) → me.0.phase ≡ Drawn t → MatchBool (n == t) (GotTurn me.0 t me2) (me2 ≡ me)
+Took st me n me2 = (t : ℕ) → me.0.phase ≡ Drawn t → (n ≡ t → GotTurn me.0 t me2) × ((n ≡ t → ⊥) → me2 ≡ me)
 
 abbrev pub Passed : Item → Step PlainDesk → Mine → ℕ → Mine → Type 0
 Passed item st me n me2 = (t : ℕ) → me.0.phase ≡ Holding t → me2 ≡ (passing me.0 t item, [])
@@ -93,21 +98,23 @@ half v = record { seen = v.seen; told = []; made = []; read = 0; share = v.share
 abbrev pub rest_of : View → View
 rest_of v = record { seen = v.seen; told = v.told; made = v.made; read = v.read; share = v.share - v.share / 2; owner = v.owner; phase = v.phase }
 
+-- a seat that took in another: what it has seen, and what it is told by the other
+abbrev pub joined : View → View → View
+joined v w = record { seen = v.seen; told = w.seen; made = v.made ++ w.made; read = max v.read w.read; share = v.share + w.share; owner = v.owner; phase = v.phase }
+
 abbrev pub longer : List Item → List Item → List Item
 longer a b = if ltb (length a) (length b) then b else a
 
-abbrev pub shorter : List Item → List Item → List Item
-shorter a b = if ltb (length a) (length b) then a else b
-
-abbrev pub joined : View → View → View
-joined v w = record { seen = longer v.seen w.seen; told = shorter v.seen w.seen; made = v.made ++ w.made; read = v.read; share = v.share + w.share; owner = v.owner; phase = v.phase }
-
--- what was told is looked at
+-- it has seen what it was told too
 abbrev pub learned : View → View
-learned v = record { seen = v.seen; told = []; made = v.made; read = v.read; share = v.share; owner = v.owner; phase = v.phase }
+learned v = record { seen = longer v.seen v.told; told = []; made = v.made; read = v.read; share = v.share; owner = v.owner; phase = v.phase }
 
 abbrev pub Begins : List Item → List Item → Type 0
 Begins a b = (rest : List Item) × (b ≡ a ++ rest)
+
+-- the second is the first, and then client calls
+abbrev pub AddsClients : List Item → List Item → Type 0
+AddsClients a b = (rest : List Item) × (b ≡ a ++ rest) × AllClient rest
 
 -- a view that has seen nothing and made no call, with the whole share
 pub record IsNew (v : View) : Type 0 where
@@ -123,9 +130,21 @@ pub record IsSound (v : View) : Type 0 where
   pub inside : AllBelow (length v.seen) v.made
   pub once : (x : ℕ) → times x v.made ≤ 1
   pub share : v.share ≤ 2 ^ 63
+  pub read : v.read < 2 ^ 64
+
+-- of what a seat has seen and what it was told one begins the other
+pub record Heard (v : View) : Type 0 where
+  pub seen : Begins v.seen (learned v).seen
+  pub told : Begins v.told (learned v).seen
+  pub clients : v.owner ≡ true → AddsClients v.seen (learned v).seen
+  pub legal : IsLegal opening (learned v).seen
+  pub clean : AreClean (learned v).seen
+  pub once : (x : ℕ) → times x v.made ≤ 1
+  pub share : v.share ≤ 2 ^ 63
+  pub read : v.read < 2 ^ 64
 
 abbrev pub Learned : Step PlainDesk → Mine → ℕ → Mine → Type 0
-Learned st me n me2 = (me2 ≡ (learned me.0, me.1)) × (length me.0.told ≤ length me.0.seen → Begins me.0.told me.0.seen) × IsSound me.0
+Learned st me n me2 = (me2 ≡ (learned me.0, me.1)) × Heard me.0
 
 -- a view that another took in
 abbrev pub empty : View
@@ -155,8 +174,9 @@ pub record Turned (v : View) (item : Item) (w : View) : Type 0 where
   -- the turns of its calls are places of what it has seen, each once
   pub inside : AllBelow (length w.seen) w.made
   pub once : (x : ℕ) → times x w.made ≤ 1
-  -- the ticket word was not at its last value
+  -- the ticket word was not at its last value, and no less than when it was read before
   pub unspent : w.read + 1 < 2 ^ 64
+  pub later : v.read ≤ w.read
   -- with the whole share every entry is one's own
   pub whole : v.share ≡ 2 ^ 63 → (x : ℕ) → x < length w.seen → times x w.made ≡ 1
 
@@ -165,3 +185,9 @@ abbrev pub Answered : {R : Type 0} → (R → Replied) → Asked → View → Re
 Answered wrap note v (Ok reply) w = Turned v (item_for wrap note (Ok reply)) w
 Answered wrap note v (Err faults.NoMemory) w = Turned v (item_for wrap note (Err faults.NoMemory)) w
 Answered wrap note v (Err (faults.Spent n)) w = (n ≡ 2 ^ 64 - 1) × (w ≡ reading v n)
+
+-- what holds after a call that had its turn
+abbrev pub HasTurn : {R : Type 0} → Result R DeskFault → Type 0 → Type 0
+HasTurn (Ok reply) P = P
+HasTurn (Err faults.NoMemory) P = P
+HasTurn (Err (faults.Spent n)) P = Unit {0}

@@ -1,9 +1,8 @@
 //! The desk that threads share.
-ghost use Rattle.std.specs.Prelude.{◌≡◌, ◌^◌, true, length, IfOk};
-ghost use Rattle.lsp_shared.specs.Phases.{is_idle};
+ghost use Rattle.std.specs.Prelude.{◌≡◌, ◌^◌, true, false, length, IfOk};
 
+use crate::rested::Rested;
 use crate::rule::Turns;
-use crate::steps::TurnSeat;
 use crate::view::View;
 use atomic_table::Table;
 use lsp_desk::PlainDesk;
@@ -21,13 +20,12 @@ pub struct SharedDesk {
 /// The first seat of a desk, through which no call was made.
 #[derive(Drop)]
 pub struct OwnerSeat {
-    pub(crate) seat: TurnSeat,
-    pub ghost idle: { is_idle seat.me.0.phase ≡ true },
-    pub ghost empty: { length seat.me.1 ≡ 0 },
-    pub ghost unseen: { length seat.me.0.seen ≡ 0 },
-    pub ghost unmade: { length seat.me.0.made ≡ 0 },
-    pub ghost whole: { seat.me.0.share ≡ 2 ^ 63 },
-    pub ghost owns: { seat.me.0.owner ≡ true },
+    pub(crate) rested: Rested,
+    pub ghost unseen: { length rested.seat.me.0.seen ≡ 0 },
+    pub ghost unmade: { length rested.seat.me.0.made ≡ 0 },
+    pub ghost unspent: { rested.spent ≡ false },
+    pub ghost whole: { rested.seat.me.0.share ≡ 2 ^ 63 },
+    pub ghost owns: { rested.seat.me.0.owner ≡ true },
 }
 
 impl SharedDesk {
@@ -39,9 +37,15 @@ impl SharedDesk {
     {
         let mut slots = Vec::new(alloc);
         slots.push(PlainDesk::new(alloc))?;
-        match Table::new(alloc, &[0, 0], slots, &()) {
-            Ok((table, seat)) => Ok((SharedDesk { table }, OwnerSeat { seat })),
-            Err(_) => Err(NoMemory),
-        }
+        let Ok((table, seat)) = Table::new(alloc, &[0, 0], slots, &()) else {
+            return Err(NoMemory);
+        };
+        let rested = Rested {
+            seat,
+            seen: 0,
+            share: 1 << 63,
+            spent: false,
+        };
+        Ok((SharedDesk { table }, OwnerSeat { rested }))
     }
 }

@@ -2,17 +2,18 @@
 //! server through seats of their own.
 #![tactic(auto)]
 
-mod chair;
-mod client;
+mod call;
 mod desk;
 mod rested;
+mod role;
 mod rule;
-mod sides;
+mod seat;
 mod steps;
 mod turn;
 mod view;
 
-pub use client::{DeskOwner, SharedClient};
 pub use desk::{OwnerSeat, SharedDesk};
 pub use no_memory::NoMemory;
 pub use rested::Rested;
+pub use role::{Client, Owner, Role};
+pub use seat::{DeskOwner, DeskSeat, SharedClient};

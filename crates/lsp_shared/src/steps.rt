@@ -1,108 +1,87 @@
-//! The steps of a turn.
-ghost use Rattle.std.specs.Prelude.{◌≡◌, ℕ, ◌<◌, ◌≤◌, false, ◌+◌, ◌^◌, ◌==◌, ◌++◌, ◌∷◌, [], MatchBool, length};
-ghost use Rattle.lsp_shared.specs.declared.view.Phase.TheVariants.{Idle, Drawn, Holding};
-ghost use Rattle.lsp_shared.specs.Steps.{reading, drawing, passing, half, rest_of, joined, learned, Begins, IsSound, GotTurn, Ready};
+//! The steps of a turn: it is drawn, it comes, and it passes.
+ghost use Rattle.std.specs.Prelude.{◌≡◌, ◌<◌, []};
+ghost use Rattle.lsp_shared.specs.declared.view.Phase.TheVariants.{Idle, Drawn};
+ghost use Rattle.lsp_shared.specs.Desks.{desk_id};
+ghost use Rattle.lsp_shared.specs.Steps.{passing, HasDrawn, GotTurn, Ready};
 
-use crate::rule::{Draws, Halves, Joins, Learns, Passes, Reads, Said, Takes, Turns};
+use crate::desk::SharedDesk;
+use crate::rule::{Draws, Passes, Reads, Said, Takes};
 use crate::view::View;
-use atomic_table::{Seat, Shared};
-use lsp_desk::PlainDesk;
+use atomic_table::Seat;
+use lsp_desk::{DeskFault, PlainDesk};
+use std::hint::spin_loop;
 use std::sync::Wait;
-
-pub type TurnTable = Shared<PlainDesk, View, (), Turns>;
 
 pub type TurnSeat = Seat<PlainDesk, View>;
 
-const TICKET: usize = 0;
+/// The word of the turn that is drawn next.
+pub const TICKET: usize = 0;
 
+// The word of the turn that has come.
 const SERVING: usize = 1;
 
-/// The ticket word.
-pub fn look(table: &TurnTable, seat: &mut TurnSeat) -> u64
-    requires seat { (seat.old.table_id ≡ table.now.table_id) × (table.now.table_id.words ≡ 2) }
-    ensures seat { seat.new.table_id ≡ seat.old.table_id }
-    ensures read { seat.new.me ≡ (reading seat.old.me.0 result, seat.old.me.1) }
+// How often a seat looks whether its turn has come before it sleeps.
+const LOOKS: u32 = 200;
+
+/// Draws a turn. There is none where the last number was read.
+pub fn draw<R: Wait>(rt: &R, desk: &SharedDesk, seat: &mut TurnSeat) -> Option<u64>
+    requires here { seat.old.table_id ≡ desk_id desk.now }
+    requires may { (seat.old.me.0.phase ≡ Idle) × (0 < seat.old.me.0.share) }
+    ensures here { seat.new.table_id ≡ seat.old.table_id }
+    ensures drawn { HasDrawn seat.old.me result seat.new.me }
 {
-    table.load::<Reads>(seat, TICKET)
+    let table = &desk.table.shared;
+    for _ in rt.forever() {
+        let n = table.load::<Reads>(seat, TICKET);
+        if n == u64::MAX {
+            return None;
+        }
+        if table.compare_exchange::<Draws>(seat, TICKET, n, n + 1) == n {
+            return Some(n);
+        }
+    }
+    unreachable!()
 }
 
-/// Draws the turn n, if no other has drawn it.
-pub fn draw(table: &TurnTable, seat: &mut TurnSeat, n: u64) -> bool
-    requires seat { (seat.old.table_id ≡ table.now.table_id) × (table.now.table_id.words ≡ 2) }
-    requires idle { seat.old.me.0.phase ≡ Idle }
-    requires share { 0 < seat.old.me.0.share }
-    requires small { n + 1 < 2 ^ 64 }
-    ensures seat { seat.new.table_id ≡ seat.old.table_id }
-    ensures drawn { MatchBool result (seat.new.me ≡ (drawing seat.old.me.0 n, seat.old.me.1))
-        (seat.new.me ≡ seat.old.me) }
-{
-    table.compare_exchange::<Draws>(seat, TICKET, n, n + 1) == n
-}
-
-/// Takes the desk, if the turn t has come. The turn that has come is told.
-pub fn take(table: &TurnTable, seat: &mut TurnSeat, t: u64) -> u64
-    requires seat { (seat.old.table_id ≡ table.now.table_id) × (table.now.table_id.words ≡ 2) }
-    requires phase { seat.old.me.0.phase ≡ Drawn t }
+/// Waits for the turn t, and has the desk then.
+pub fn wait<R: Wait>(rt: &R, desk: &SharedDesk, seat: &mut TurnSeat, t: u64)
+    requires here { seat.old.table_id ≡ desk_id desk.now }
+    requires waits { (seat.old.me.0.phase ≡ Drawn t) × (0 < seat.old.me.0.share) }
     requires empty { seat.old.me.1 ≡ [] }
-    requires share { 0 < seat.old.me.0.share }
-    ensures seat { seat.new.table_id ≡ seat.old.table_id }
-    ensures taken { MatchBool (result == t) (GotTurn seat.old.me.0 t seat.new.me) (seat.new.me
-        ≡ seat.old.me) }
+    ensures { (seat.new.table_id ≡ seat.old.table_id) × GotTurn seat.old.me.0 t seat.new.me }
 {
-    table.load::<Takes>(seat, SERVING)
+    let table = &desk.table.shared;
+    let mut looks = 0u32;
+    for _ in rt.forever() {
+        let turn = table.load::<Takes>(seat, SERVING);
+        if turn == t {
+            return;
+        }
+        if looks < LOOKS {
+            looks += 1;
+            spin_loop();
+        } else {
+            table.park(rt, SERVING, (turn % (1 << 32)) as u32);
+        }
+    }
+    unreachable!()
 }
 
-/// Sleeps until another turn than this one has come, or for no reason.
-pub fn doze<R: Wait>(rt: &R, table: &TurnTable, turn: u64)
-    requires { table.now.table_id.words ≡ 2 }
+/// Passes the turn t on with what its call was answered, and wakes those who wait for theirs.
+pub fn pass<T, N: Said>(
+    desk: &SharedDesk,
+    seat: &mut TurnSeat,
+    t: u64,
+    _result: &Result<T, DeskFault>,
+)
+    requires here { seat.old.table_id ≡ desk_id desk.now }
+    requires ready { Ready N.item t seat.old.me × (0 < seat.old.me.0.share) }
+    ensures { (seat.new.table_id ≡ seat.old.table_id)
+        × (seat.new.me ≡ (passing seat.old.me.0 t N.item, [])) }
 {
-    table.park(rt, SERVING, (turn % (1 << 32)) as u32);
-}
-
-/// Wakes those who wait for a turn, after the turn t has passed.
-pub fn wake(table: &TurnTable, t: u64)
-    requires { table.now.table_id.words ≡ 2 }
-{
+    let table = &desk.table.shared;
+    table.fetch_add::<Passes<N>>(seat, SERVING, 1);
     if table.peek(TICKET) != t.wrapping_add(1) {
         table.wake_all(SERVING);
     }
-}
-
-/// Gives the desk back with this entry.
-pub fn pass<N: Said>(table: &TurnTable, seat: &mut TurnSeat, t: u64)
-    requires seat { (seat.old.table_id ≡ table.now.table_id) × (table.now.table_id.words ≡ 2) }
-    requires ready { Ready N.item t seat.old.me }
-    requires share { 0 < seat.old.me.0.share }
-    ensures seat { seat.new.table_id ≡ seat.old.table_id }
-    ensures passed { seat.new.me ≡ (passing seat.old.me.0 t N.item, []) }
-{
-    table.fetch_add::<Passes<N>>(seat, SERVING, 1);
-}
-
-/// Cuts a seat's share in two.
-pub fn part(table: &TurnTable, seat: &mut TurnSeat) -> TurnSeat
-    requires seat { (seat.old.table_id ≡ table.now.table_id) × (table.now.table_id.words ≡ 2) }
-    requires share { 2 ≤ seat.old.me.0.share }
-    ensures seat { seat.new.table_id ≡ seat.old.table_id }
-    ensures kept { seat.new.me ≡ (rest_of seat.old.me.0, seat.old.me.1) }
-    ensures given { (result.table_id ≡ seat.old.table_id) × (result.me ≡ (half seat.old.me.0, [])) }
-{
-    table.split_seat::<Halves>(seat)
-}
-
-/// Takes another seat in. Of what both have seen one begins the other.
-pub fn unite(table: &TurnTable, seat: &mut TurnSeat, other: TurnSeat)
-    requires seat { (seat.old.table_id ≡ table.now.table_id) × (table.now.table_id.words ≡ 2) }
-    requires other { (other.table_id ≡ table.now.table_id) × (other.me.1 ≡ []) }
-    requires idle { (seat.old.me.0.phase ≡ Idle) × (other.me.0.phase ≡ Idle) }
-    requires share { 0 < seat.old.me.0.share }
-    requires other_owner { other.me.0.owner ≡ false }
-    ensures seat { seat.new.table_id ≡ seat.old.table_id }
-    ensures joined { seat.new.me ≡ (learned (joined seat.old.me.0 other.me.0), seat.old.me.1) }
-    ensures seen { Begins seat.old.me.0.seen seat.new.me.0.seen
-        × Begins other.me.0.seen seat.new.me.0.seen }
-    ensures sound { IsSound seat.new.me.0 }
-{
-    table.join_seat::<Joins>(seat, other);
-    table.load::<Learns>(seat, TICKET);
 }

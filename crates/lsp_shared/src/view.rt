@@ -35,7 +35,7 @@ pub enum Phase {
 pub struct View {
     /// The entries of the history that it has seen.
     pub seen: LinkedList<Item>,
-    /// Those that a seat had seen that it took in.
+    /// Those that a seat has seen that it took in, until it looks.
     pub told: LinkedList<Item>,
     /// The turns of its calls.
     pub made: LinkedList<u64>,

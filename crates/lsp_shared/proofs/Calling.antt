@@ -1,38 +1,38 @@
 -- A call through a seat is one of the desk's, at its place in the history.
-use Rattle.std.proofs.Common.{◌≡◌, ℕ, ◌+◌, true, false, List, [], ◌∷◌, ◌++◌, map, length, refl, sym, ap, ◌∙◌, subst, Option, Some, None, Result, Ok, Err, inr, arith, append_assoc, append-nil, length-append, true≢false}
+use Rattle.std.proofs.Common.{◌≡◌, ℕ, ◌+◌, Bool, true, false, List, [], ◌∷◌, ◌++◌, map, length, refl, sym, ap, ◌∙◌, subst, Option, Some, None, Result, Ok, Err, inr, arith, append_assoc, append-nil, length-append, true≢false}
 use Rattle.std.proofs.lemmas.List.{map-append, length-map}
+use Rattle.lsp_desk.specs.declared.call.ClientCall.{ClientCall}
+use Rattle.lsp_desk.specs.declared.call.ClientCall.TheVariants as client_calls
 use Rattle.lsp_desk.specs.declared.call.DeskFault.{DeskFault}
 use Rattle.lsp_desk.specs.declared.call.DeskFault.TheVariants as faults
+use Rattle.lsp_desk.specs.Call.{is_client}
+use Rattle.lsp_desk.specs.Shown.{show_client_call}
 use Rattle.lsp_desk.specs.Reply.{Reply}
 use Rattle.lsp_desk.specs.Desk.{DeskState, opening}
-use Rattle.lsp_shared.specs.declared.view.Asked.{Asked}
-use Rattle.lsp_shared.specs.declared.view.Replied.{Replied}
 use Rattle.lsp_desk.specs.Trace.{DeskEntry, TraceEntry, Replays, after, entries_of, owns, mine, theirs, places, OthersAsk}
 use Rattle.lsp_desk.specs.Meaning.{Grows, Calls, OwnLast}
+use Rattle.lsp_desk.proofs.FlowLaws.{tickets_add_up_lem}
+use Rattle.atomic_table.specs.Seated.{TableId}
+use Rattle.lsp_shared.specs.declared.rested.Rested.{Rested}
+use Rattle.lsp_shared.specs.declared.view.Asked.{Asked}
+use Rattle.lsp_shared.specs.declared.view.Replied.{Replied}
 use Rattle.lsp_shared.specs.declared.view.Item.{Item}
 use Rattle.lsp_shared.specs.declared.view.View.{View}
 use Rattle.lsp_shared.specs.declared.view.Phase.{Phase}
 use Rattle.lsp_shared.specs.declared.view.Phase.TheVariants.{Idle, Drawn, Holding}
-use Rattle.lsp_shared.specs.declared.chair.Chair.{Chair}
 use Rattle.lsp_shared.specs.Phases.{is_idle}
 use Rattle.lsp_shared.specs.Rule.{run, IsLegal, AllClient, now_of, entry_of, call_of, reply_of}
-use Rattle.lsp_desk.proofs.FlowLaws.{tickets_add_up_lem}
-use Rattle.lsp_shared.specs.Steps.{reading, Turned, Answered, item_for}
-use Rattle.lsp_shared.specs.Chairs.{chair_meaning, kin_of, entries_seen, TicketsAddUp, HasTurn}
-use Rattle.atomic_table.specs.Seated.{TableId}
+use Rattle.lsp_shared.specs.Steps.{reading, Turned, Answered, HasTurn, item_for}
+use Rattle.lsp_shared.specs.Desks.{rested_desk, rested_view, rested_spent}
+use Rattle.lsp_shared.specs.Seats.{meaning_by, kin_of, entries_seen, TicketsAddUp}
 use Rattle.lsp_shared.proofs.Totals.{run_append}
 
-pub idle_of : (p : Phase) → is_idle p ≡ true → p ≡ Idle
-idle_of Idle e = refl
-idle_of (Drawn t) e = absurd (true≢false (sym e))
-idle_of (Holding t) e = absurd (true≢false (sym e))
-
-pub idle_is : (p : Phase) → p ≡ Idle → is_idle p ≡ true
-idle_is p e = ap is_idle e
-
-pub empty_of : {A : Type 0} (l : List A) → length l ≡ 0 → l ≡ []
-empty_of [] e = refl
-empty_of (x ∷ xs) e = absurd (omega arith)
+pub asks_client : (call : ClientCall) → is_client (show_client_call call) ≡ true
+asks_client (client_calls.Ask method params gated) = refl
+asks_client (client_calls.Tell method params gated) = refl
+asks_client (client_calls.Raw r) = refl
+asks_client (client_calls.Poll ticket) = refl
+asks_client client_calls.NextId = refl
 
 -- what others did, and then one's own entry
 abbrev pub marks_of : List Item → Item → List TraceEntry
@@ -70,15 +70,12 @@ replays_of : (d : DeskState) (xs : List Item) → IsLegal d xs → Replays d (ma
 replays_of d [] p = refl
 replays_of d (x ∷ xs) p = (p.0, replays_of (after d (entry_of x)) xs p.1)
 
-off : false ≡ true → ⊥
-off e = true≢false (sym e)
-
-pub turn_grows : (old new : Chair) (item : Item) (t : Turned old.seat.me.0 item new.seat.me.0) → new.seat.table_id ≡ old.seat.table_id → (old.spent ≡ true → new.spent ≡ true) → Grows chair_meaning old (marks_of t.between item) new
-turn_grows old new item t same spent =
-    let v = old.seat.me.0 in
-    let w = new.seat.me.0 in
+pub turn_grows : {D : Type 0} (rested : D → Rested) (old new : D) (item : Item) (t : Turned (rested_view (rested old)) item (rested_view (rested new))) → rested_desk (rested new) ≡ rested_desk (rested old)
+    → (rested_spent (rested old) ≡ true → rested_spent (rested new) ≡ true) → Grows (meaning_by rested) old (marks_of t.between item) new
+turn_grows rested old new item t same spent =
+    let v = rested_view (rested old) in
+    let w = rested_view (rested new) in
     let tail = t.between ++ item ∷ [] in
-    let marks = marks_of t.between item in
     let whole : w.seen ≡ v.seen ++ tail = t.seen ∙ append_assoc v.seen t.between (item ∷ []) in
     let legal : IsLegal (now_of v.seen) tail = legal_drop opening v.seen tail (subst (IsLegal opening) whole t.legal) in
     let ends : run (now_of v.seen) tail ≡ now_of w.seen = sym (run_append opening v.seen tail) ∙ sym (ap now_of whole) in
@@ -90,7 +87,7 @@ turn_grows old new item t same spent =
           ∙ ap (λ (k : ℕ). v.made ++ (k + length t.between) ∷ []) (sym (length-map v.seen entry_of) ∙ ap length (some_same (map entry_of v.seen) h is))
           ∙ ap (λ l. v.made ++ l) (sym (places_marks (length h) t.between item));
       others = λ is. others_marks t.between item (t.clients is);
-      all_own = λ is. absurd (off is);
+      all_own = λ is. absurd (true≢false (sym is));
       alone = refl;
       kin = (λ i. kin_of (same i) (t.share i));
       chief = t.owner;
@@ -104,11 +101,12 @@ turn_grows old new item t same spent =
         or_none None = []
         or_none (Some l) = l
 
-pub spent_grows : (old new : Chair) (n : ℕ) → new.seat.me.0 ≡ reading old.seat.me.0 n → new.seat.table_id ≡ old.seat.table_id → (old.spent ≡ true → new.spent ≡ true) → Grows chair_meaning old [] new
-spent_grows old new n is same spent = record {
+spent_grows : {D : Type 0} (rested : D → Rested) (old new : D) (n : ℕ) → rested_view (rested new) ≡ reading (rested_view (rested old)) n → rested_desk (rested new) ≡ rested_desk (rested old)
+    → (rested_spent (rested old) ≡ true → rested_spent (rested new) ≡ true) → Grows (meaning_by rested) old [] new
+spent_grows rested old new n is same spent = record {
   replays = ap (λ (v : View). now_of v.seen) is;
-  history = ap (λ (v : View). Some (map entry_of v.seen)) is ∙ ap Some (sym (append-nil (map entry_of old.seat.me.0.seen)));
-  own = λ h _. ap (λ (v : View). v.made) is ∙ sym (append-nil old.seat.me.0.made);
+  history = ap (λ (v : View). Some (map entry_of v.seen)) is ∙ ap Some (sym (append-nil (map entry_of (rested_view (rested old)).seen)));
+  own = λ h _. ap (λ (v : View). v.made) is ∙ sym (append-nil (rested_view (rested old)).made);
   others = λ _. tt;
   all_own = λ _. tt;
   alone = refl;
@@ -117,35 +115,56 @@ spent_grows old new n is same spent = record {
   spent = spent;
 }
 
-pub chair_calls : {R : Type 0} (view : R → Reply) (wrap : R → Replied) → ((r : R) → reply_of (wrap r) ≡ Some (view r)) → (old new : Chair) (note : Asked) (result : Result R DeskFault) → Answered wrap note old.seat.me.0 result new.seat.me.0 → new.seat.table_id ≡ old.seat.table_id → (old.spent ≡ true → new.spent ≡ true)
-    → Calls chair_meaning view old (call_of note) result new
-chair_calls view wrap e old new note (Ok reply) t same spent = record {
-  trace = marks_of t.between (item_for wrap note (Ok reply));
-  grows = turn_grows old new _ t same spent;
-  adds = owns_marks t.between _ ∙ ap (λ o. record { call = call_of note; reply = o } ∷ []) (e reply);
-  own_last = own_last t.between _;
-}
-chair_calls view wrap e old new note (Err faults.NoMemory) t same spent = record {
-  trace = marks_of t.between (item_for wrap note (Err faults.NoMemory));
-  grows = turn_grows old new _ t same spent;
-  adds = inr (owns_marks t.between _);
-  own_last = own_last t.between _;
-}
-chair_calls view wrap e old new note (Err (faults.Spent n)) p same spent = record {
-  trace = [];
-  grows = spent_grows old new n p.1 same spent;
-  adds = refl;
-  own_last = ([], refl);
-}
+module _ {D R : Type 0} (rested : D → Rested) (view : R → Reply) (wrap : R → Replied) (same_reply : (r : R) → reply_of (wrap r) ≡ Some (view r)) where
+  pub seat_calls : (old new : D) (note : Asked) (result : Result R DeskFault) → Answered wrap note (rested_view (rested old)) result (rested_view (rested new)) → rested_desk (rested new) ≡ rested_desk (rested old)
+      → (rested_spent (rested old) ≡ true → rested_spent (rested new) ≡ true) → Calls (meaning_by rested) view old (call_of note) result new
+  seat_calls old new note (Ok reply) t same spent = record {
+    trace = marks_of t.between (item_for wrap note (Ok reply));
+    grows = turn_grows rested old new _ t same spent;
+    adds = owns_marks t.between _ ∙ ap (λ o. record { call = call_of note; reply = o } ∷ []) (same_reply reply);
+    own_last = own_last t.between _;
+  }
+  seat_calls old new note (Err faults.NoMemory) t same spent = record {
+    trace = marks_of t.between (item_for wrap note (Err faults.NoMemory));
+    grows = turn_grows rested old new _ t same spent;
+    adds = inr (owns_marks t.between _);
+    own_last = own_last t.between _;
+  }
+  seat_calls old new note (Err (faults.Spent n)) p same spent = record {
+    trace = [];
+    grows = spent_grows rested old new n p.1 same spent;
+    adds = refl;
+    own_last = ([], refl);
+  }
+
+-- a call leaves the seat spent where it was, since it is spent where there was no turn
+pub spent_stays : {R : Type 0} (result : Result R DeskFault) (old new : Bool) → HasTurn result (new ≡ old) → ((n : ℕ) → result ≡ Err (faults.Spent n) → new ≡ true) → old ≡ true → new ≡ true
+spent_stays (Ok reply) old new stays spent is = stays ∙ is
+spent_stays (Err faults.NoMemory) old new stays spent is = stays ∙ is
+spent_stays (Err (faults.Spent n)) old new stays spent is = spent n refl
 
 -- in a legal history the tickets add up
-pub tickets_of : (v : View) → IsLegal opening v.seen → TicketsAddUp v
+tickets_of : (v : View) → IsLegal opening v.seen → TicketsAddUp v
 tickets_of v legal n = let sum = tickets_add_up_lem opening (now_of v.seen) (entries_seen v) (replays_of opening v.seen legal) n in omega (arith, sum)
 
 pub turn_tickets : {R : Type 0} (wrap : R → Replied) (note : Asked) (v w : View) (result : Result R DeskFault) → Answered wrap note v result w → HasTurn result (TicketsAddUp w)
 turn_tickets wrap note v w (Ok reply) t = tickets_of w t.legal
 turn_tickets wrap note v w (Err faults.NoMemory) t = tickets_of w t.legal
 turn_tickets wrap note v w (Err (faults.Spent n)) t = tt
+
+pub has_turn : {R : Type 0} (result : Result R DeskFault) (P : Type 0) → P → HasTurn result P
+has_turn (Ok reply) P p = p
+has_turn (Err faults.NoMemory) P p = p
+has_turn (Err (faults.Spent n)) P p = tt
+
+pub idle_of : (p : Phase) → is_idle p ≡ true → p ≡ Idle
+idle_of Idle e = refl
+idle_of (Drawn t) e = absurd (true≢false (sym e))
+idle_of (Holding t) e = absurd (true≢false (sym e))
+
+pub empty_of : {A : Type 0} (l : List A) → length l ≡ 0 → l ≡ []
+empty_of [] e = refl
+empty_of (x ∷ xs) e = absurd (omega arith)
 
 desk_in : List ℕ → TableId
 desk_in (s ∷ a ∷ b ∷ c ∷ d ∷ e ∷ f ∷ rest) = record { words = a; slots = b; views_name = c; atom = d; block = e; offset = f; slot_names = rest }
