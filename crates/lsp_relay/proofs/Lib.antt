@@ -3,7 +3,9 @@ pub mod BroadcastLemmas
 pub mod ErrorLemmas
 pub mod EventLemmas
 pub mod FloatLemmas
+pub mod RelaysLemmas
 pub mod GoingLemmas
+pub mod RelayedLemmas
 pub mod NoteLemmas
 pub mod TookLemmas
 pub mod ValueLemmas

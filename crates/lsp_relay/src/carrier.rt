@@ -1,11 +1,12 @@
 //! A proxy that takes its messages from the items of a stream, and frames what it sends.
-ghost use Rattle.std.specs.Prelude.{◌≡◌, ◌≤◌, ◌<◌, ◌^◌, ◌++◌, [], ◌∷◌, ℕ, List, true, false, length, IfOk, IfErr, OnOk, OnErr, IsErrOf};
+ghost use Rattle.std.specs.Prelude.{◌≡◌, ◌<◌, ◌^◌, ◌++◌, [], ◌∷◌, ℕ, List, true, false, length, IfOk, IfErr, OnOk, OnErr};
+ghost use Rattle.std.specs.Result.{result_err};
 ghost use Rattle.std.specs.Io.KnownBytes.{Appends};
 ghost use Rattle.lsp_frame.specs.Codec.{message as message_item, items_at, told_at};
 ghost use Rattle.lsp_rpc.specs.Message.{message_has_float};
 ghost use Rattle.lsp_rpc.specs.Shown.{show_message};
-ghost use Rattle.lsp_server.specs.Errors.{ComesOfSink, LeavesSink};
-ghost use Rattle.lsp_server.specs.SourceSink.{CountRose, IsFlushed};
+ghost use Rattle.lsp_server.specs.Errors.{ComesOfSink};
+ghost use Rattle.lsp_server.specs.Leaves.{LeavesFaults};
 ghost use Rattle.lsp_server.specs.Written.{IsPrefixOf};
 ghost use Rattle.lsp_proxy.specs.Law.{react};
 ghost use Rattle.lsp_proxy.specs.Outgoing.{expanded};
@@ -166,7 +167,7 @@ impl Carrier {
         }
     }
 
-    /// Writes the frames that wait, and flushes them.
+    /// Writes the frames that wait.
     pub(crate) fn send<O: Sink>(&mut self, sink: &mut O) -> Result<(), ServeError>
         ensures ok { OnOk result
             (Appends (O.taken sink.old) (O.taken sink.new) self.old.waiting.items) }
@@ -174,14 +175,8 @@ impl Carrier {
             (show_carrier self.new ≡ record (show_carrier self.old) { waiting = [] }) }
         ensures part { OnErr result ((written : List ℕ) × IsPrefixOf written self.old.waiting.items
             × Appends (O.taken sink.old) (O.taken sink.new) written) }
-        ensures flushed { OnOk result (IsFlushed (O.taken sink.old) (O.flushed sink.old)
-            → IsFlushed (O.taken sink.new) (O.flushed sink.new)) }
-        ensures beside { O.beside sink.new ≡ O.beside sink.old }
-        ensures count { O.faults sink.old ≤ O.faults sink.new }
-        ensures write { IsErrOf result ServeError.WriteFault
-            → CountRose (O.faults sink.old) (O.faults sink.new) }
-        ensures unfailed { OnOk result (O.faults sink.new ≡ O.faults sink.old) }
-        ensures left { IfErr result (λ e. LeavesSink e → O.faults sink.new ≡ O.faults sink.old) }
+        ensures flushed { O.flushed sink.new ≡ O.flushed sink.old }
+        ensures sink { LeavesFaults O.faults O.beside sink.old sink.new (result_err result) }
         ensures others { IfErr result ComesOfSink }
     {
         send(sink, self.waiting.as_slice())?;

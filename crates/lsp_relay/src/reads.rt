@@ -1,14 +1,16 @@
 //! The relay, read by read.
-ghost use Rattle.std.specs.Prelude.{◌≡◌, ◌≢◌, ◌≤◌, ◌<◌, ◌+◌, ◌*◌, ℕ, length, OnOk, OnErr, IfOk, IfErr, IfSome, IsErrOf};
+ghost use Rattle.std.specs.Prelude.{◌≡◌, ◌≢◌, ◌≤◌, ◌<◌, ⊤, ℕ, None, length, OnErr, IfOk, IfErr, IfSome};
+ghost use Rattle.std.specs.Result.{result_err};
 ghost use Rattle.lsp_server.specs.Errors.{IsBetweenReads};
-ghost use Rattle.lsp_server.specs.SourceSink.{CountRose, IsFlushed};
+ghost use Rattle.lsp_server.specs.Leaves.{StaysFlushed, TellsFaults, WithinReads};
+ghost use Rattle.lsp_server.specs.SourceSink.{CountRose};
 ghost use Rattle.lsp_server.specs.Served.{call_bytes};
 ghost use Rattle.lsp_server.specs.Reads.{moment, Made, InOrder};
 ghost use Rattle.lsp_relay.specs.Relay.{IsRelayed, WroteTold, AllPassed, WrotePart};
 
 use crate::carrier::Carrier;
 use lsp_frame::LanguageServerCodec;
-use lsp_server::{Ends, Failed, ServeError, Sink, Source, Transport};
+use lsp_server::{Consumer, Ends, ServeError, Sink, Source, Transport, over_reads};
 use std::alloc::Global;
 
 /// How many items a relay was told. A count of 2^64 - 1 stays.
@@ -20,8 +22,40 @@ pub struct Relayed {
     pub dropped: u64,
 }
 
-// How many bytes are read at most at a time.
-const READ_SIZE: usize = 4096;
+/// A codec whose items a carrier takes.
+#[derive(Drop)]
+struct Relaying {
+    codec: LanguageServerCodec,
+}
+
+impl Consumer<Carrier> for Relaying {
+    ghost use Rattle.lsp_server.specs.Consuming.{through};
+    ghost use Rattle.lsp_relay.specs.Relaying.{relays};
+    ghost use Rattle.lsp_relay.specs.Shown.{show_relaying};
+
+    ghost meaning = { through show_relaying relays };
+
+    ghost Tied = { ⊤ };
+
+    ghost tied = { λ _. tt };
+
+    fn take<O: Sink>(
+        &mut self,
+        carrier: &mut Carrier,
+        piece: &[u8],
+        sink: &mut O,
+    ) -> Result<bool, ServeError> {
+        self.codec.feed(piece)?;
+        carrier.take_told(&mut self.codec)?;
+        carrier.send(sink)?;
+        Ok(false)
+    }
+
+    fn end<O: Sink>(&mut self, carrier: &mut Carrier, _sink: &mut O) -> Result<(), ServeError> {
+        carrier.take_end(&mut self.codec)?;
+        Ok(())
+    }
+}
 
 /// Relays between so many editors and a server, to the end of input.
 ///
@@ -46,34 +80,15 @@ pub fn relay<I: Source, O: Sink>(
         (call_bytes bytes (I.left source.new) (O.taken sink.old) (O.taken sink.new))
         relayed.passed relayed.dropped)) }
 
-    // The bytes taken are flushed, if they were at the start.
-    ensures flushed { OnOk result (IsFlushed (O.taken sink.old) (O.flushed sink.old)
-        → IsFlushed (O.taken sink.new) (O.flushed sink.new)) }
-    ensures flushed_between { IfErr result (λ e. IsBetweenReads e
-        → IsFlushed (O.taken sink.old) (O.flushed sink.old)
-        → IsFlushed (O.taken sink.new) (O.flushed sink.new)) }
-
-    // Each error has its cause.
-    ensures read { IsErrOf result ServeError.ReadFault
-        → CountRose (I.faults source.old) (I.faults source.new) }
-    ensures write { IsErrOf result ServeError.WriteFault
-        → CountRose (O.faults sink.old) (O.faults sink.new) }
-    ensures reads_spent { IsErrOf result ServeError.ReadsSpent
-        → IfSome (I.left source.old) (λ bytes. IfSome (I.left source.new) (λ rest.
-        reads + length rest ≤ length bytes)) }
+    // The bytes taken are flushed, each failure is told and has its cause, and each of at most
+    // `reads` reads takes at most 4,096 bytes.
+    ensures flushed { StaysFlushed (O.taken sink.old) (O.flushed sink.old)
+        (O.taken sink.new) (O.flushed sink.new) (result_err result) }
+    ensures faults { TellsFaults (I.faults source.old) (I.faults source.new)
+        (O.faults sink.old) (O.faults sink.new) (result_err result) }
+    ensures within { WithinReads reads 4096 (I.left source.old) (I.left source.new) None None
+        (result_err result) }
     ensures no_desk { IfErr result (λ e. (n : ℕ) → e ≢ ServeError.DeskSpent n) }
-
-    // A failure is told: where a count rose, the answer is that error.
-    ensures counts { (I.faults source.old ≤ I.faults source.new)
-        × (O.faults sink.old ≤ O.faults sink.new) }
-    ensures read_told { I.faults source.old < I.faults source.new
-        → IsErrOf result ServeError.ReadFault }
-    ensures write_told { O.faults sink.old < O.faults sink.new
-        → IsErrOf result ServeError.WriteFault }
-
-    // Each of at most `reads` reads takes at most 4,096 bytes.
-    ensures few { IfSome (I.left source.old) (λ bytes. IfSome (I.left source.new) (λ rest.
-        length bytes ≤ length rest + reads * 4096)) }
 
     // So with no failure, and with more reads than bytes, only `NoMemory` may come.
     ensures complete { IfErr result (λ e. IfSome (I.left source.old) (λ bytes. length bytes < reads
@@ -112,74 +127,33 @@ pub fn relay_over<T: Transport>(
         (call_bytes bytes (T.left io.new) (T.taken io.old) (T.taken io.new))
         relayed.passed relayed.dropped)) }
 
-    // The bytes taken are flushed, if they were at the start.
-    ensures flushed { OnOk result (IsFlushed (T.taken io.old) (T.flushed io.old)
-        → IsFlushed (T.taken io.new) (T.flushed io.new)) }
-    ensures flushed_between { IfErr result (λ e. IsBetweenReads e
-        → IsFlushed (T.taken io.old) (T.flushed io.old)
-        → IsFlushed (T.taken io.new) (T.flushed io.new)) }
-
-    // Each error has its cause.
-    ensures read { IsErrOf result ServeError.ReadFault
-        → CountRose (T.read_faults io.old) (T.read_faults io.new) }
-    ensures write { IsErrOf result ServeError.WriteFault
-        → CountRose (T.faults io.old) (T.faults io.new) }
-    ensures reads_spent { IsErrOf result ServeError.ReadsSpent
-        → IfSome (T.left io.old) (λ bytes. IfSome (T.left io.new) (λ rest.
-        reads + length rest ≤ length bytes)) }
+    // The bytes taken are flushed, each failure is told and has its cause, and each of at most
+    // `reads` reads takes at most 4,096 bytes.
+    ensures flushed { StaysFlushed (T.taken io.old) (T.flushed io.old)
+        (T.taken io.new) (T.flushed io.new) (result_err result) }
+    ensures faults { TellsFaults (T.read_faults io.old) (T.read_faults io.new)
+        (T.faults io.old) (T.faults io.new) (result_err result) }
+    ensures within { WithinReads reads 4096 (T.left io.old) (T.left io.new)
+        (T.reads io.old) (T.reads io.new) (result_err result) }
     ensures no_desk { IfErr result (λ e. (n : ℕ) → e ≢ ServeError.DeskSpent n) }
-
-    // A failure is told: where a count rose, the answer is that error.
-    ensures counts { (T.read_faults io.old ≤ T.read_faults io.new)
-        × (T.faults io.old ≤ T.faults io.new) }
-    ensures read_told { T.read_faults io.old < T.read_faults io.new
-        → IsErrOf result ServeError.ReadFault }
-    ensures write_told { T.faults io.old < T.faults io.new
-        → IsErrOf result ServeError.WriteFault }
-
-    // Each of at most `reads` reads takes at most 4,096 bytes.
-    ensures few { IfSome (T.left io.old) (λ bytes. IfSome (T.left io.new) (λ rest.
-        length bytes ≤ length rest + reads * 4096)) }
-
-    // So with no failure, and with more reads than bytes, only `NoMemory` may come.
-    ensures complete { IfErr result (λ e. IfSome (T.left io.old) (λ bytes. length bytes < reads
-        → ¬ CountRose (T.read_faults io.old) (T.read_faults io.new)
-        → ¬ CountRose (T.faults io.old) (T.faults io.new) → e ≡ ServeError.NoMemory)) }
 
     // What was written by then.
     ensures exact { IfErr result (λ e. IsBetweenReads e → IfSome (T.left io.old) (λ bytes.
         WroteTold editors
         (call_bytes bytes (T.left io.new) (T.taken io.old) (T.taken io.new)))) }
-    ensures part { OnErr result (IfSome (T.left io.old) (λ bytes. WrotePart editors
-        (call_bytes bytes (T.left io.new) (T.taken io.old) (T.taken io.new)) 4096)) }
+    ensures part { IfSome (T.left io.old) (λ bytes. WrotePart editors
+        (call_bytes bytes (T.left io.new) (T.taken io.old) (T.taken io.new)) 4096) }
 
     // As each read was made, what was written was exactly the frames of what the proxy sends for
     // the items told by the bytes read until then, and all of it was flushed, if all was at the
-    // start. A read that finds the end of input is the last. At most `reads` reads are made, and
-    // exactly so many where the answer is `ReadsSpent`.
+    // start. A read that finds the end of input is the last.
     ensures in_order { IfSome (T.left io.old) (λ bytes. Made (T.reads io.old) (T.reads io.new)
         (InOrder (AllPassed editors bytes
         (moment (T.left io.old) (T.taken io.old) (T.flushed io.old))))) }
-    ensures few_reads { Made (T.reads io.old) (T.reads io.new) (λ made. length made ≤ reads) }
-    ensures all_reads { IsErrOf result ServeError.ReadsSpent
-        → Made (T.reads io.old) (T.reads io.new) (λ made. length made ≡ reads) }
     ensures tied { T.tied io.new ≡ T.tied io.old }
 {
-    let mut codec = LanguageServerCodec::default(alloc);
+    let codec = LanguageServerCodec::default(alloc);
     let mut carrier = Carrier::new(alloc, editors)?;
-    let mut piece = [0; READ_SIZE];
-    for _ in 0..reads {
-        let n = match io.read(&mut piece) {
-            Ok(n) => n,
-            Err(Failed) => return Err(ServeError::ReadFault),
-        };
-        if n == 0 {
-            carrier.take_end(&mut codec)?;
-            return Ok(carrier.relayed);
-        }
-        codec.feed(&piece[..n])?;
-        carrier.take_told(&mut codec)?;
-        carrier.send(io)?;
-    }
-    Err(ServeError::ReadsSpent)
+    over_reads(io, &mut Relaying { codec }, &mut carrier, reads)?;
+    Ok(carrier.relayed)
 }

@@ -2,10 +2,9 @@
 use Rattle.std.proofs.Common.{◌≡◌, ℕ, List, [], ◌∷◌, ◌++◌, refl, sym, ◌∙◌, ap, subst, append_assoc, Bool, true, false, cond}
 use Rattle.std.specs.Prelude.{Option, Some, None, is_some, ◌||◌}
 use Rattle.std.proofs.lemmas.List.{append-nil, map-append}
-use Rattle.std.specs.Io.KnownBytes.{Keeps}
 use Rattle.lsp_desk.specs.declared.life.Life.{Life}
 use Rattle.lsp_desk.specs.Meaning.{Meaning}
-use Rattle.lsp_frame.specs.Codec.{Item, At, more, items_at, told_at}
+use Rattle.lsp_frame.specs.Codec.{Item, At, more, items_at, told_at, frames}
 use Rattle.lsp_session.specs.declared.table.Entry.{Entry}
 use Rattle.lsp_session.specs.Item.{ItemData}
 use Rattle.lsp_session.specs.Semantics.{Semantics, IsLawful}
@@ -13,10 +12,12 @@ use Rattle.lsp_session.specs.Run.{Order, Step, is_exit, has_exit, served}
 use Rattle.lsp_server.specs.Items.{admitted, all_admitted, Decodes, GivesNext}
 use Rattle.lsp_server.specs.Written.{Ran, RanPart}
 use Rattle.lsp_server.specs.Served.{ServedTold}
+use Rattle.lsp_server.specs.Serving.{PartTold}
+use Rattle.lsp_server.proofs.KnownLemmas.{appends_more}
 use Rattle.lsp_server.proofs.PointLemmas.{Point, find_at, GoesOn}
 use Rattle.lsp_server.proofs.ItemsLemmas.{same_exit, has_exit-append, served-open, served-closed, run_table}
 use Rattle.lsp_server.proofs.CodecLemmas.{decodes_nothing, decodes_more, next_found, next_none}
-use Rattle.lsp_server.proofs.RanLemmas.{ran_none, ran_kept, ran_more, part_after, part_all, part_whole, part_more, ran_notes, ran_lives}
+use Rattle.lsp_server.proofs.RanLemmas.{ran_none, ran_alone, ran_more, part_alone, part_after, part_all, part_whole, part_more, ran_notes, ran_lives}
 
 is_none : (o : Option Life) → is_some o ≡ false → o ≡ None
 is_none None h = refl
@@ -43,7 +44,7 @@ module _ {H D C T P : Type 0} {semantics : Semantics H C T} {m : Meaning D} {ord
         ∙ ap (served (find_at semantics a)) (sym (map-append admitted going.given (items_at (more codec1 c))) ∙ ap all_admitted (sym (going.decodes.items c)))
 
     -- nothing of what comes next was written
-    pub part_of_none : (c : List ℕ) → RanPart (Step semantics order rounds) a.state a.taken (served (find_at semantics a) (all_admitted (items_at (more codec0 c)))) b.taken
+    part_of_none : (c : List ℕ) → RanPart (Step semantics order rounds) a.state a.taken (served (find_at semantics a) (all_admitted (items_at (more codec0 c)))) b.taken
     part_of_none c =
         subst (λ l. RanPart (Step semantics order rounds) a.state a.taken l b.taken) (going_served c)
         (part_all a b (all_admitted going.given) (served (find_at semantics a) (all_admitted (items_at (more codec1 c)))) going.ran)
@@ -119,20 +120,45 @@ module _ {H D C T P : Type 0} {semantics : Semantics H C T} {m : Meaning D} {ord
             at true rest p = ([], append-nil (all_admitted going.given ++ item ∷ []) ∙ p)
             at false rest p = (served (find_at semantics a) rest, append_assoc (all_admitted going.given) (item ∷ []) (served (find_at semantics a) rest) ∙ p)
 
-        pub part_of_step : (taken : Option (List ℕ)) → RanPart (Step semantics order rounds) b.state b.taken (item ∷ []) taken → (c : List ℕ)
+        part_of_step : (taken : Option (List ℕ)) → RanPart (Step semantics order rounds) b.state b.taken (item ∷ []) taken → (c : List ℕ)
             → RanPart (Step semantics order rounds) a.state a.taken (served (find_at semantics a) (all_admitted (items_at (more codec0 c)))) taken
         part_of_step taken part c =
             let begins = begins_served c in
             subst (λ l. RanPart (Step semantics order rounds) a.state a.taken l taken) begins.1
             (part_more (all_admitted going.given ++ item ∷ []) begins.0 (part_after a b taken (all_admitted going.given) (item ∷ []) going.ran part))
 
-  -- what was taken is kept
-  pub told_kept : (exits : Bool) (find : List ℕ → Option Entry) (a : Point semantics D P) (codec0 : At) (b : Point semantics D P) (taken : Option (List ℕ)) (codec1 : At) → Keeps b.taken taken → ServedTold (Step semantics order rounds) m find a codec0 exits b codec1
-      → ServedTold (Step semantics order rounds) m find a codec0 exits (record { state = b.state; desk = b.desk; taken = taken }) codec1
-  told_kept exits find a codec0 b taken codec1 kept t = record { given = t.given; decodes = t.decodes; ran = ran_kept a b taken (all_admitted t.given) t.ran kept; ends = t.ends }
+  -- what was written of it alone
+  going_alone : (a : Point semantics D P) (codec0 : At) (b : Point semantics D P) (codec1 : At) → (going : Going semantics m order rounds a codec0 b codec1)
+      → Going semantics m order rounds (record a { taken = Some [] }) codec0 (record b { taken = Some (frames going.ran.effect.out) }) codec1
+  going_alone a codec0 b codec1 going = record {
+    given = going.given;
+    decodes = going.decodes;
+    ran = ran_alone a b (all_admitted going.given) going.ran;
+    none = going.none;
+    goes_on = record { exited = going.goes_on.exited; lives = going.goes_on.lives };
+  }
+
+  module _ (a : Point semantics D P) (codec0 : At) (b : Point semantics D P) (codec1 : At) (going : Going semantics m order rounds a codec0 b codec1) where
+    pub told_part_none : PartTold (Step semantics order rounds) (find_at semantics a) a.state codec0 a.taken b.taken
+    told_part_none = record {
+      written = frames going.ran.effect.out;
+      part = λ c. part_alone (part_of_none (record a { taken = Some [] }) codec0 (record b { taken = Some (frames going.ran.effect.out) }) codec1 (going_alone a codec0 b codec1 going) c);
+      writes = going.ran.writes;
+    }
+
+    pub told_part_step : IsLawful semantics → (codec2 : At) (item : ItemData) → GivesNext codec1 (Some item) codec2 → (taken : Option (List ℕ)) → RanPart (Step semantics order rounds) b.state b.taken (item ∷ []) taken
+        → PartTold (Step semantics order rounds) (find_at semantics a) a.state codec0 a.taken taken
+    told_part_step laws codec2 item next taken part =
+        let before = frames going.ran.effect.out in
+        let alone : RanPart (Step semantics order rounds) b.state (Some before) (item ∷ []) (Some (before ++ part.written)) = record { written = part.written; part = part.part; writes = refl } in
+        record {
+          written = before ++ part.written;
+          part = λ c. part_alone (part_of_step (record a { taken = Some [] }) codec0 (record b { taken = Some before }) codec1 (going_alone a codec0 b codec1 going) laws codec2 item next (Some (before ++ part.written)) alone c);
+          writes = appends_more a.taken b.taken taken before part.written going.ran.writes part.writes;
+        }
 
   -- what was served through an exit is all that is served
-  pub told_part : (find : List ℕ → Option Entry) (b : Point semantics D P) (codec1 : At) (d : Point semantics D P) (codec2 : At) → ServedTold (Step semantics order rounds) m find b codec1 true d codec2 → (c : List ℕ)
+  told_part : (find : List ℕ → Option Entry) (b : Point semantics D P) (codec1 : At) (d : Point semantics D P) (codec2 : At) → ServedTold (Step semantics order rounds) m find b codec1 true d codec2 → (c : List ℕ)
       → RanPart (Step semantics order rounds) b.state b.taken (served find (all_admitted (items_at (more codec1 c)))) d.taken
   told_part find b codec1 d codec2 told c =
       let rest = all_admitted (items_at (more codec2 c)) in

@@ -8,6 +8,9 @@ pub mod PointLemmas
 pub mod RanLemmas
 pub mod GoingLemmas
 pub mod OrderLemmas
+pub mod TakingLemmas
+pub mod ServesLemmas
 pub mod ServingLemmas
+pub mod ServedLemmas
 pub mod ErrorLemmas
 pub mod HandedLemmas

@@ -1,11 +1,10 @@
 -- The reads that were noted, and their order among the writes.
 use Rattle.std.proofs.Common.{◌≡◌, ◌≤◌, ◌+◌, ℕ, List, [], ◌∷◌, ◌++◌, length, sym, ◌∙◌, ap, append_assoc, length-append, arith}
-use Rattle.std.specs.Prelude.{◌≢◌, Option, Some, None, IfSome}
+use Rattle.std.specs.Prelude.{◌≢◌, Option, Some, None}
 use Rattle.std.specs.List.{AllByRecursion}
 use Rattle.std.proofs.lemmas.List.{append-nil}
 use Rattle.lsp_server.specs.SourceSink.{EndsAt}
 use Rattle.lsp_server.specs.Reads.{Moment, Notes, Made, InOrder}
-use Rattle.lsp_server.proofs.KnownLemmas.{if_told, some_at}
 
 -- ---- what was noted
 
@@ -53,33 +52,39 @@ all_more P (k ∷ rest) m all last = (all.0, all_more P rest m all.1 last)
 
 -- ---- the reads of a call so far
 
--- so many, and where the bytes are told, this holds at each, and each found more
-abbrev pub Noted : Option (List ℕ) → (List ℕ → Moment → Type 0) → ℕ → List Moment → Type 0
-Noted left P count made = (length made ≡ count) × IfSome left (λ bytes. AllByRecursion (FindsMore (P bytes)) made)
+-- so many, this holds at each, and each found more
+abbrev pub Noted : (Moment → Type 0) → ℕ → List Moment → Type 0
+Noted P count made = (length made ≡ count) × AllByRecursion (FindsMore P) made
 
-module _ (left : Option (List ℕ)) (P : List ℕ → Moment → Type 0) where
-  pub noted_none : (old : Option (List Moment)) → Made old old (Noted left P 0)
-  noted_none old = made_none old (Noted left P 0) (omega arith, if_told left _ (λ bytes is. tt))
+module _ (P : Moment → Type 0) where
+  pub noted_none : (old : Option (List Moment)) → Made old old (Noted P 0)
+  noted_none old = made_none old (Noted P 0) (omega arith, tt)
 
-  pub in_order_so_far : (old new : Option (List Moment)) (count : ℕ) → Made old new (Noted left P count) → IfSome left (λ bytes. Made old new (InOrder (P bytes)))
-  in_order_so_far old new count noted =
-      if_told left _ (λ bytes is. made_map old new (Noted left P count) (InOrder (P bytes)) (λ made so_far. in_order (P bytes) made (some_at left _ bytes is so_far.1)) noted)
+  pub in_order_so_far : (old new : Option (List Moment)) (count : ℕ) → Made old new (Noted P count) → Made old new (InOrder P)
+  in_order_so_far old new count noted = made_map old new (Noted P count) (InOrder P) (λ made so_far. in_order P made so_far.1) noted
 
-  pub few_so_far : (old new : Option (List Moment)) (count reads : ℕ) → count ≤ reads → Made old new (Noted left P count) → Made old new (λ made. length made ≤ reads)
-  few_so_far old new count reads within noted = made_map old new (Noted left P count) (λ made. length made ≤ reads) (λ made so_far. omega (arith, so_far.0, within)) noted
+  pub few_so_far : (old new : Option (List Moment)) (count reads : ℕ) → count ≤ reads → Made old new (Noted P count) → Made old new (λ made. length made ≤ reads)
+  few_so_far old new count reads within noted = made_map old new (Noted P count) (λ made. length made ≤ reads) (λ made so_far. omega (arith, so_far.0, within)) noted
 
-  pub all_made : (old new : Option (List Moment)) (count reads : ℕ) → count ≡ reads → Made old new (Noted left P count) → Made old new (λ made. length made ≡ reads)
-  all_made old new count reads is noted = made_map old new (Noted left P count) (λ made. length made ≡ reads) (λ made so_far. so_far.0 ∙ is) noted
+  pub all_made : (old new : Option (List Moment)) (count reads : ℕ) → count ≡ reads → Made old new (Noted P count) → Made old new (λ made. length made ≡ reads)
+  all_made old new count reads is noted = made_map old new (Noted P count) (λ made. length made ≡ reads) (λ made so_far. so_far.0 ∙ is) noted
 
-  module _ (old mid new : Option (List Moment)) (m : Moment) (count : ℕ) (noted : Made old mid (Noted left P count)) (notes : Notes mid m new) where
-    pub noted_more : ((bytes : List ℕ) → left ≡ Some bytes → FindsMore (P bytes) m) → Made old new (Noted left P (count + 1))
-    noted_more more = made_more old mid new m (Noted left P count) (Noted left P (count + 1)) noted notes
-        (λ made so_far. (omega (arith, length-append made (m ∷ []), so_far.0), if_told left _ (λ bytes is. all_more (P bytes) made m (some_at left _ bytes is so_far.1) (more bytes is))))
+  module _ (old mid new : Option (List Moment)) (m : Moment) (count : ℕ) (noted : Made old mid (Noted P count)) (notes : Notes mid m new) where
+    pub noted_more : FindsMore P m → Made old new (Noted P (count + 1))
+    noted_more more = made_more old mid new m (Noted P count) (Noted P (count + 1)) noted notes
+        (λ made so_far. (omega (arith, length-append made (m ∷ []), so_far.0), all_more P made m so_far.1 more))
 
-    pub in_order_last_read : ((bytes : List ℕ) → left ≡ Some bytes → P bytes m) → IfSome left (λ bytes. Made old new (InOrder (P bytes)))
-    in_order_last_read holds =
-        if_told left _ (λ bytes is. made_more old mid new m (Noted left P count) (InOrder (P bytes)) noted notes
-        (λ made so_far. in_order_last (P bytes) made m (some_at left _ bytes is so_far.1) (holds bytes is)))
+    pub in_order_last_read : P m → Made old new (InOrder P)
+    in_order_last_read holds = made_more old mid new m (Noted P count) (InOrder P) noted notes (λ made so_far. in_order_last P made m so_far.1 holds)
 
     pub few_reads : (reads : ℕ) → count + 1 ≤ reads → Made old new (λ made. length made ≤ reads)
-    few_reads reads within = made_more old mid new m (Noted left P count) (λ made. length made ≤ reads) noted notes (λ made so_far. omega (arith, length-append made (m ∷ []), so_far.0, within))
+    few_reads reads within = made_more old mid new m (Noted P count) (λ made. length made ≤ reads) noted notes (λ made so_far. omega (arith, length-append made (m ∷ []), so_far.0, within))
+
+-- what follows at each read
+in_order_map : (P Q : Moment → Type 0) → ((m : Moment) → P m → Q m) → (made : List Moment) → InOrder P made → InOrder Q made
+in_order_map P Q f [] all = tt
+in_order_map P Q f (m ∷ []) all = f m all
+in_order_map P Q f (m ∷ later ∷ rest) all = (f m all.0, all.1, in_order_map P Q f (later ∷ rest) all.2)
+
+pub made_in_order : (old new : Option (List Moment)) (P Q : Moment → Type 0) → ((m : Moment) → P m → Q m) → Made old new (InOrder P) → Made old new (InOrder Q)
+made_in_order old new P Q f made = made_map old new (InOrder P) (InOrder Q) (in_order_map P Q f) made

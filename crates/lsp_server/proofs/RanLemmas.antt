@@ -1,6 +1,6 @@
 -- What was run and written, one step after another.
 use Rattle.std.proofs.Common.{◌≡◌, ℕ, List, [], ◌∷◌, ◌++◌, refl, sym, ◌∙◌, ap, subst, append_assoc, Bool, true, false}
-use Rattle.std.specs.Prelude.{Option, None, is_some}
+use Rattle.std.specs.Prelude.{Option, Some, None, is_some}
 use Rattle.std.specs.Io.KnownBytes.{Appends, Keeps}
 use Rattle.std.proofs.lemmas.List.{append-nil}
 use Rattle.lsp_rpc.specs.Message.{MessageData}
@@ -17,7 +17,7 @@ use Rattle.lsp_session.proofs.RoundLemmas.{both-nothing}
 use Rattle.lsp_session.proofs.StepLemmas.{run_on, grown_on}
 use Rattle.lsp_session.proofs.LifeLemmas.{Notes, step_notes, step_lives}
 use Rattle.lsp_server.specs.Course.{picked}
-use Rattle.lsp_server.specs.Written.{IsPrefixOf, Place, place, Ran, RanPart}
+use Rattle.lsp_server.specs.Written.{IsPrefixOf, IsPartOf, Place, place, Ran, RanPart}
 use Rattle.lsp_server.proofs.KnownLemmas.{appends_none, appends_more, appends_kept}
 use Rattle.lsp_server.proofs.FramesLemmas.{frames-append}
 use Rattle.lsp_server.proofs.PointLemmas.{Point}
@@ -57,6 +57,10 @@ module _ {S : Type 0} {step : S → ItemData → Effect → S → Type 0} where
   pub part_kept : {old : S} {taken0 taken1 taken2 : Option (List ℕ)} {items : List ItemData} → RanPart step old taken0 items taken1 → Keeps taken1 taken2 → RanPart step old taken0 items taken2
   part_kept {taken0 = taken0} {taken1 = taken1} {taken2 = taken2} p kept = record { written = p.written; part = p.part; writes = appends_kept taken0 taken1 taken2 p.written p.writes kept }
 
+  -- what was written alone is the part
+  pub part_alone : {old : S} {items : List ItemData} {written : List ℕ} → RanPart step old (Some []) items (Some written) → IsPartOf step old items written
+  part_alone {old = old} {items = items} {written = written} p = subst (λ l. IsPartOf step old items l) (sym p.writes) p.part
+
 module _ {S D : Type 0} {step : S → ItemData → Effect → S → Type 0} {m : Meaning D} where
   pub ran_none : (a : Place S D) → Ran step m a [] a
   ran_none a = record { effect = nothing; run = (refl, refl); grows = grows_none m a.desk; writes = appends_none a.taken }
@@ -69,10 +73,6 @@ module _ {S D : Type 0} {step : S → ItemData → Effect → S → Type 0} {m :
     grows = grows_on m a.desk b.desk c.desk p.effect.trace q.effect.trace p.grows q.grows;
     writes = subst (λ l. Appends a.taken c.taken l) (sym (frames-append p.effect.out q.effect.out)) (appends_more a.taken b.taken c.taken (frames p.effect.out) (frames q.effect.out) p.writes q.writes);
   }
-
-  -- what was taken is kept
-  pub ran_kept : (a b : Place S D) (taken : Option (List ℕ)) (xs : List ItemData) → Ran step m a xs b → Keeps b.taken taken → Ran step m a xs (record { state = b.state; desk = b.desk; taken = taken })
-  ran_kept a b taken xs p kept = record { effect = p.effect; run = p.run; grows = p.grows; writes = appends_kept a.taken b.taken taken (frames p.effect.out) p.writes kept }
 
   -- the desk has grown by what was run
   pub ran_grown : (a b : Place S D) (xs : List ItemData) → Ran step m a xs b → Grown m a.desk b.desk
@@ -103,6 +103,20 @@ module _ {S D : Type 0} {step : S → ItemData → Effect → S → Type 0} {m :
 
   pub part_whole : (a b : Place S D) (xs : List ItemData) → Ran step m a xs b → RanPart step a.state a.taken xs b.taken
   part_whole a b xs p = subst (λ l. RanPart step a.state a.taken l b.taken) (append-nil xs) (part_all a b xs [] p)
+
+  -- ---- what was written alone, whatever the sink had taken
+
+  pub ran_alone : (a b : Place S D) (xs : List ItemData) → (p : Ran step m a xs b) → Ran step m (record a { taken = Some [] }) xs (record b { taken = Some (frames p.effect.out) })
+  ran_alone a b xs p = record { effect = p.effect; run = p.run; grows = p.grows; writes = refl }
+
+  pub ran_onto : (a b : Place S D) (xs : List ItemData) (written : List ℕ) (taken0 taken1 : Option (List ℕ)) → a.taken ≡ Some [] → b.taken ≡ Some written → Ran step m a xs b → Appends taken0 taken1 written
+      → Ran step m (record a { taken = taken0 }) xs (record b { taken = taken1 })
+  ran_onto a b xs written taken0 taken1 empty is p writes = record {
+    effect = p.effect;
+    run = p.run;
+    grows = p.grows;
+    writes = subst (λ l. Appends taken0 taken1 l) (subst (λ t. Appends t (Some written) (frames p.effect.out)) empty (subst (λ t. Appends a.taken t (frames p.effect.out)) is p.writes)) writes;
+  }
 
 -- ---- one step of a session
 

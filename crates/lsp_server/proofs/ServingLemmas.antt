@@ -1,7 +1,7 @@
 -- How serving goes on over the reads, and what it comes to.
-use Rattle.std.proofs.Common.{◌≡◌, inl, inr, ℕ, ◌+◌, ◌*◌, ◌≤◌, List, [], ◌∷◌, ◌++◌, length, refl, sym, ◌∙◌, ap, subst, append_assoc, length-append, arith, Bool, true, false}
+use Rattle.std.proofs.Common.{◌≡◌, inl, inr, ℕ, ◌≤◌, List, [], ◌∷◌, ◌++◌, length, refl, sym, ◌∙◌, ap, subst, append_assoc, arith, Bool, true, false}
 use Rattle.std.specs.Prelude.{Option, Some, ◌||◌}
-use Rattle.std.specs.Io.KnownBytes.{Consumes, Keeps}
+use Rattle.std.specs.Io.KnownBytes.{Consumes}
 use Rattle.std.proofs.lemmas.List.{append-nil, map-append}
 use Rattle.lsp_desk.specs.Meaning.{Meaning}
 use Rattle.lsp_frame.specs.Codec.{Item, At, start, more, items_at, told_at, frames}
@@ -11,58 +11,33 @@ use Rattle.lsp_session.specs.Item.{ItemData}
 use Rattle.lsp_session.specs.Semantics.{Semantics, IsLawful}
 use Rattle.lsp_session.specs.State.{State}
 use Rattle.lsp_session.specs.Run.{Order, Picked, Step, Run, is_exit, has_exit, served}
-use Rattle.lsp_session.specs.Session.{SessionView}
 use Rattle.lsp_server.specs.SourceSink.{IsFlushed}
 use Rattle.lsp_server.specs.Items.{admitted, all_admitted, stream_items, stream_told, Decodes}
-use Rattle.lsp_server.specs.Course.{Course, course_from}
-use Rattle.lsp_server.specs.Written.{place, Ran, RanPart}
+use Rattle.lsp_server.specs.Course.{Course}
+use Rattle.lsp_server.specs.Written.{Ran, RanPart}
 use Rattle.lsp_server.specs.Served.{ServedTold, call_bytes, RanFrom, ReadEnough, RanTold, AllAnswered, WrotePart}
 use Rattle.lsp_server.specs.Reads.{moment}
-use Rattle.lsp_server.proofs.KnownLemmas.{appends_more, consumes_none, consumes_more, consumes_kept, what_is_left, all_read}
-use Rattle.lsp_server.proofs.PointLemmas.{Point, find_at, GoesOn}
+use Rattle.lsp_server.proofs.KnownLemmas.{appends_more, consumes_more, what_is_left, all_read}
+use Rattle.lsp_server.proofs.PointLemmas.{Point, find_at}
 use Rattle.lsp_server.proofs.ItemsLemmas.{same_exit, served_same, has_exit_same, has_exit-append, served-closed, run_table}
 use Rattle.lsp_server.proofs.CodecLemmas.{decodes_more, decodes_fed, told_now, more_nothing, more_more}
 use Rattle.lsp_server.proofs.RanLemmas.{ran_more, part_none}
-use Rattle.lsp_server.proofs.GoingLemmas.{Going, going_start, going_served}
+use Rattle.lsp_server.proofs.GoingLemmas.{Going, going_served}
+
+-- the course of a session from a point on
+abbrev pub way_from : {H D C T P : Type 0} → (semantics : Semantics H C T) → Meaning D → Order P → ℕ → Limits → Point semantics D P → Course (Picked (State H semantics.Call semantics.Task) P) D
+way_from semantics m order rounds limits a = record { step = Step semantics order rounds; meaning = m; find = find_at semantics a; limits = limits; start = a.state; desk = a.desk }
 
 module _ {H D C T P : Type 0} (semantics : Semantics H C T) (m : Meaning D) (order : Order P) (rounds : ℕ) (limits : Limits) where
-  -- the loop over the reads has come this far
-  pub record Serving (a : Point semantics D P) (left0 : Option (List ℕ)) (b : Point semantics D P) (left1 : Option (List ℕ)) (codec : At) (count : ℕ) : Type 0 where
+  -- serving has come this far with the bytes that were read
+  pub record Serving (a : Point semantics D P) (left0 : Option (List ℕ)) (b : Point semantics D P) (left1 : Option (List ℕ)) (codec : At) : Type 0 where
     pub fed : List ℕ
-    -- each read gave a byte at least, and 4,096 at most
-    pub each : count ≤ length fed
-    pub most : length fed ≤ count * 4096
     pub gives : Consumes left0 left1 fed
     pub going : Going semantics m order rounds a (more (start limits) fed) b codec
     pub told : told_at codec ≡ []
 
 module _ {H D C T P : Type 0} {semantics : Semantics H C T} {m : Meaning D} {order : Order P} {rounds : ℕ} {limits : Limits} where
-  pub serving_start : (a : Point semantics D P) (left0 : Option (List ℕ)) (codec : At) → GoesOn semantics a → codec ≡ start limits → Serving semantics m order rounds limits a left0 a left0 codec 0
-  serving_start a left0 codec goes_on fresh = record {
-    fed = [];
-    each = omega arith;
-    most = omega arith;
-    gives = consumes_none left0;
-    going = subst (λ c. Going semantics m order rounds a (more (start limits) []) a c) (sym fresh) (going_start a (start limits) goes_on);
-    told = ap told_at fresh;
-  }
-
-  module _ (a : Point semantics D P) (left0 : Option (List ℕ)) (b : Point semantics D P) (left1 : Option (List ℕ)) (codec1 : At) (count : ℕ) (serving : Serving semantics m order rounds limits a left0 b left1 codec1 count) where
-    -- the same where a read failed
-    pub serving_kept : (left2 : Option (List ℕ)) → Keeps left1 left2 → Serving semantics m order rounds limits a left0 b left2 codec1 count
-    serving_kept left2 keeps = record {
-      fed = serving.fed;
-      each = serving.each;
-      most = serving.most;
-      gives = consumes_kept left0 left1 left2 serving.fed serving.gives keeps;
-      going = serving.going;
-      told = serving.told;
-    }
-
-    -- the same where the bytes are told
-    pub serving_of : (bytes : List ℕ) → left0 ≡ Some bytes → Serving semantics m order rounds limits a (Some bytes) b left1 codec1 count
-    serving_of bytes is = subst (λ l. Serving semantics m order rounds limits a l b left1 codec1 count) is serving
-
+  module _ (a : Point semantics D P) (left0 : Option (List ℕ)) (b : Point semantics D P) (left1 : Option (List ℕ)) (codec1 : At) (serving : Serving semantics m order rounds limits a left0 b left1 codec1) where
     module _ (laws : IsLawful semantics) where
       abbrev so_far : List ItemData
       so_far = all_admitted serving.going.given
@@ -92,54 +67,30 @@ module _ {H D C T P : Type 0} {semantics : Semantics H C T} {m : Meaning D} {ord
         ran_all = subst (λ l. Ran (Step semantics order rounds) m a l d) (sym (map-append admitted serving.going.given told.given))
             (ran_more a b d so_far (all_admitted told.given) serving.going.ran told.ran)
 
-        -- the same table finds the same exits
-        none_of_all : has_exit (find_at semantics b) (all_admitted told.given) ≡ false → has_exit (find_at semantics a) (all_admitted all) ≡ false
-        none_of_all none =
-            ap (has_exit (find_at semantics a)) (map-append admitted serving.going.given told.given) ∙ has_exit-append (find_at semantics a) so_far (all_admitted told.given)
-            ∙ ap (λ x. x || has_exit (find_at semantics a) (all_admitted told.given)) serving.going.none ∙ sym (has_exit_same (find_at semantics b) (find_at semantics a) (all_admitted told.given) same_table) ∙ none
-
-      pub serving_more : (left2 : Option (List ℕ)) (piece : List ℕ) → Consumes left1 left2 piece → (d : Point semantics D P) (codec2 : At) (next : ℕ)
-          → ServedTold (Step semantics order rounds) m (find_at semantics b) b (more codec1 piece) false d codec2 → GoesOn semantics d → next ≤ count + length piece → length serving.fed + length piece ≤ next * 4096 → Serving semantics m order rounds limits a left0 d left2 codec2 next
-      serving_more left2 piece gives d codec2 next told goes_on enough few = record {
-        fed = serving.fed ++ piece;
-        each = omega (arith, length-append serving.fed piece, serving.each);
-        most = omega (arith, length-append serving.fed piece, few);
-        gives = all_gives left2 piece gives d codec2 false told;
-        going = record {
-          given = all left2 piece gives d codec2 false told;
-          decodes = decoded left2 piece gives d codec2 false told;
-          ran = ran_all left2 piece gives d codec2 false told;
-          none = none_of_all left2 piece gives d codec2 false told told.ends.0;
-          goes_on = goes_on;
-        };
-        told = told.ends.1;
-      }
-
 -- ---- what it comes to, where the bytes are told
 
 module _ {H D C T P : Type 0} {semantics : Semantics H C T} (laws : IsLawful semantics) {m : Meaning D} {order : Order P} {rounds : ℕ} {limits : Limits}
-    (old : SessionView H D semantics.Call semantics.Task) (p : P) (taken0 : Option (List ℕ)) (bytes : List ℕ) (b : Point semantics D P) (left1 : Option (List ℕ)) (codec1 : At) (count : ℕ)
-    (serving : Serving semantics m order rounds limits (place old p taken0) (Some bytes) b left1 codec1 count) where
-  abbrev a : Point semantics D P
-  a = place old p taken0
+    (a : Point semantics D P) (bytes : List ℕ) (b : Point semantics D P) (left1 : Option (List ℕ)) (codec1 : At) (serving : Serving semantics m order rounds limits a (Some bytes) b left1 codec1) where
+  abbrev taken0 : Option (List ℕ)
+  taken0 = a.taken
 
   abbrev find : List ℕ → Option Entry
-  find = semantics.find old.state.service
+  find = semantics.find a.state.session.service
 
   abbrev find_b : List ℕ → Option Entry
   find_b = semantics.find b.state.session.service
 
   abbrev way : Course (Picked (State H semantics.Call semantics.Task) P) D
-  way = course_from semantics m order rounds limits old p
+  way = way_from semantics m order rounds limits a
 
   abbrev before : List ItemData
   before = all_admitted serving.going.given
 
   tables_agree : (name : List ℕ) → find_b name ≡ find name
-  tables_agree = same_table a (Some bytes) b left1 codec1 count serving laws
+  tables_agree = same_table a (Some bytes) b left1 codec1 serving laws
 
   told_before : stream_told limits serving.fed ≡ before
-  told_before = told_is a (Some bytes) b left1 codec1 count serving laws
+  told_before = told_is a (Some bytes) b left1 codec1 serving laws
 
   -- ---- between two reads what was written is exact
 
@@ -160,13 +111,13 @@ module _ {H D C T P : Type 0} {semantics : Semantics H C T} (laws : IsLawful sem
   module _ (left2 : Option (List ℕ)) (piece : List ℕ) (gives : Consumes left1 left2 piece) (d : Point semantics D P) (codec2 : At)
       (told : ServedTold (Step semantics order rounds) m find_b b (more codec1 piece) true d codec2) where
     abbrev given : List Item
-    given = all a (Some bytes) b left1 codec1 count serving laws left2 piece gives d codec2 true told
+    given = all a (Some bytes) b left1 codec1 serving laws left2 piece gives d codec2 true told
 
     read_all : Consumes (Some bytes) left2 (serving.fed ++ piece)
-    read_all = all_gives a (Some bytes) b left1 codec1 count serving laws left2 piece gives d codec2 true told
+    read_all = all_gives a (Some bytes) b left1 codec1 serving laws left2 piece gives d codec2 true told
 
     all_decoded : Decodes (more (start limits) (serving.fed ++ piece)) given codec2
-    all_decoded = decoded a (Some bytes) b left1 codec1 count serving laws left2 piece gives d codec2 true told
+    all_decoded = decoded a (Some bytes) b left1 codec1 serving laws left2 piece gives d codec2 true told
 
     -- the items given end with the exit
     abbrev front : List ItemData
@@ -192,7 +143,7 @@ module _ {H D C T P : Type 0} {semantics : Semantics H C T} (laws : IsLawful sem
         ∙ served-closed find front told.ends.exit rest front_open exit_is ∙ sym given_is
 
     pub at_exit : RanFrom way (call_bytes bytes left2 taken0 d.taken) (served find (stream_items limits bytes)) d.state d.desk
-    at_exit = subst (λ l. Ran (Step semantics order rounds) m a l d) (sym served_is) (ran_all a (Some bytes) b left1 codec1 count serving laws left2 piece gives d codec2 true told)
+    at_exit = subst (λ l. Ran (Step semantics order rounds) m a l d) (sym served_is) (ran_all a (Some bytes) b left1 codec1 serving laws left2 piece gives d codec2 true told)
 
     pub enough_at_exit : (size : ℕ) → length piece ≤ size → ReadEnough way (call_bytes bytes left2 taken0 d.taken) size
     enough_at_exit size short = record {

@@ -1,5 +1,5 @@
 -- Which errors of a server come when.
-use Rattle.std.specs.Prelude.{◌≡◌, ◌^◌, ◌-◌, ⊤, Bool, true, false}
+use Rattle.std.specs.Prelude.{◌≡◌, ◌^◌, ◌-◌, ⊤, Bool, true, false, Result, Ok, Err}
 use Rattle.lsp_desk.specs.Meaning.{Meaning}
 use Rattle.lsp_server.specs.declared.step.ServeError.{ServeError}
 use Rattle.lsp_server.specs.declared.step.ServeError.TheVariants.{ReadFault, WriteFault, ReadsSpent, DeskSpent, NoMemory}
@@ -27,6 +27,16 @@ IsInStep WriteFault = ⊤
 IsInStep ReadsSpent = ⊥
 IsInStep (DeskSpent n) = ⊤
 IsInStep NoMemory = ⊤
+
+-- an answer that comes of a step
+abbrev pub EndsInStep : {A : Type 0} → Result A ServeError → Type 0
+EndsInStep (Ok x) = ⊤
+EndsInStep (Err e) = IsInStep e
+
+-- an answer after whose steps the session may go on
+abbrev pub StaysWhole : {A : Type 0} → Result A ServeError → Type 0
+StaysWhole (Ok x) = ⊤
+StaysWhole (Err e) = IsBetweenReads e
 
 -- these errors come without a fault of the sink
 abbrev pub LeavesSink : ServeError → Type 0

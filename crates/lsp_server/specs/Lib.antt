@@ -6,10 +6,13 @@ pub mod ReadWrite
 pub mod Items
 pub mod Course
 pub mod Written
+pub mod Errors
 pub mod Served
 pub mod Reads
 pub mod ReadAt
 pub mod MemoryTransport
-pub mod Errors
+pub mod Leaves
+pub mod Consuming
+pub mod Serving
 pub mod ServerView
 pub mod ServedView

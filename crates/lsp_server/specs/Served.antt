@@ -1,5 +1,5 @@
 -- What a server writes of a source's bytes.
-use Rattle.std.specs.Prelude.{◌≡◌, ◌≤◌, ◌⊎◌, ◌++◌, Bool, true, false, ℕ, List, [], ◌∷◌, length, Option, Some}
+use Rattle.std.specs.Prelude.{◌≡◌, ◌≤◌, ◌⊎◌, ◌++◌, Bool, true, false, ℕ, List, [], ◌∷◌, length, Option, Some, IfSome, IfNone}
 use Rattle.std.specs.Io.KnownBytes.{Consumes, Appends}
 use Rattle.lsp_rpc.specs.Message.{IdData}
 use Rattle.lsp_desk.specs.declared.life.Life.{Life}
@@ -12,7 +12,9 @@ use Rattle.lsp_session.specs.Run.{Picked, Run, served, has_exit, is_exit}
 use Rattle.lsp_session.specs.Count.{Counts}
 use Rattle.lsp_session.specs.Session.{SessionView}
 use Rattle.lsp_server.specs.SourceSink.{IsFlushed}
-use Rattle.lsp_server.specs.Reads.{Moment}
+use Rattle.lsp_server.specs.Reads.{Moment, Made, InOrder}
+use Rattle.lsp_server.specs.declared.step.ServeError.{ServeError}
+use Rattle.lsp_server.specs.Errors.{IsBetweenReads}
 use Rattle.lsp_server.specs.Items.{all_admitted, stream_items, stream_told, Decodes}
 use Rattle.lsp_server.specs.Course.{Course}
 use Rattle.lsp_server.specs.Written.{Place, Ran, IsPartOf}
@@ -127,3 +129,15 @@ pub record WrotePart {S D : Type 0} (course : Course S D) (call : CallBytes) (si
   pub written : List ℕ
   pub part : IsPartOf course.step mid later written
   pub writes : Appends call.taken call.taken_after (frames first.out ++ written)
+
+-- what a call that serves over reads comes to, from one moment to another, by the error that it answers, if any
+pub record ServesOver {S D : Type 0} (course : Course S D) (bytes : List ℕ) (start now : Moment) (reads reads_after : Option (List Moment)) (size : ℕ) (last : S) (desk : D) (error : Option ServeError) : Type 0 where
+  -- the steps of the items of all the bytes were made, through the first exit or with a tick at the end, and their frames were written
+  pub ok : IfNone error (RanFrom course (call_bytes bytes now.left start.taken now.taken) (served course.find (stream_items course.limits bytes)) last desk)
+  -- it ends only at the end of input or at an exit, and nothing is read after the piece that tells the exit
+  pub enough : IfNone error (ReadEnough course (call_bytes bytes now.left start.taken now.taken) size)
+  -- between two reads the items told were served
+  pub exact : IfSome error (λ e. IsBetweenReads e → RanTold course (call_bytes bytes now.left start.taken now.taken) last desk)
+  pub part : WrotePart course (call_bytes bytes now.left start.taken now.taken) size
+  -- before each read all that was told is answered, and nothing is read after the end of input
+  pub in_order : Made reads reads_after (InOrder (AllAnswered course bytes start))

@@ -3,6 +3,7 @@ use Rattle.std.specs.Prelude.{◌≡◌, ℕ, List, [], Option, false}
 use Rattle.lsp_desk.specs.declared.desk.Caller.{Ghosts as CallerGhosts}
 use Rattle.lsp_desk.specs.Meaning.{Meaning}
 use Rattle.lsp_frame.specs.declared.limits.Limits.{Limits}
+use Rattle.lsp_frame.specs.Codec.{At}
 use Rattle.lsp_session.specs.declared.handlers.Handlers.{Ghosts as HandlersGhosts}
 use Rattle.lsp_session.specs.declared.session.Session.{Session}
 use Rattle.lsp_session.specs.Semantics.{Semantics}
@@ -10,7 +11,9 @@ use Rattle.lsp_session.specs.State.{State}
 use Rattle.lsp_session.specs.Run.{Picked}
 use Rattle.lsp_session.specs.SessionView.{session_view, has_stopped}
 use Rattle.lsp_server.specs.declared.server.Server.{Server}
-use Rattle.lsp_server.specs.Course.{Setting}
+use Rattle.lsp_server.specs.declared.serving.Serving.{Serving}
+use Rattle.lsp_server.specs.Course.{Setting, picked}
+use Rattle.lsp_server.specs.Serving.{Spot}
 use Rattle.lsp_server.specs.Written.{Place, place}
 
 -- ---- the server
@@ -39,6 +42,18 @@ setting server service pick rounds = record { service = service; desk = server_d
 abbrev pub standing : {H D C T P : Type 0} {h : HandlersGhosts H D C T} {d : CallerGhosts D} → (semantics : Semantics H C T) → Meaning D → Session H D C T h d → P → Option (List ℕ)
     → Place (Picked (State H semantics.Call semantics.Task) P) D
 standing semantics m session p taken = place (session_view semantics m session) p taken
+
+-- the same with its codec
+abbrev pub spot : {H D C T P : Type 0} {h : HandlersGhosts H D C T} {d : CallerGhosts D} → (semantics : Semantics H C T) → Meaning D → Session H D C T h d → P → At → ℕ
+    → Spot (Picked (State H semantics.Call semantics.Task) P) D
+spot semantics m session p codec rounds =
+    let view = session_view semantics m session in
+    record { state = picked view p; desk = view.desk; out = view.out; stopped = has_stopped session; codec = codec; rounds = rounds }
+
+-- the same, as a codec and its session have it
+abbrev pub see_serving : {H D C T P I : Type 0} {h : HandlersGhosts H D C T} {d : CallerGhosts D} → (semantics : Semantics H C T) → Meaning D → (I → P) → (Serving I × Session H D C T h d)
+    → Spot (Picked (State H semantics.Call semantics.Task) P) D
+see_serving semantics m state s = spot semantics m s.1 (state s.0.pick.now) s.0.codec.now s.0.rounds
 
 -- a session between two steps: it goes on, and what it put out was taken
 pub record IsReady {H D C T : Type 0} {h : HandlersGhosts H D C T} {d : CallerGhosts D} (semantics : Semantics H C T) (m : Meaning D) (session : Session H D C T h d) : Type 0 where

@@ -1,9 +1,11 @@
 //! A server over a source and a sink of bytes.
 #![tactic(auto)]
 
+mod consumer;
 mod memory;
 mod memory_transport;
 mod read_write;
+mod reads;
 mod server;
 mod serving;
 mod sink;
@@ -12,9 +14,11 @@ mod step;
 mod transport;
 mod write;
 
+pub use consumer::Consumer;
 pub use memory::{MemorySink, MemorySource, NeverSink, NeverSource};
 pub use memory_transport::{MemoryTransport, ReadAt};
 pub use read_write::{ReadSource, WriteSink};
+pub use reads::over_reads;
 pub use server::{Served, Server, Stopped};
 pub use serving::serve_over;
 pub use sink::{Refused, Sink};

@@ -1,38 +1,60 @@
--- What was taken stays taken, and is flushed, also after an error.
-use Rattle.std.proofs.Common.{◌∙◌}
+-- The fault of an input that ends inside a frame, and the tick after it.
+use Rattle.std.proofs.Common.{◌≡◌, [], ◌∷◌, List, sym, ◌∙◌, ap, subst}
+use Rattle.lsp_frame.specs.Codec.{items_at}
+use Rattle.lsp_session.specs.Item.{ItemData, fault, tick}
+use Rattle.lsp_session.specs.Run.{Order, Step, served}
+use Rattle.lsp_session.specs.SessionView.{session_view}
+use Rattle.lsp_server.proofs.KnownLemmas.{on_ok}
+use Rattle.lsp_server.proofs.KnownLemmas.{on_err}
+use Rattle.lsp_server.specs.Items.{all_admitted}
+use Rattle.lsp_server.specs.Written.{Ran, RanPart}
 use Rattle.lsp_server.specs.ServerView.{standing}
-use Rattle.lsp_server.proofs.KnownLemmas.{err_of, flushed_after}
-use Rattle.lsp_server.proofs.ErrorLemmas.{spent_stands, step_stands}
-use Rattle.lsp_server.proofs.RanLemmas.{part_kept, part_whole, ran_grown}
+use Rattle.lsp_server.proofs.KnownLemmas.{err_of}
+use Rattle.lsp_server.proofs.RanLemmas.{part_none, part_more, part_after, ran_more, grown_after, grown_none}
 use Rattle.lsp_server.proofs.serving.serve_end.Goals as goal
 
-pub returns-in-Ok-clause-part : goal.returns-in-Ok-clause-part
-returns-in-Ok-clause-part g c =
+pub returns-in_err-fault-clause-part : goal.returns-in_err-fault-clause-part
+returns-in_err-fault-clause-part g c = err_of _ (part_none _ _ _)
+
+pub returns-in_err-write_step-in-Some-clause-part : goal.returns-in_err-write_step-in-Some-clause-part
+returns-in_err-write_step-in-Some-clause-part g c =
     let sem = g.H.Handlers.semantics in
     let m = g.D.Caller.meaning in
+    let order : Order g.P.Pick.State = record { gives = g.P.Pick.gives; later = g.P.Pick.later } in
     let a = standing sem m c.args.session.now (g.P.Pick.state c.args.pick.now) (g.O.Sink.taken c.args.sink.now) in
-    let b = standing sem m c.write_end.new.session (g.P.Pick.state c.write_end.new.pick) (g.O.Sink.taken c.write_end.new.sink) in
-    err_of c.flush.result (part_kept (part_whole a b _ c.in-Ok.ensures.ok) c.flush.ensures.taken)
+    let only : all_admitted (items_at c.args.codec.now) ≡ fault c.code.result ∷ [] =
+    ap all_admitted (rw c.in-Some.is at c.in_ok-fault.ensures.items) ∙ ap (λ code. fault code ∷ []) (sym c.code.ensures) in
+    err_of _ (subst (λ (l : List ItemData). RanPart (Step sem order c.args.rounds) a.state a.taken (served (sem.find (session_view sem m c.args.session.now).state.service) l) (g.O.Sink.taken c.write_step.new.sink)) (sym only)
+    (part_more (fault c.code.result ∷ []) (tick ∷ []) c.in_err-write_step-in-Some.ensures.part))
 
-pub returns-in-Ok-clause-grown : goal.returns-in-Ok-clause-grown
-returns-in-Ok-clause-grown g c = ran_grown _ _ _ c.in-Ok.ensures.ok
+pub returns-in_ok-write_step-in-Some-clause-ok : goal.returns-in_ok-write_step-in-Some-clause-ok
+returns-in_ok-write_step-in-Some-clause-ok g c =
+    let sem = g.H.Handlers.semantics in
+    let m = g.D.Caller.meaning in
+    let order : Order g.P.Pick.State = record { gives = g.P.Pick.gives; later = g.P.Pick.later } in
+    let a = standing sem m c.args.session.now (g.P.Pick.state c.args.pick.now) (g.O.Sink.taken c.args.sink.now) in
+    let b = standing sem m c.write_step.new.session (g.P.Pick.state c.write_step.new.pick) (g.O.Sink.taken c.write_step.new.sink) in
+    let d = standing sem m c.write_step-in-Some.new.session (g.P.Pick.state c.write_step-in-Some.new.pick) (g.O.Sink.taken c.write_step-in-Some.new.sink) in
+    let only : all_admitted (items_at c.args.codec.now) ≡ fault c.code.result ∷ [] =
+    ap all_admitted (rw c.in-Some.is at c.in_ok-fault.ensures.items) ∙ ap (λ code. fault code ∷ []) (sym c.code.ensures) in
+    on_ok c.write_step-in-Some.result (λ ran. subst (λ (l : List ItemData). Ran (Step sem order c.args.rounds) m a (served (sem.find (session_view sem m c.args.session.now).state.service) l) d) (sym only)
+    (ran_more a b d (fault c.code.result ∷ []) (tick ∷ []) c.in_ok-write_step-in-Some.ensures.ok ran)) c.write_step-in-Some.ensures.ok
 
--- ---- a step failed
+pub returns-in_ok-write_step-in-Some-clause-part : goal.returns-in_ok-write_step-in-Some-clause-part
+returns-in_ok-write_step-in-Some-clause-part g c =
+    let sem = g.H.Handlers.semantics in
+    let m = g.D.Caller.meaning in
+    let order : Order g.P.Pick.State = record { gives = g.P.Pick.gives; later = g.P.Pick.later } in
+    let a = standing sem m c.args.session.now (g.P.Pick.state c.args.pick.now) (g.O.Sink.taken c.args.sink.now) in
+    let b = standing sem m c.write_step.new.session (g.P.Pick.state c.write_step.new.pick) (g.O.Sink.taken c.write_step.new.sink) in
+    let only : all_admitted (items_at c.args.codec.now) ≡ fault c.code.result ∷ [] =
+    ap all_admitted (rw c.in-Some.is at c.in_ok-fault.ensures.items) ∙ ap (λ code. fault code ∷ []) (sym c.code.ensures) in
+    on_err c.write_step-in-Some.result (λ part. subst (λ (l : List ItemData). RanPart (Step sem order c.args.rounds) a.state a.taken (served (sem.find (session_view sem m c.args.session.now).state.service) l) (g.O.Sink.taken c.write_step-in-Some.new.sink)) (sym only)
+    (part_after a b (g.O.Sink.taken c.write_step-in-Some.new.sink) (fault c.code.result ∷ []) (tick ∷ []) c.in_ok-write_step-in-Some.ensures.ok part)) c.write_step-in-Some.ensures.part
 
-pub returns-in-Err-clause-part : goal.returns-in-Err-clause-part
-returns-in-Err-clause-part g c = part_kept c.in-Err.ensures.part c.flush_after.ensures.taken
+pub returns-in_ok-write_step-in-Some-clause-grown : goal.returns-in_ok-write_step-in-Some-clause-grown
+returns-in_ok-write_step-in-Some-clause-grown g c =
+    on_err c.write_step-in-Some.result (λ grown. grown_after _ _ _ _ c.in_ok-write_step-in-Some.ensures.ok grown) c.write_step-in-Some.ensures.grown
 
-pub returns-in-Err-clause-flushed_at : goal.returns-in-Err-clause-flushed_at
-returns-in-Err-clause-flushed_at g c at was =
-    let part = c.in-Err.ensures.part in
-    flushed_after (g.O.Sink.taken c.args.sink.now) (g.O.Sink.taken c.write_end.new.sink) (g.O.Sink.taken c.flush_after.new.sink) (g.O.Sink.flushed c.args.sink.now) (g.O.Sink.flushed c.write_end.new.sink) (g.O.Sink.flushed c.flush_after.new.sink)
-    part.written part.writes c.write_end.ensures.flushed c.flush_after.ensures.taken (c.flush_after.ensures.flushes at) was
-
-pub returns-in-Err-clause-left : goal.returns-in-Err-clause-left
-returns-in-Err-clause-left g c leaves = let left = c.flush_after.ensures.left leaves in left.0 ∙ c.in-Err.ensures.left left.1
-
-pub returns-in-Err-clause-spent : goal.returns-in-Err-clause-spent
-returns-in-Err-clause-spent g c = spent_stands g.D.Caller.meaning _ c.in-Err.error c.flush_after.result c.flush_after.ensures.stands c.in-Err.ensures.spent
-
-pub returns-in-Err-clause-others : goal.returns-in-Err-clause-others
-returns-in-Err-clause-others g c = step_stands c.in-Err.error c.flush_after.result c.flush_after.ensures.stands c.in-Err.ensures.others
+pub returns-in_err-fault-clause-grown : goal.returns-in_err-fault-clause-grown
+returns-in_err-fault-clause-grown g c = err_of _ (grown_none g.D.Caller.meaning _)

@@ -1,44 +1,74 @@
--- What was taken stays taken, and is flushed, also after an error.
-use Rattle.std.proofs.Common.{[], ◌∙◌, ℕ, List}
-use Rattle.lsp_frame.specs.Codec.{items_at, more}
-use Rattle.lsp_session.specs.Run.{Order, Step, served}
+-- One item more, an exit, and the end of what is told.
+use Rattle.std.proofs.Common.{rules, arith, refl, ◌≡◌, length, true, false, ap, [], ◌∷◌}
+use Rattle.std.specs.Prelude.{is_some}
+use Rattle.lsp_session.specs.Item.{show_item}
 use Rattle.lsp_session.specs.SessionView.{session_view}
-use Rattle.lsp_server.specs.Items.{all_admitted}
-use Rattle.lsp_server.specs.Written.{RanPart}
 use Rattle.lsp_server.specs.ServerView.{standing}
-use Rattle.lsp_server.proofs.KnownLemmas.{err_of, flushed_after}
-use Rattle.lsp_server.proofs.ErrorLemmas.{spent_stands, step_stands}
-use Rattle.lsp_server.proofs.RanLemmas.{part_kept}
-use Rattle.lsp_server.proofs.GoingLemmas.{told_any}
+use Rattle.lsp_server.proofs.KnownLemmas.{err_of}
+use Rattle.lsp_server.proofs.CodecLemmas.{next_found, told_now}
+use Rattle.lsp_server.proofs.RanLemmas.{ran_grown, grown_after}
+use Rattle.lsp_server.proofs.GoingLemmas.{going_start, going_step, told_exit, told_part_none, told_part_step}
 use Rattle.lsp_server.proofs.serving.serve_told.Goals as goal
 
-pub returns-in_err-flush-in-Ok-clause-part : goal.returns-in_err-flush-in-Ok-clause-part
-returns-in_err-flush-in-Ok-clause-part g c =
+pub items-init : goal.items-init
+items-init g c = record {
+  going = going_start (standing g.H.Handlers.semantics g.D.Caller.meaning c.args.session.now (g.P.Pick.state c.args.pick.now) (g.O.Sink.taken c.args.sink.now)) c.args.codec.now (record { exited = c.requires.unexited; lives = c.requires.alive });
+  ready = c.requires.ready;
+  flushed = refl;
+  beside = refl;
+  count = refl;
+}
+
+pub returns-in_err-item-clause-part : goal.returns-in_err-item-clause-part
+returns-in_err-item-clause-part g c = err_of _ (told_part_none _ _ _ _ c.items.invariant.going)
+
+pub returns-in_err-write_step-clause-part : goal.returns-in_err-write_step-clause-part
+returns-in_err-write_step-clause-part g c =
+    err_of _ (told_part_step _ _ _ _ c.items.invariant.going g.met.H.Handlers.laws
+    c.next_item.new.codec (show_item c.in-Some.item) (rw c.in-Some.is at c.in_ok-item.ensures.next) (g.O.Sink.taken c.write_step.new.sink) c.in_err-write_step.ensures.part)
+
+pub returns-then-is_some-clause-ok : goal.returns-then-is_some-clause-ok
+returns-then-is_some-clause-ok g c =
     let sem = g.H.Handlers.semantics in
     let m = g.D.Caller.meaning in
-    let order : Order g.P.Pick.State = record { gives = g.P.Pick.gives; later = g.P.Pick.later } in
-    let a = standing sem m c.args.session.now (g.P.Pick.state c.args.pick.now) (g.O.Sink.taken c.args.sink.now) in
-    let d = standing sem m c.write_told.new.session (g.P.Pick.state c.write_told.new.pick) (g.O.Sink.taken c.write_told.new.sink) in
-    let part : (k : List ℕ) → RanPart (Step sem order c.args.rounds) a.state a.taken (served (sem.find (session_view sem m c.args.session.now).state.service) (all_admitted (items_at (more c.args.codec.now k)))) (g.O.Sink.taken c.flush.new.sink) =
-    λ k. part_kept (told_any c.in-Ok.exits _ a c.args.codec.now d c.write_told.new.codec c.in-Ok.ensures.ok k) c.flush.ensures.taken in
-    err_of _ part
+    let noted : is_some (session_view sem m c.write_step.new.session).state.exited ≡ true = search rules in
+    let d = standing sem m c.write_step.new.session (g.P.Pick.state c.write_step.new.pick) (g.O.Sink.taken c.write_step.new.sink) in
+    told_exit _ _ _ _ c.items.invariant.going g.met.H.Handlers.laws
+    c.next_item.new.codec (show_item c.in-Some.item) (rw c.in-Some.is at c.in_ok-item.ensures.next) d c.in_ok-write_step.ensures.ok noted
 
--- ---- a step failed
+-- ---- the desk grows
 
-pub returns-in-Err-clause-part : goal.returns-in-Err-clause-part
-returns-in-Err-clause-part g c = λ k. part_kept (c.in-Err.ensures.part k) c.flush_after.ensures.taken
+pub returns-in_err-item-clause-grown : goal.returns-in_err-item-clause-grown
+returns-in_err-item-clause-grown g c = ran_grown _ _ _ c.items.invariant.going.ran
 
-pub returns-in-Err-clause-flushed_at : goal.returns-in-Err-clause-flushed_at
-returns-in-Err-clause-flushed_at g c at was =
-    let part = c.in-Err.ensures.part [] in
-    flushed_after (g.O.Sink.taken c.args.sink.now) (g.O.Sink.taken c.write_told.new.sink) (g.O.Sink.taken c.flush_after.new.sink) (g.O.Sink.flushed c.args.sink.now) (g.O.Sink.flushed c.write_told.new.sink) (g.O.Sink.flushed c.flush_after.new.sink)
-    part.written part.writes c.write_told.ensures.flushed c.flush_after.ensures.taken (c.flush_after.ensures.flushes at) was
+pub returns-in_err-write_step-clause-grown : goal.returns-in_err-write_step-clause-grown
+returns-in_err-write_step-clause-grown g c = grown_after _ _ _ _ c.items.invariant.going.ran c.in_err-write_step.ensures.grown
 
-pub returns-in-Err-clause-left : goal.returns-in-Err-clause-left
-returns-in-Err-clause-left g c leaves = let left = c.flush_after.ensures.left leaves in left.0 ∙ c.in-Err.ensures.left left.1
+pub returns-then-is_some-clause-grown : goal.returns-then-is_some-clause-grown
+returns-then-is_some-clause-grown g c = grown_after _ _ _ _ c.items.invariant.going.ran (ran_grown _ _ _ c.in_ok-write_step.ensures.ok)
 
-pub returns-in-Err-clause-spent : goal.returns-in-Err-clause-spent
-returns-in-Err-clause-spent g c = spent_stands g.D.Caller.meaning _ c.in-Err.error c.flush_after.result c.flush_after.ensures.stands c.in-Err.ensures.spent
+pub returns-clause-grown : goal.returns-clause-grown
+returns-clause-grown g c = ran_grown _ _ _ c.items.invariant.going.ran
 
-pub returns-in-Err-clause-others : goal.returns-in-Err-clause-others
-returns-in-Err-clause-others g c = step_stands c.in-Err.error c.flush_after.result c.flush_after.ensures.stands c.in-Err.ensures.others
+-- ---- one item more
+
+pub items-smaller : goal.items-smaller
+items-smaller g c =
+    let found = next_found c.items.codec c.next_item.new.codec (show_item c.in-Some.item) (rw c.in-Some.is at c.in_ok-item.ensures.next) in
+    let told = ap length (told_now c.items.codec c.next_item.new.codec (found.0 ∷ []) found.2) in
+    omega (arith, told)
+
+pub items-preserved : goal.items-preserved
+items-preserved g c =
+    let sem = g.H.Handlers.semantics in
+    let m = g.D.Caller.meaning in
+    let d = standing sem m c.write_step.new.session (g.P.Pick.state c.write_step.new.pick) (g.O.Sink.taken c.write_step.new.sink) in
+    let unnoted : is_some (session_view sem m c.write_step.new.session).state.exited ≡ false = search rules in
+    record {
+      going = going_step _ _ _ _ c.items.invariant.going g.met.H.Handlers.laws
+          c.next_item.new.codec (show_item c.in-Some.item) (rw c.in-Some.is at c.in_ok-item.ensures.next) d c.in_ok-write_step.ensures.ok unnoted;
+      ready = c.in_ok-write_step.ensures.ready;
+      flushed = search rules;
+      beside = search rules;
+      count = search rules;
+    }

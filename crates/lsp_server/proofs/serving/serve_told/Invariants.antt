@@ -4,7 +4,7 @@ use Rattle.lsp_frame.specs.Codec.{told_at}
 use Rattle.lsp_session.specs.Run.{Order}
 use Rattle.lsp_server.specs.ServerView.{standing, IsReady}
 use Rattle.lsp_server.proofs.GoingLemmas.{Going}
-use Rattle.lsp_server.proofs.serving.write_told.Given as goal
+use Rattle.lsp_server.proofs.serving.serve_told.Given as goal
 
 abbrev pub invariant-items : goal.invariant-items
 invariant-items g l =

@@ -1,0 +1,35 @@
+-- What a call leaves of a sink and of a transport, by the error that it answers, if any.
+use Rattle.std.specs.Prelude.{◌≡◌, ◌≤◌, ◌<◌, ◌+◌, ◌*◌, ℕ, List, length, Option, Some, IfSome, IfNone}
+use Rattle.lsp_server.specs.declared.step.ServeError.{ServeError}
+use Rattle.lsp_server.specs.declared.step.ServeError.TheVariants.{ReadFault, WriteFault, ReadsSpent}
+use Rattle.lsp_server.specs.SourceSink.{CountRose, IsFlushed}
+use Rattle.lsp_server.specs.Reads.{Moment, Made}
+use Rattle.lsp_server.specs.Errors.{LeavesSink, IsFlushedAt}
+
+-- the count of a sink's faults rises exactly where the call stops with such a fault, and nothing beside the sink changes
+pub record LeavesFaults {O B : Type 0} (faults_of : O → ℕ) (beside_of : O → B) (old new : O) (error : Option ServeError) : Type 0 where
+  pub beside : beside_of new ≡ beside_of old
+  pub count : faults_of old ≤ faults_of new
+  pub write : IfSome error (λ e. e ≡ WriteFault → CountRose (faults_of old) (faults_of new))
+  pub unfailed : IfNone error (faults_of new ≡ faults_of old)
+  pub left : IfSome error (λ e. LeavesSink e → faults_of new ≡ faults_of old)
+
+-- all that was written is flushed, if all was before, unless the call stops with an error of the sink or of memory
+pub record StaysFlushed (taken : Option (List ℕ)) (count : Option ℕ) (taken_after : Option (List ℕ)) (count_after : Option ℕ) (error : Option ServeError) : Type 0 where
+  pub flushed : IfNone error (IsFlushed taken count → IsFlushed taken_after count_after)
+  pub flushed_at : IfSome error (λ e. IsFlushedAt e → IsFlushed taken count → IsFlushed taken_after count_after)
+
+-- each failure of a read or of a write is told, and has its cause: the counts of both before the call, and after it
+pub record TellsFaults (reads reads_after writes writes_after : ℕ) (error : Option ServeError) : Type 0 where
+  pub read : IfSome error (λ e. e ≡ ReadFault → CountRose reads reads_after)
+  pub write : IfSome error (λ e. e ≡ WriteFault → CountRose writes writes_after)
+  pub counts : (reads ≤ reads_after) × (writes ≤ writes_after)
+  pub read_told : reads < reads_after → error ≡ Some ReadFault
+  pub write_told : writes < writes_after → error ≡ Some WriteFault
+
+-- at most so many reads were made, each of at most so many bytes, and all of them where the call stops for that
+pub record WithinReads (count size : ℕ) (left left_after : Option (List ℕ)) (reads reads_after : Option (List Moment)) (error : Option ServeError) : Type 0 where
+  pub few : IfSome left (λ bytes. IfSome left_after (λ rest. length bytes ≤ length rest + count * size))
+  pub reads_spent : IfSome error (λ e. e ≡ ReadsSpent → IfSome left (λ bytes. IfSome left_after (λ rest. count + length rest ≤ length bytes)))
+  pub few_reads : Made reads reads_after (λ made. length made ≤ count)
+  pub all_reads : IfSome error (λ e. e ≡ ReadsSpent → Made reads reads_after (λ made. length made ≡ count))
