@@ -1,0 +1,105 @@
+//! A value from tokens.
+ghost use Rattle.std.specs.Prelude.{◌≡◌, ◌<◌, ◌∷◌, ℕ, List, length, Some, false, string_bytes, IfOk, OnOk};
+ghost use Rattle.json.specs.Json.{value};
+ghost use Rattle.json.specs.Reads.{token_of};
+ghost use Rattle.json.specs.Token.{Token as SpecToken, begin_array, begin_object};
+ghost use Rattle.serde_json.specs.Data.{array, object, put};
+ghost use Rattle.serde_json.specs.Read.{of_json, converted};
+ghost use Rattle.serde_json.specs.View.{view, items_view, members_view};
+ghost use Rattle.serde_json.specs.Written.{has_float, items_have_float, members_have_float};
+
+use crate::number::integer;
+use crate::unread::Unread;
+use json::{Reader, Token};
+use serde_json::{Map, Value};
+use std::alloc::Global;
+
+// The value that is this token alone, at any depth.
+fn single(alloc: Global, token: Token<'_>) -> Result<Value, Unread>
+    ensures value { IfOk result (λ v. (depth : ℕ) (rest : List SpecToken)
+        → converted of_json (value depth (token_of token.entry ∷ rest)) ≡ Some (view v, rest)) }
+    ensures clean { IfOk result (λ v. has_float (view v) ≡ false) }
+{
+    match token {
+        Token::Null => Ok(Value::Null),
+        Token::Bool(truth) => Ok(Value::Bool(truth)),
+        Token::Number(text) => match integer(text) {
+            Some(value) => Ok(value),
+            None => Err(Unread),
+        },
+        Token::String(text) => Ok(Value::String(String::from_str(alloc, text)?)),
+        _ => Err(Unread),
+    }
+}
+
+// Gives the name this value, in place of the one that it may have.
+fn put_member(members: &mut Map<String, Value>, name: String, member: Value) -> Result<(), Unread>
+    ensures { OnOk result (members_view members.new.entries
+        ≡ put (string_bytes name) (view member) (members_view members.old.entries)) }
+{
+    drop(members.insert(name, member)?);
+    Ok(())
+}
+
+/// The value whose tokens come next, where arrays and objects nest at most so deep in it and each
+/// of its numbers is an integer of 64 bits. After an error the reader stands anywhere in the text.
+#[cycle(reading)]
+pub fn read_value(alloc: Global, reader: &mut Reader<'_>, depth: usize) -> Result<Value, Unread>
+    ensures value { IfOk result
+        (λ v. converted of_json (value depth reader.old) ≡ Some (view v, reader.new)) }
+    ensures shorter { OnOk result (length reader.new < length reader.old) }
+    ensures clean { IfOk result (λ v. has_float (view v) ≡ false) }
+{
+    let token = reader.next().ok_or(Unread)?;
+    match token {
+        Token::BeginArray => Ok(Value::Array(read_items(alloc, reader, depth)?)),
+        Token::BeginObject => Ok(Value::Object(read_members(alloc, reader, depth)?)),
+        _ => single(alloc, token),
+    }
+}
+
+// The items of an array, after the bracket that opens it and with the one that closes it.
+#[cycle(reading)]
+fn read_items(alloc: Global, reader: &mut Reader<'_>, depth: usize) -> Result<Vec<Value>, Unread>
+    ensures value { IfOk result (λ items. converted of_json (value depth (begin_array ∷ reader.old))
+        ≡ Some (array (items_view items.items), reader.new)) }
+    ensures shorter { OnOk result (length reader.new < length reader.old) }
+    ensures clean { IfOk result (λ items. items_have_float (items_view items.items) ≡ false) }
+{
+    if depth == 0 {
+        return Err(Unread);
+    }
+    let mut items = Vec::new(alloc);
+    'items: while !reader.take_end_array() {
+        let item = read_value(alloc, reader, depth - 1)?;
+        items.push(item)?;
+    }
+    Ok(items)
+}
+
+// The members of an object, after the brace that opens it and with the one that closes it. The
+// last value of a name stays.
+#[cycle(reading)]
+fn read_members(
+    alloc: Global,
+    reader: &mut Reader<'_>,
+    depth: usize,
+) -> Result<Map<String, Value>, Unread>
+    ensures value { IfOk result
+        (λ members. converted of_json (value depth (begin_object ∷ reader.old))
+        ≡ Some (object (members_view members.entries), reader.new)) }
+    ensures shorter { OnOk result (length reader.new < length reader.old) }
+    ensures clean { IfOk result
+        (λ members. members_have_float (members_view members.entries) ≡ false) }
+{
+    if depth == 0 {
+        return Err(Unread);
+    }
+    let mut members = Map::new(alloc);
+    'members: while let Some(name) = reader.next_key()? {
+        let key = String::from_str(alloc, name)?;
+        let member = read_value(alloc, reader, depth - 1)?;
+        put_member(&mut members, key, member)?;
+    }
+    Ok(members)
+}
