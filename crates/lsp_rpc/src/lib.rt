@@ -23,7 +23,7 @@ pub use error::Error;
 pub use id::Id;
 pub use message::Message;
 pub use no_memory::NoMemory;
-pub use read::{NotMessage, TextFault, read_message};
+pub use read::{NotMessage, TextFault, read_error, read_id, read_message};
 pub use request::{Request, RequestBuilder};
 pub use response::Response;
 pub use value::is_float_free;

@@ -77,7 +77,8 @@ fn is_value_text(value: &Option<Value>, text: &str) -> bool
     }
 }
 
-fn read_id(value: Value) -> Option<Id>
+/// The id that the value is: an integer of 64 bits, a string or null.
+pub fn read_id(value: Value) -> Option<Id>
     ensures { option_map show_id result ≡ id_of (view value) }
 {
     match value {
@@ -116,8 +117,9 @@ fn value_string(value: Option<Value>) -> Option<String>
     }
 }
 
-// The error that the value is.
-fn read_error(value: Value) -> Option<Error>
+/// The error that the value is: an object with a code and a message, perhaps with data, and with
+/// no other member.
+pub fn read_error(value: Value) -> Option<Error>
     ensures { option_map show_error result ≡ error_of (view value) }
 {
     let Value::Object(mut members) = value else {
