@@ -59,7 +59,8 @@ fn push_number(out: &mut String, number: i64) -> Result<(), AllocError>
     ensures text { OnOk result (Appends out.old out.new (signed_decimal number)) }
     ensures fits { FitsSigned w64 number }
 {
-    write!(out, "{number}")
+    let mut buffer = itoa::Buffer::new();
+    out.push_str(buffer.format(number))
 }
 
 pub(crate) fn push_member(
