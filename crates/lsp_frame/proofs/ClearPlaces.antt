@@ -4,6 +4,7 @@ use Rattle.std.proofs.lemmas.Grind.{common_steps}
 use Rattle.std.proofs.lemmas.Bool.Decides.{Decides-eqb}
 use Rattle.std.proofs.lemmas.Slice.Eq.{starts_is}
 use Rattle.std.specs.List.{starts_with}
+use Rattle.memchr.specs.Find.{Nowhere, Passes, is_byte}
 use Rattle.lsp_frame.specs.Blocks.{block_len, place_after, or_later, empty_line, empty_line_if}
 use Rattle.lsp_frame.specs.Kept.{IsClear, IsLooked, is_after_lf}
 
@@ -198,6 +199,40 @@ no_block bs i none h clear =
   where
     nothing : (bs : List ℕ) → drop (length bs) bs ≡ []
     nothing bs = grind (arith, common_steps)
+
+-- through a line, which ends at its first LF
+pub clear_to_end : (bs : List ℕ) (place line m : ℕ) → place + line + 1 ≡ m → Nowhere (Passes (is_byte 10) (drop place bs)) 0 line → IsClear bs (place + 1) → IsClear bs m
+clear_to_end bs place line m same none clear i h e = at (nat_lt i place) refl
+  where
+    at : (b : Bool) → nat_lt i place ≡ b → NoLine (get_or bs (suc i) 0) (get_or bs (suc (suc i)) 0)
+    at true f =
+        let before : i < place = grind arith in
+        clear i (omega (arith, before)) e
+    at false f =
+        let after : place ≤ i = grind arith in
+        absurd (none (i - place) (omega arith) (omega (arith, after, h, same)) (ap (λ b. b == 10) (get_drop bs place (i - place) i (omega (arith, after)) ∙ e)))
+
+after_line : (bs : List ℕ) (m i : ℕ) → m ≡ suc i → get_or bs i 0 ≡ 10 → is_after_lf bs m ≡ true
+after_line bs m i same e = ap (is_after_lf bs) same ∙ ap (λ b. b == 10) e
+
+-- after a line, an empty line stands there or none does
+pub at_line_end : (bs : List ℕ) (place line m : ℕ) → place + line + 1 ≡ m → Passes (is_byte 10) (drop place bs) line → (o : Option ℕ) → empty_line (drop m bs) ≡ o → empty_line_if (is_after_lf bs m) (drop m bs) ≡ o
+at_line_end bs place line m same ends o e =
+    let lf : get_or bs (line + place) 0 ≡ 10 = sym (get_drop_from bs place line) ∙ is_ten (get_or (drop place bs) line 0) ends in
+    rw (after_line bs m (line + place) (omega (arith, same)) lf) e
+  where
+    is_ten : (x : ℕ) → (x == 10) ≡ true → x ≡ 10
+    is_ten x f = grind arith
+
+-- to the end, where no line ends any more
+pub clear_to_last : (bs : List ℕ) (place : ℕ) → Nowhere (Passes (is_byte 10) (drop place bs)) 0 (length (drop place bs)) → IsClear bs (place + 1) → IsClear bs (length bs)
+clear_to_last bs place none clear =
+    let n = length (drop place bs) in
+    clear_less bs (length bs) (place + n + 1) (omega (arith, length-drop place bs)) (clear_to_end bs place n (place + n + 1) refl none clear)
+
+-- from the place right before one that was looked through
+pub clear_before : (bs : List ℕ) (looked place : ℕ) → place ≡ looked - 1 → IsClear bs looked → IsClear bs (place + 1)
+clear_before bs looked place same clear i h e = clear i (omega (arith, h, same)) e
 
 -- ---- how far a codec has looked
 

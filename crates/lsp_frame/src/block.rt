@@ -1,7 +1,9 @@
 // Blocks: the bytes through the first empty line.
-ghost use Rattle.std.specs.Prelude.{◌≡◌, ◌-◌, ◌<◌, ◌≤◌, length, drop, IfSome, None};
-ghost use Rattle.lsp_frame.specs.Blocks.{block_len as length_of_block, empty_line as length_of_empty_line, empty_line_if};
-ghost use Rattle.lsp_frame.specs.Kept.{IsClear, is_after_lf};
+ghost use Rattle.std.specs.Prelude.{◌≡◌, ◌-◌, ◌<◌, ◌≤◌, length, IfSome, None};
+ghost use Rattle.lsp_frame.specs.Blocks.{block_len as length_of_block, empty_line as length_of_empty_line};
+ghost use Rattle.lsp_frame.specs.Kept.{IsClear};
+
+use memchr::memchr;
 
 // The length of the empty line that stands at the front.
 fn empty_line(bytes: &[u8]) -> Option<usize>
@@ -12,19 +14,6 @@ fn empty_line(bytes: &[u8]) -> Option<usize>
         Some(1)
     } else if bytes.starts_with(b"\r\n") {
         Some(2)
-    } else {
-        None
-    }
-}
-
-// The length of the empty line at a place right after an LF.
-fn empty_line_at(bytes: &[u8], place: usize) -> Option<usize>
-    requires { place ≤ length bytes.now }
-    ensures value { result ≡ empty_line_if (is_after_lf bytes.now place) (drop place bytes.now) }
-    ensures within { IfSome result (λ n. (0 < n) × (n ≤ 2) × (n ≤ length bytes.now - place)) }
-{
-    if place > 0 && bytes[place - 1] == b'\n' {
-        empty_line(&bytes[place..])
     } else {
         None
     }
@@ -42,9 +31,15 @@ pub(crate) fn block_len(bytes: &[u8], looked: usize) -> Option<usize>
     if let Some(n) = empty_line(bytes) {
         return Some(n);
     }
-    for i in looked..bytes.len() {
-        if let Some(n) = empty_line_at(bytes, i) {
-            return Some(i + n);
+    // A line may end right before the place.
+    let mut place = looked.saturating_sub(1);
+    'lines: while place < bytes.len() {
+        let Some(line) = memchr(b'\n', &bytes[place..]) else {
+            return None;
+        };
+        place += line + 1;
+        if let Some(n) = empty_line(&bytes[place..]) {
+            return Some(place + n);
         }
     }
     None
