@@ -20,3 +20,5 @@ pub mod EncodedRead
 pub mod ClearPlaces
 pub mod HeldBytes
 pub mod BodyHere
+pub mod PartsPut
+pub mod BothWays

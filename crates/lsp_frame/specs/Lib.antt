@@ -11,3 +11,4 @@ pub mod Shown
 pub mod Calls
 pub mod Laws
 pub mod Codec
+pub mod Parts

@@ -11,8 +11,9 @@ ghost use Rattle.lsp_frame.specs.Frames.{frame_text, IsWithin, IsReadBack};
 ghost use Rattle.lsp_frame.specs.Shown.{shown, show_found, IsFloatFree, IsFoundFloatFree};
 
 use crate::decode_state::DecodeState;
-use crate::encode::push_frame;
+use crate::encode::push_message;
 use crate::limits::Limits;
+use crate::message_reader::MessageReader;
 use crate::next_item::find_next;
 use crate::parse_error::ParseError;
 use bytes::BytesMut;
@@ -56,6 +57,8 @@ pub struct LanguageServerCodec {
     looked: usize,
     limits: Limits,
     alloc: Global,
+    // Keeps the room that a body takes for the next.
+    reader: MessageReader,
 }
 
 impl Model for LanguageServerCodec {
@@ -88,6 +91,7 @@ impl LanguageServerCodec {
             looked: 0,
             limits,
             alloc,
+            reader: MessageReader::new(),
         }
     }
 
@@ -142,6 +146,7 @@ impl LanguageServerCodec {
     {
         let next = find_next(
             self.alloc,
+            &mut self.reader,
             self.limits,
             self.state,
             self.bytes.as_slice(),
@@ -164,6 +169,7 @@ impl LanguageServerCodec {
     {
         let next = find_next(
             self.alloc,
+            &mut self.reader,
             self.limits,
             self.state,
             self.bytes.as_slice(),
@@ -194,7 +200,6 @@ impl LanguageServerCodec {
             → items limits (frame_text (show_message message.now))
             ≡ message_item (show_message message.now) ∷ []) }
     {
-        let body = message.to_text(self.alloc)?;
-        push_frame(body.as_str(), out)
+        push_message(self.alloc, message, out)
     }
 }

@@ -1,6 +1,16 @@
-// What holds of all blocks, transitions, inputs and lists of calls: functions whose contract is a
-// law.
+// What holds of all blocks, transitions, inputs, lists of calls and texts: functions whose contract
+// is a law.
+ghost use Rattle.std.specs.Prelude.{◌≡◌, Some, IfSome, false};
+ghost use Rattle.lsp_rpc.specs.Back.{ReadsAs};
+ghost use Rattle.lsp_rpc.specs.Message.{message_has_float};
+ghost use Rattle.lsp_rpc.specs.Shown.{show_message};
+ghost use Rattle.lsp_rpc.specs.declared.message.Message.{Message as AnyMessage};
 ghost use Rattle.lsp_frame.specs.Laws.{GoodBlocks, ByTransitions, TransitionsMove, OnePlace, ToldIsItems, ToldStays, GivesAll, FramesRead, MessagesRead, EncodedRead};
+
+use crate::body::text_message;
+use crate::message_reader::MessageReader;
+use lsp_rpc::Message;
+use std::alloc::Global;
 
 /// A block is good where it is, whole, a head of `httparse`'s grammar with at most two headers.
 pub fn good_blocks()
@@ -54,3 +64,42 @@ pub fn messages_read()
 pub fn encoded_read()
     ensures { EncodedRead }
 {}
+
+// The message of the text, straight from its tokens.
+fn from_tokens(alloc: Global, reader: &mut MessageReader, text: &str) -> Option<Message>
+    ensures read { IfSome result (λ m. ReadsAs text.now (show_message m)) }
+    ensures floats { IfSome result (λ m. message_has_float (show_message m) ≡ false) }
+{
+    match reader.read(alloc, text) {
+        Ok(message) => Some(message),
+        Err(_) => None,
+    }
+}
+
+// The message of the text, by way of its value.
+fn by_value(alloc: Global, text: &str) -> Option<Message>
+    ensures read { IfSome result (λ m. ReadsAs text.now (show_message m)) }
+    ensures floats { IfSome result (λ m. message_has_float (show_message m) ≡ false) }
+{
+    match text_message(alloc, text) {
+        Ok(Ok(message)) => Some(message),
+        _ => None,
+    }
+}
+
+/// The message that the text is read as straight from its tokens, and the one by way of its value:
+/// the two ways of a codec. Where both give a message it is the same.
+pub fn read_both_ways(
+    alloc: Global,
+    reader: &mut MessageReader,
+    text: &str,
+) -> (Option<Message>, Option<Message>)
+    ensures read { IfSome result.0 (λ m. ReadsAs text.now (show_message m))
+        × IfSome result.1 (λ m. ReadsAs text.now (show_message m)) }
+    ensures floats { IfSome result.0 (λ m. message_has_float (show_message m) ≡ false)
+        × IfSome result.1 (λ m. message_has_float (show_message m) ≡ false) }
+    ensures agree { (a : AnyMessage) (b : AnyMessage) → result.0 ≡ Some a → result.1 ≡ Some b
+        → show_message a ≡ show_message b }
+{
+    (from_tokens(alloc, reader, text), by_value(alloc, text))
+}

@@ -8,6 +8,7 @@ ghost use Rattle.lsp_frame.specs.Shown.{show_found, show_transition, IsWithinByt
 
 use crate::decode_state::DecodeState;
 use crate::limits::Limits;
+use crate::message_reader::MessageReader;
 use crate::parse_error::ParseError;
 use crate::transition::{Transition, transition_at};
 use lsp_rpc::Message;
@@ -30,6 +31,7 @@ pub(crate) struct Next {
 // The transition at a place of the bytes.
 fn transition_from(
     alloc: Global,
+    reader: &mut MessageReader,
     limits: Limits,
     state: DecodeState,
     bytes: &[u8],
@@ -45,7 +47,7 @@ fn transition_from(
     ensures looked { IsLooked (drop place bytes.now) looked.new }
     ensures memory { OnErr result (IsBodyHere state (drop place bytes.now)) }
 {
-    transition_at(alloc, limits, state, &bytes[place..], looked)
+    transition_at(alloc, reader, limits, state, &bytes[place..], looked)
 }
 
 // With so many bytes at the end a `Content-Length` may begin that goes on after them.
@@ -66,6 +68,7 @@ fn waiting(state: DecodeState, len: usize) -> (DecodeState, usize)
 // gives none and goes on nowhere.
 pub(crate) fn find_next(
     alloc: Global,
+    reader: &mut MessageReader,
     limits: Limits,
     state: DecodeState,
     bytes: &[u8],
@@ -96,7 +99,7 @@ pub(crate) fn find_next(
     let mut place = 0;
     let mut reached = looked;
     'transitions: loop {
-        match transition_from(alloc, limits, at, bytes, place, &mut reached)? {
+        match transition_from(alloc, reader, limits, at, bytes, place, &mut reached)? {
             Transition::Stop => {
                 let (state, n) = waiting(at, bytes.len() - place);
                 return Ok(Next {

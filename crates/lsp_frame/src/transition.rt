@@ -11,6 +11,7 @@ use crate::decode_state::DecodeState;
 use crate::head::head_of;
 use crate::headers::content_length;
 use crate::limits::Limits;
+use crate::message_reader::MessageReader;
 use crate::parse_error::ParseError;
 use lsp_rpc::Message;
 use memchr::memmem;
@@ -38,7 +39,12 @@ fn at_search(bytes: &[u8]) -> Transition
     }
 }
 
-fn at_body(alloc: Global, len: u64, bytes: &[u8]) -> Result<Transition, NoMemory>
+fn at_body(
+    alloc: Global,
+    reader: &mut MessageReader,
+    len: u64,
+    bytes: &[u8],
+) -> Result<Transition, NoMemory>
     ensures value { IfOk result (λ t. show_transition t ≡ body_transition len bytes.now) }
     ensures memory { OnErr result ((0 < len) × (len ≤ length bytes.now)) }
     ensures within { IfOk result (λ t. IsWithinBytes (length bytes.now) t) }
@@ -51,7 +57,7 @@ fn at_body(alloc: Global, len: u64, bytes: &[u8]) -> Result<Transition, NoMemory
         return Ok(Transition::Go(None, DecodeState::Frame, 0));
     }
     let size = len as usize;
-    let found = body_message(alloc, &bytes[..size])?;
+    let found = body_message(alloc, reader, &bytes[..size])?;
     Ok(Transition::Go(Some(found), DecodeState::Frame, size))
 }
 
@@ -143,6 +149,7 @@ fn at_frame(limits: Limits, bytes: &[u8], looked: &mut usize) -> Transition
 // The transition of this state.
 pub(crate) fn transition_at(
     alloc: Global,
+    reader: &mut MessageReader,
     limits: Limits,
     state: DecodeState,
     bytes: &[u8],
@@ -158,7 +165,7 @@ pub(crate) fn transition_at(
     match state {
         DecodeState::Frame => Ok(at_frame(limits, bytes, looked)),
         DecodeState::Search => Ok(at_search(bytes)),
-        DecodeState::Body(len) => at_body(alloc, len, bytes),
+        DecodeState::Body(len) => at_body(alloc, reader, len, bytes),
         DecodeState::Skip(len) => Ok(at_skip(len, bytes)),
     }
 }

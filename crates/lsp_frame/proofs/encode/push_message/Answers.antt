@@ -3,7 +3,7 @@ use Rattle.std.proofs.lemmas.Result.{on_ok_weaker}
 use Rattle.lsp_rpc.specs.Back.{ReadsAs}
 use Rattle.lsp_rpc.specs.Shown.{show_message}
 use Rattle.lsp_frame.proofs.FramesRead.{text_read_back, frame_read_alone}
-use Rattle.lsp_frame.proofs.codec.LanguageServerCodec.encode.Goals as goal
+use Rattle.lsp_frame.proofs.encode.push_message.Goals as goal
 
 pub returns-clause-read_back : goal.returns-clause-read_back
 returns-clause-read_back c =

@@ -1,0 +1,17 @@
+use Rattle.std.proofs.Common.{◌≡◌, ◌∷◌, codes, ap, ◌∙◌, arith, rules}
+use Rattle.json.specs.Token.{Token}
+use Rattle.json.specs.Json.{value}
+use Rattle.json.specs.Reads.{token_of}
+use Rattle.serde_json.specs.Data.{string}
+use Rattle.serde_json.specs.Read.{of_json, converted}
+use Rattle.lsp_text.proofs.Tokens.{some_with, string_read}
+use Rattle.lsp_frame.proofs.parts.read_version.Goals as goal
+
+pub returns-then-eq-clause-value : goal.returns-then-eq-clause-value
+returns-then-eq-clause-value c =
+    let rest = c.next.new.self in
+    let text = c.in-String.text.now in
+    let first : c.args.reader.now ≡ token_of c.in_ok-token.token ∷ rest = grind arith in
+    let is : c.args.reader.now ≡ Token.string text ∷ rest = grind (arith, first) in
+    let same : text ≡ codes "2.0" = search rules in
+    ap (λ ts. converted of_json (value 126 ts)) is ∙ string_read text 126 rest ∙ ap (λ s. some_with (string s) rest) same
