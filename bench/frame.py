@@ -17,7 +17,7 @@ import measured
 from measured import Figure, Row
 from sessions import frame
 
-CRATES = ["no_memory", "lsp_rpc", "lsp_frame"]
+CRATES = ["no_memory", "lsp_rpc", "lsp_text", "lsp_frame"]
 MIB = 1 << 20
 
 SOURCE = """//! Feeds a codec what standard input gives, and prints what it told and held.
