@@ -11,6 +11,8 @@ mod frame;
 #[cfg(test)]
 mod keyed;
 #[cfg(test)]
+mod reader;
+#[cfg(test)]
 mod rpc;
 #[cfg(test)]
 mod shared;
