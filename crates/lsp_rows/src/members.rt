@@ -70,7 +70,7 @@ fn found<T: Wire>(
     }
 }
 
-// Each word names a member of the text.
+// Each word without a value names a member of the text.
 fn are_members(alloc: Global, words: &str, whole: &Map<String, Value>) -> Result<(), RowError> {
     for word in words.split_whitespace() {
         if word.split_once('=').is_none() && !whole.contains_key(word) {

@@ -18,7 +18,8 @@ use std::alloc::Global;
 /// Why a text is not read.
 #[derive(Clone, Copy, Debug, PartialEq, Eq)]
 pub enum TextMisfit {
-    /// The text is no JSON value.
+    /// The text is no JSON value that is read: none, or one that nests deeper than 127, or that has
+    /// a number too large for a float.
     Json,
     /// The value does not fit the shape of the type.
     Unfit,
@@ -48,8 +49,8 @@ fn parse(alloc: Global, text: &str) -> Result<Value, TextMisfit>
     Ok(Value::from_str(alloc, text)?)
 }
 
-/// The value that the text is read as. `Json` comes only where the text is no JSON value, and
-/// `Unfit` only where it is one that does not fit.
+/// The value that the text is read as. `Json` comes only where the text is no JSON value that
+/// is read, and `Unfit` only where it is one that does not fit.
 pub fn read_text<T: Wire>(alloc: Global, text: &str) -> Result<T, TextMisfit>
     ensures read { IfOk result
         (λ x. (d : Data) × (json_text.read text.now ≡ Some d)
