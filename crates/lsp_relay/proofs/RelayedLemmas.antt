@@ -1,17 +1,17 @@
 -- What a relay comes to over a call.
 use Rattle.std.proofs.Common.{◌≡◌, ◌≤◌, ℕ, List, [], length, refl, sym, ap, subst, arith}
-use Rattle.std.specs.Prelude.{◌≢◌, Option, Some, Result, Ok, Err, IfErr, IfSome}
+use Rattle.std.specs.Prelude.{◌≢◌, Option, Some, Result, Ok, Err, IfErr}
 use Rattle.std.specs.Io.KnownBytes.{Consumes, Appends}
 use Rattle.std.proofs.lemmas.List.{append-nil}
-use Rattle.lsp_frame.specs.Codec.{start as start_codec, more, items_at, told_at, default_limits}
+use Rattle.lsp_frame.specs.Codec.{At, start as start_codec, more, items_at, told_at, default_limits}
 use Rattle.lsp_server.specs.declared.step.ServeError.{ServeError}
 use Rattle.lsp_server.specs.declared.step.ServeError.TheVariants.{ReadFault, WriteFault, ReadsSpent, DeskSpent, NoMemory}
-use Rattle.lsp_server.specs.Errors.{IsBetweenReads, EndsInStep, ComesOfSink}
+use Rattle.lsp_server.specs.Errors.{IsBetweenReads, IsInStep, EndsInStep, ComesOfSink}
 use Rattle.lsp_server.specs.Items.{Decodes}
 use Rattle.lsp_server.specs.Served.{call_bytes}
 use Rattle.lsp_server.specs.Reads.{Moment}
 use Rattle.lsp_server.specs.Written.{IsPrefixOf}
-use Rattle.lsp_server.specs.Consuming.{Given, piece, end, Outcome, goes_on, done, stops, last_outcome, Did, Took as TookBytes, AllTook, bytes_of, IsTimely, TookLast}
+use Rattle.lsp_server.specs.Consuming.{Given, piece, end, Outcome, done, stops, last_outcome, Did, Took as TookBytes, AllTook, bytes_of, IsTimely, TookLast}
 use Rattle.lsp_server.proofs.KnownLemmas.{appends_none, appends_more, consumes_none, end_before}
 use Rattle.lsp_server.proofs.TakingLemmas.{did_none}
 use Rattle.lsp_relay.specs.Relay.{Place, opening_place, events, Took, IsRelayed, WroteTold, AllPassed, WrotePart}
@@ -31,17 +31,27 @@ of_sink : (a b : Stand) (given : Given) (e : ServeError) (written : List ℕ) �
 of_sink a b (piece bytes) e written d = d.0
 of_sink a b end e written d = d.0
 
-pub no_desk : {A : Type 0} (a b : Stand) (begin now : Moment) (size : ℕ) (r : Result A ServeError) → (EndsInStep r → TookLast relays a begin now size (last_outcome r) b) → IfErr r (λ e. (n : ℕ) → e ≢ DeskSpent n)
-no_desk a b begin now size (Ok x) last = tt
-no_desk a b begin now size (Err (DeskSpent n)) last = let t = last tt in absurd (of_sink t.mid b t.last (DeskSpent n) t.did.written t.did.does)
-no_desk a b begin now size (Err ReadFault) last = λ n is. absurd (cc)
-no_desk a b begin now size (Err WriteFault) last = λ n is. absurd (cc)
-no_desk a b begin now size (Err ReadsSpent) last = λ n is. absurd (cc)
-no_desk a b begin now size (Err NoMemory) last = λ n is. absurd (cc)
+pub no_desk_of : (a b : Stand) (begin now : Moment) (size : ℕ) (e : ServeError) → (IsInStep e → TookLast relays a begin now size (stops e) b) → (n : ℕ) → e ≢ DeskSpent n
+no_desk_of a b begin now size (DeskSpent n) last = let t = last tt in absurd (of_sink t.mid b t.last (DeskSpent n) t.did.written t.did.does)
+no_desk_of a b begin now size ReadFault last = λ n is. absurd (cc)
+no_desk_of a b begin now size WriteFault last = λ n is. absurd (cc)
+no_desk_of a b begin now size ReadsSpent last = λ n is. absurd (cc)
+no_desk_of a b begin now size NoMemory last = λ n is. absurd (cc)
 
 -- nothing more was written
-appends_nothing : (taken0 taken1 taken2 : Option (List ℕ)) (written : List ℕ) → Appends taken0 taken1 written → Appends taken1 taken2 [] → Appends taken0 taken2 written
-appends_nothing taken0 taken1 taken2 written p q = subst (λ l. Appends taken0 taken2 l) (append-nil written) (appends_more taken0 taken1 taken2 written [] p q)
+going_on : {bytes : List ℕ} (editors : ℕ) (left1 taken0 taken1 taken2 : Option (List ℕ)) (place : Place) (codec : At) → Going editors (Some bytes) left1 taken0 taken1 place codec → Appends taken1 taken2 []
+    → Going editors (Some bytes) left1 taken0 taken2 place codec
+going_on editors left1 taken0 taken1 taken2 place codec going nothing = record {
+  fed = going.fed;
+  gives = going.gives;
+  given = going.given;
+  decodes = going.decodes;
+  written = going.written;
+  took = going.took;
+  empty = going.empty;
+  writes = subst (λ l. Appends taken0 taken2 l) (append-nil going.written) (appends_more taken0 taken1 taken2 going.written [] going.writes nothing);
+  told = going.told;
+}
 
 -- ---- where the bytes are told
 
@@ -81,7 +91,7 @@ module _ (editors : ℕ) (a : Stand) (opening : a.place ≡ opening_place editor
         let ends = empty_before gives timely in
         let so_far = going mid middle took in
         at_end editors bytes middle.left begin.taken now.taken mid.place mid.codec
-        (record so_far { writes = appends_nothing begin.taken middle.taken now.taken so_far.written so_far.writes (subst (λ l. Appends middle.taken now.taken l) d.does.none d.writes) })
+        (going_on editors middle.left begin.taken middle.taken now.taken mid.place mid.codec so_far (subst (λ l. Appends middle.taken now.taken l) d.does.none d.writes))
         now.left ends.0 ends.1 b.place d.does.took d.does.silent
 
     part_at : (size : ℕ) (last : Given) (e : ServeError) → Consumes middle.left now.left (bytes_of last) → length (bytes_of last) ≤ size

@@ -1,8 +1,7 @@
 -- A relay keeps the laws of consumers.
-use Rattle.std.proofs.Common.{◌≡◌, ◌<◌, ◌+◌, ◌^◌, ℕ, List, [], ◌++◌, length, refl, sym, ◌∙◌, ap, subst, append_assoc, arith}
-use Rattle.std.specs.Prelude.{Option, Result, Ok, Err, OnOk, OnErr, IfErr}
+use Rattle.std.proofs.Common.{◌≡◌, ◌<◌, ◌+◌, ◌^◌, ℕ, List, [], ◌++◌, length, sym, ◌∙◌, ap, subst, append_assoc, arith}
+use Rattle.std.specs.Prelude.{Option}
 use Rattle.std.specs.Io.KnownBytes.{Appends}
-use Rattle.std.proofs.lemmas.List.{append-nil}
 use Rattle.lsp_frame.specs.Codec.{Item, At, more, items_at, told_at}
 use Rattle.lsp_server.specs.declared.step.ServeError.{ServeError}
 use Rattle.lsp_server.specs.Errors.{ComesOfSink}
@@ -12,7 +11,7 @@ use Rattle.lsp_server.specs.Consuming.{Given, piece, end, Outcome, goes_on, done
 use Rattle.lsp_server.proofs.CodecLemmas.{decodes_nothing, decodes_more, decodes_fed, more_nothing, more_more}
 use Rattle.lsp_proxy.specs.Law.{sent_over, state_after}
 use Rattle.lsp_relay.specs.Relay.{Place, Took, TookTold, events, sent_frames, counted}
-use Rattle.lsp_relay.specs.Relaying.{Stand, IsOpen, RelaysTold, RelaysEnd, frames_from, Relays, relays}
+use Rattle.lsp_relay.specs.Relaying.{Stand, IsOpen, RelaysTold, frames_from, Relays, relays}
 use Rattle.lsp_relay.proofs.EventLemmas.{events-append, over_both}
 use Rattle.lsp_relay.proofs.TookLemmas.{took_none, took_more, took_after}
 
@@ -101,10 +100,13 @@ pub did_some : (a b : Stand) (mid : Place) (codec : At) (bytes : List ℕ) (take
     → (written : List ℕ) × IsPrefixOf written mid.waiting × Appends taken0 taken1 written → Did relays a (piece bytes) (stops e) taken0 taken1 b
 did_some a b mid codec bytes taken0 taken1 e is told sink part = record {
   written = part.0;
-  does = (sink, λ c.
-      let after = items_at (more codec c) in
-      let rest = sent_frames (sent_over (events a.place.editors after) (state_after (events a.place.editors told.given) a.place.state)) in
-      let waits : mid.waiting ≡ frames_from a.place told.given = told.took.waiting ∙ ap (λ l. l ++ frames_from a.place told.given) is.empty in
-      (part.1.0 ++ rest, sym (append_assoc part.0 part.1.0 rest) ∙ ap (λ l. l ++ rest) (part.1.1 ∙ waits) ∙ sym (frames_on a.place told.given after) ∙ ap (frames_from a.place) (sym (told.decodes.items c))));
+  does = (
+    sink,
+    λ c.
+        let after = items_at (more codec c) in
+        let rest = sent_frames (sent_over (events a.place.editors after) (state_after (events a.place.editors told.given) a.place.state)) in
+        let waits : mid.waiting ≡ frames_from a.place told.given = told.took.waiting ∙ ap (λ l. l ++ frames_from a.place told.given) is.empty in
+        (part.1.0 ++ rest, sym (append_assoc part.0 part.1.0 rest) ∙ ap (λ l. l ++ rest) (part.1.1 ∙ waits) ∙ sym (frames_on a.place told.given after) ∙ ap (frames_from a.place) (sym (told.decodes.items c))),
+  );
   writes = part.2;
 }

@@ -5,4 +5,4 @@ use Rattle.lsp_relay.proofs.RelayedLemmas.{did_end}
 use Rattle.lsp_relay.proofs.reads.RelayingConsumerCarrier.end.Goals as goal
 
 pub returns-clause-did : goal.returns-clause-did
-returns-clause-did g c = shown_did show_relaying _ _ _ _ _ _ (did_end _ _ (g.O.Sink.taken c.args.sink.now) c.in_ok-take_end.ensures.took c.in_ok-take_end.ensures.silent)
+returns-clause-did g c = shown_did show_relaying _ _ _ _ _ _ (did_end _ _ (g.O.Sink.taken c.args._sink.now) c.in_ok-take_end.ensures.took c.in_ok-take_end.ensures.silent)
