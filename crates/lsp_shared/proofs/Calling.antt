@@ -1,12 +1,8 @@
 -- A call through a seat is one of the desk's, at its place in the history.
-use Rattle.std.proofs.Common.{◌≡◌, ℕ, ◌+◌, Bool, true, false, List, [], ◌∷◌, ◌++◌, map, length, refl, sym, ap, ◌∙◌, subst, Option, Some, None, Result, Ok, Err, inr, arith, append_assoc, append-nil, length-append, true≢false}
+use Rattle.std.proofs.Common.{◌≡◌, ℕ, ◌+◌, Bool, true, List, [], ◌∷◌, ◌++◌, map, length, refl, sym, ap, ◌∙◌, subst, Option, Some, None, Result, Ok, Err, inr, arith, append_assoc, append-nil, length-append, true≢false}
 use Rattle.std.proofs.lemmas.List.{map-append, length-map}
-use Rattle.lsp_desk.specs.declared.call.ClientCall.{ClientCall}
-use Rattle.lsp_desk.specs.declared.call.ClientCall.TheVariants as client_calls
 use Rattle.lsp_desk.specs.declared.call.DeskFault.{DeskFault}
 use Rattle.lsp_desk.specs.declared.call.DeskFault.TheVariants as faults
-use Rattle.lsp_desk.specs.Call.{is_client}
-use Rattle.lsp_desk.specs.Shown.{show_client_call}
 use Rattle.lsp_desk.specs.Reply.{Reply}
 use Rattle.lsp_desk.specs.Desk.{DeskState, opening}
 use Rattle.lsp_desk.specs.Trace.{DeskEntry, TraceEntry, Replays, after, entries_of, owns, mine, theirs, places, OthersAsk}
@@ -26,13 +22,6 @@ use Rattle.lsp_shared.specs.Steps.{reading, Turned, Answered, HasTurn, item_for}
 use Rattle.lsp_shared.specs.Desks.{rested_desk, rested_view, rested_spent}
 use Rattle.lsp_shared.specs.Seats.{meaning_by, kin_of, entries_seen, TicketsAddUp}
 use Rattle.lsp_shared.proofs.Totals.{run_append}
-
-pub asks_client : (call : ClientCall) → is_client (show_client_call call) ≡ true
-asks_client (client_calls.Ask method params gated) = refl
-asks_client (client_calls.Tell method params gated) = refl
-asks_client (client_calls.Raw r) = refl
-asks_client (client_calls.Poll ticket) = refl
-asks_client client_calls.NextId = refl
 
 -- what others did, and then one's own entry
 abbrev pub marks_of : List Item → Item → List TraceEntry
@@ -84,7 +73,7 @@ turn_grows rested old new item t same spent =
       replays = subst (λ l. Replays (now_of v.seen) l (now_of w.seen)) (sym listed) (subst (Replays (now_of v.seen) (map entry_of tail)) ends (replays_of (now_of v.seen) tail legal));
       history = ap (λ l. Some (map entry_of l)) whole ∙ ap Some (map-append entry_of v.seen tail ∙ ap (λ l. map entry_of v.seen ++ l) (sym listed));
       own = λ h is. t.made ∙ ap (λ (k : ℕ). v.made ++ k ∷ []) (t.place ∙ length-append v.seen t.between)
-          ∙ ap (λ (k : ℕ). v.made ++ (k + length t.between) ∷ []) (sym (length-map v.seen entry_of) ∙ ap length (some_same (map entry_of v.seen) h is))
+          ∙ ap (λ (k : ℕ). v.made ++ (k + length t.between) ∷ []) (sym (length-map v.seen entry_of) ∙ ap (λ (o : Option (List DeskEntry)). length (or_none o)) is)
           ∙ ap (λ l. v.made ++ l) (sym (places_marks (length h) t.between item));
       others = λ is. others_marks t.between item (t.clients is);
       all_own = λ is. absurd (true≢false (sym is));
@@ -94,12 +83,9 @@ turn_grows rested old new item t same spent =
       spent = spent;
     }
   where
-    some_same : (a b : List DeskEntry) → Some a ≡ Some b → a ≡ b
-    some_same a b e = ap (λ (o : Option (List DeskEntry)). or_none o) e
-      where
-        or_none : Option (List DeskEntry) → List DeskEntry
-        or_none None = []
-        or_none (Some l) = l
+    or_none : Option (List DeskEntry) → List DeskEntry
+    or_none None = []
+    or_none (Some l) = l
 
 spent_grows : {D : Type 0} (rested : D → Rested) (old new : D) (n : ℕ) → rested_view (rested new) ≡ reading (rested_view (rested old)) n → rested_desk (rested new) ≡ rested_desk (rested old)
     → (rested_spent (rested old) ≡ true → rested_spent (rested new) ≡ true) → Grows (meaning_by rested) old [] new
@@ -151,11 +137,6 @@ pub turn_tickets : {R : Type 0} (wrap : R → Replied) (note : Asked) (v w : Vie
 turn_tickets wrap note v w (Ok reply) t = tickets_of w t.legal
 turn_tickets wrap note v w (Err faults.NoMemory) t = tickets_of w t.legal
 turn_tickets wrap note v w (Err (faults.Spent n)) t = tt
-
-pub has_turn : {R : Type 0} (result : Result R DeskFault) (P : Type 0) → P → HasTurn result P
-has_turn (Ok reply) P p = p
-has_turn (Err faults.NoMemory) P p = p
-has_turn (Err (faults.Spent n)) P p = tt
 
 pub idle_of : (p : Phase) → is_idle p ≡ true → p ≡ Idle
 idle_of Idle e = refl

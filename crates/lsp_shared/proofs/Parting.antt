@@ -1,6 +1,6 @@
 -- Splitting a seat, joining two, and the first state.
-use Rattle.std.proofs.Common.{◌≡◌, ◌≢◌, ℕ, zero, suc, ◌+◌, ◌-◌, ◌/◌, ◌^◌, ◌==◌, ◌<◌, ◌≤◌, ◌||◌, ltb, Bool, true, false, List, [], ◌∷◌, ◌++◌, length, set, refl, sym, ap, ◌∙◌, subst, ⊎_elim, arith, true≢false, append-nil, if◌then◌else◌}
-use Rattle.std.specs.Prelude.{slice_index, max}
+use Rattle.std.proofs.Common.{◌≡◌, ℕ, zero, suc, ◌+◌, ◌-◌, ◌/◌, ◌^◌, ◌==◌, ◌<◌, ◌≤◌, ◌||◌, ltb, Bool, true, false, List, [], ◌∷◌, ◌++◌, length, set, refl, sym, ap, ◌∙◌, subst, ⊎_elim, arith, true≢false, append-nil, if◌then◌else◌}
+use Rattle.std.specs.Prelude.{max}
 use Rattle.std.proofs.lemmas.Bool.Decides.{nat_tests}
 use mathlib.Core.Option.{some, none, some-ne-none, some-injective}
 use lib.ListN.{get_elem?}
@@ -12,7 +12,7 @@ use Rattle.lsp_desk.specs.Desk.{DeskState, opening}
 use Rattle.lsp_desk.specs.Plain.{plain_state}
 use Rattle.lsp_desk.specs.Trace.{after, AllBelow}
 use Rattle.lsp_shared.specs.declared.view.Item.{Item}
-use Rattle.lsp_shared.specs.declared.view.Phase.TheVariants.{Idle, Holding}
+use Rattle.lsp_shared.specs.declared.view.Phase.TheVariants.{Idle}
 use Rattle.lsp_shared.specs.declared.view.View.{View}
 use Rattle.lsp_shared.specs.Rule.{Kept, Sits, Stands, turns, held, IsLegal, AreClean, AllClient, entry_of, newcomer}
 use Rattle.lsp_shared.specs.Steps.{Mine, half, rest_of, joined, empty, longer, learned, Learned, Heard, Begins, AddsClients, IsSound}
@@ -21,6 +21,10 @@ use Rattle.lsp_shared.proofs.Moves.{stays, found_stays, away_on, out_on, idle_ho
 
 pub off : false ≡ true → ⊥
 off e = true≢false (sym e)
+
+-- after one view changed, a view is that one or as before
+at_cases : {X : Type 0} (l : List View) (i j : ℕ) (a b : View) → get_elem? (set l i a) j ≡ some b → (j ≡ i → a ≡ b → X) → (get_elem? l j ≡ some b → X) → X
+at_cases l i j a b e f g = ⊎_elim (λ t. f t.0 t.1) (λ t. g t.1) (at_set l i j a b e)
 
 pub splits : (id : ℕ) (v : View) → 2 ≤ v.share → Splits Kept id v (rest_of v) (half v)
 splits id v share s k at =
@@ -45,24 +49,17 @@ splits id v share s k at =
       out = λ j t u e is. ⊎_elim (λ (q : get_elem? (set s.views id l) j ≡ some u). out_on s k id v l at refl j t u q is) (λ (q : r ≡ u). absurd (idle_holds (ap (λ (z : View). z.phase) q ∙ is))) (at_snoc (set s.views id l) r u j e);
       once = λ x. let a = total_set (turns x) s.views id v l at in let b = total_snoc (turns x) (set s.views id l) r in let c = k.once x in omega arith;
       owned = λ j u e is. ⊎_elim
-          (λ (q : get_elem? (set s.views id l) j ≡ some u). ⊎_elim
-          (λ (t : (j ≡ id) × (l ≡ u)). t.0 ∙ k.owned id v at (ap (λ (z : View). z.owner) t.1 ∙ is))
-          (λ (t : (j ≢ id) × (get_elem? s.views j ≡ some u)). k.owned j u t.1 is)
-          (at_set s.views id j l u q))
+          (λ (q : get_elem? (set s.views id l) j ≡ some u). at_cases s.views id j l u q (λ p t. p ∙ k.owned id v at (ap (λ (z : View). z.owner) t ∙ is)) (λ h. k.owned j u h is))
           (λ (q : r ≡ u). absurd (off (ap (λ (z : View). z.owner) q ∙ is)))
           (at_snoc (set s.views id l) r u j e);
       shares = (let a = total_set (λ z. z.share) s.views id v l at in let b = total_snoc (λ z. z.share) (set s.views id l) r in let c = k.shares in omega arith);
       sits = λ j u e. ⊎_elim
-          (λ (q : get_elem? (set s.views id l) j ≡ some u). ⊎_elim
-          (λ (t : (j ≡ id) × (l ≡ u)). subst (Sits k.log k.ticket) t.1 (record { rest = m.rest; begins = m.begins; beyond = m.beyond; told = m.told; clients = m.clients; inside = m.inside; stands = m.stands; read = m.read; spent = λ z. absurd (omega arith) }))
-          (λ (t : (j ≢ id) × (get_elem? s.views j ≡ some u)). k.sits j u t.1)
-          (at_set s.views id j l u q))
+          (λ (q : get_elem? (set s.views id l) j ≡ some u). at_cases s.views id j l u q
+          (λ _ t. subst (Sits k.log k.ticket) t (record { rest = m.rest; begins = m.begins; beyond = m.beyond; told = m.told; clients = m.clients; inside = m.inside; stands = m.stands; read = m.read; spent = λ z. absurd (omega arith) }))
+          (k.sits j u))
           (λ (q : r ≡ u). subst (Sits k.log k.ticket) q (record { rest = m.rest; begins = m.begins; beyond = k.log; told = refl; clients = λ z. absurd (off z); inside = tt; stands = tt; read = omega arith; spent = λ _. (refl, refl) }))
           (at_snoc (set s.views id l) r u j e);
     }
-
-at_cases : {X : Type 0} (l : List View) (i j : ℕ) (a b : View) → get_elem? (set l i a) j ≡ some b → (a ≡ b → X) → (get_elem? l j ≡ some b → X) → X
-at_cases l i j a b e f g = ⊎_elim (λ t. f t.1) (λ t. g t.1) (at_set l i j a b e)
 
 client_drop : (c d : List Item) → AllClient (c ++ d) → AllClient d
 client_drop [] d p = p
@@ -119,23 +116,17 @@ joins id v other w share idle no_owner s k at apart there0 =
       at_home = k.at_home;
       away = λ e. let a = away_on s k id v b at refl e in (a.0, a.1, set_else views other a.0 empty (λ p. idle_holds (sym idle ∙ ap (λ (z : View). z.phase) (some-injective w a.1 (sym there0 ∙ ap (get_elem? views) (sym p) ∙ a.2)) ∙ a.3)) ∙ a.2, a.3);
       out = λ j t u e is. at_cases views other j empty u e
-          (λ (q : empty ≡ u). absurd (idle_holds (ap (λ (z : View). z.phase) q ∙ is)))
+          (λ _ q. absurd (idle_holds (ap (λ (z : View). z.phase) q ∙ is)))
           (λ q. out_on s k id v b at refl j t u q is);
       once = λ x. let a = total_set (turns x) s.views id v b at in let c = total_set (turns x) views other w empty there0 in let d = k.once x in let f = times_append x v.made w.made in
           let g : held x w.phase ≡ 0 = ap (held x) idle in omega arith;
       owned = λ j u e is. at_cases views other j empty u e
-          (λ (q : empty ≡ u). absurd (off (ap (λ (z : View). z.owner) q ∙ is)))
-          (λ q. ⊎_elim
-          (λ (t : (j ≡ id) × (b ≡ u)). t.0 ∙ k.owned id v at (ap (λ (z : View). z.owner) t.1 ∙ is))
-          (λ (t : (j ≢ id) × (get_elem? s.views j ≡ some u)). k.owned j u t.1 is)
-          (at_set s.views id j b u q));
+          (λ _ q. absurd (off (ap (λ (z : View). z.owner) q ∙ is)))
+          (λ q. at_cases s.views id j b u q (λ p t. p ∙ k.owned id v at (ap (λ (z : View). z.owner) t ∙ is)) (λ h. k.owned j u h is));
       shares = (let a = total_set (λ z. z.share) s.views id v b at in let c = total_set (λ z. z.share) views other w empty there0 in let d = k.shares in omega arith);
       sits = λ j u e. at_cases views other j empty u e
-          (λ (q : empty ≡ u). subst (Sits k.log k.ticket) q (record { rest = k.log; begins = refl; beyond = k.log; told = refl; clients = λ z. absurd (off z); inside = tt; stands = tt; read = omega arith; spent = λ _. (refl, refl) }))
-          (λ q. ⊎_elim
-          (λ (t : (j ≡ id) × (b ≡ u)). subst (Sits k.log k.ticket) t.1 (joined_sits k.log k.ticket v w m n share))
-          (λ (t : (j ≢ id) × (get_elem? s.views j ≡ some u)). k.sits j u t.1)
-          (at_set s.views id j b u q));
+          (λ _ q. subst (Sits k.log k.ticket) q (record { rest = k.log; begins = refl; beyond = k.log; told = refl; clients = λ z. absurd (off z); inside = tt; stands = tt; read = omega arith; spent = λ _. (refl, refl) }))
+          (λ q. at_cases s.views id j b u q (λ _ t. subst (Sits k.log k.ticket) t (joined_sits k.log k.ticket v w m n share)) (k.sits j u));
     }
 
 legal_take : (d : DeskState) (a b : List Item) → IsLegal d (a ++ b) → IsLegal d a

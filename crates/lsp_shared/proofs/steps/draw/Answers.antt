@@ -1,5 +1,4 @@
-use Rattle.std.proofs.Common.{◌≡◌, ◌<◌, ap, ◌∙◌, subst, sym, arith}
-use Rattle.lsp_shared.specs.declared.view.Phase.TheVariants.{Idle}
+use Rattle.std.proofs.Common.{ap, ◌∙◌, arith}
 use Rattle.lsp_shared.specs.Steps.{Mine}
 use Rattle.lsp_shared.proofs.Moves.{looks, draws}
 use Rattle.lsp_shared.proofs.steps.draw.Goals as goal

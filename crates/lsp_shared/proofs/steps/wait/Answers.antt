@@ -1,4 +1,4 @@
-use Rattle.std.proofs.Common.{◌≡◌, ◌<◌, ap, ◌∙◌, arith}
+use Rattle.std.proofs.Common.{ap, ◌∙◌, arith}
 use Rattle.lsp_shared.specs.Steps.{Mine}
 use Rattle.lsp_shared.proofs.Moves.{takes_turn}
 use Rattle.lsp_shared.proofs.steps.wait.Goals as goal

@@ -1,5 +1,5 @@
 -- A call has its turn.
-use Rattle.std.proofs.Common.{◌<◌, ◌∷◌, length, sym, ap, ◌∙◌, arith}
+use Rattle.std.proofs.Common.{◌∷◌, length, sym, ap, ◌∙◌, arith}
 use Rattle.atomic_table.specs.Table.{rest}
 use Rattle.lsp_shared.specs.Phases.{is_idle}
 use Rattle.lsp_shared.specs.Steps.{Mine}

@@ -1,5 +1,5 @@
 -- A seat takes another in: one step makes one view of two, and the next tells what it is.
-use Rattle.std.proofs.Common.{◌≡◌, ◌<◌, ◌+◌, ◌-◌, ◌^◌, ◌==◌, ◌||◌, ℕ, length, ap, sym, subst, ◌∙◌, arith}
+use Rattle.std.proofs.Common.{◌-◌, ◌^◌, ◌==◌, ◌||◌, ℕ, length, ap, sym, subst, ◌∙◌, arith}
 use Rattle.lsp_shared.specs.declared.view.View.{View}
 use Rattle.lsp_shared.specs.Phases.{is_idle}
 use Rattle.lsp_shared.specs.Steps.{Mine, learned, Heard}

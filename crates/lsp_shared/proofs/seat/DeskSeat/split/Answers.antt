@@ -1,4 +1,4 @@
-use Rattle.std.proofs.Common.{◌<◌, arith}
+use Rattle.std.proofs.Common.{arith}
 use Rattle.lsp_shared.proofs.Parting.{splits}
 use Rattle.lsp_shared.proofs.seat.DeskSeat.split.Goals as goal
 
