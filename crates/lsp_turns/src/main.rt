@@ -60,12 +60,23 @@ fn run<R: Threads + Wait + Sync>(
     Ok(Some(match mode {
         "check" => {
             let verdict = Verdict::of(alloc, four(rt, alloc, calls, true)?)?;
-            format!(in alloc; "{verdict}")?
+            let wrong = wrong(rt, alloc)?;
+            format!(in alloc; "{verdict}\n{wrong}")?
         }
         "alone" => entries(alloc, &alone(rt, alloc, calls)?)?,
         "beside" => entries(alloc, &four(rt, alloc, calls, false)?)?,
         _ => return Ok(None),
     }))
+}
+
+// How many calls each seat makes of which one is noted wrong.
+const FEW: u64 = 4;
+
+/// That a note of a wrong place is seen, and one of a wrong reply.
+fn wrong<R: Threads + Wait + Sync>(rt: &R, alloc: Global) -> Result<String, NoMemory> {
+    let place = Verdict::of(alloc, four(rt, alloc, FEW, true)?.misplaced())?.is_right();
+    let reply = Verdict::of(alloc, four(rt, alloc, FEW, true)?.misheard())?.is_right();
+    Ok(format!(in alloc; "right with a wrong place: {place}; right with a wrong reply: {reply}")?)
 }
 
 fn entries(alloc: Global, made: &Made) -> Result<String, NoMemory> {

@@ -3,8 +3,9 @@ ghost use Rattle.std.specs.Prelude.{◌≡◌, IfOk};
 ghost use Rattle.lsp_shared.specs.Desks.{desk_id, first_desk};
 ghost use Rattle.lsp_turns.specs.Seats.{IsOwnerOf, IsClientOf, IsLike};
 
-use crate::calls::Told;
+use crate::calls::{Reply, Told};
 use crate::seats::{Work, Worked, client_calls, owner_calls};
+use lsp_desk::ServerReply;
 use lsp_shared::{DeskOwner, NoMemory, OwnerSeat, Rested, SharedClient, SharedDesk};
 use std::alloc::Global;
 use std::sync::Wait;
@@ -19,6 +20,37 @@ pub struct Made {
     pub entries: u64,
     /// The owner's share of the desk, after it took in the other seats.
     pub share: u64,
+    /// Calls of one seat stand between the calls of another.
+    pub overlapped: bool,
+}
+
+impl Made {
+    /// The same, with a note whose place is another's.
+    pub fn misplaced(mut self) -> Made {
+        if let Some(told) = self.told.first_mut() {
+            told.place = told.place.wrapping_add(1);
+        }
+        self
+    }
+
+    /// The same, with a note of a reply that wasn't given: the owner's first call looks.
+    pub fn misheard(mut self) -> Made {
+        if let Some(told) = self.told.first_mut() {
+            told.reply = Reply::Server(Ok(ServerReply::Ignored));
+        }
+        self
+    }
+}
+
+/// Whether calls of others stand between these.
+fn is_cut(told: &[Told]) -> bool {
+    match (told.first(), told.last()) {
+        (Some(first), Some(last)) => {
+            let places = last.place.wrapping_sub(first.place);
+            places.wrapping_add(1) != told.len() as u64
+        }
+        _ => false,
+    }
 }
 
 /// The owner makes so many calls by itself.
@@ -36,6 +68,7 @@ pub fn alone<R: Wait + Sync>(rt: &R, alloc: Global, calls: u64) -> Result<Made, 
         told: worked.told,
         entries: owner.seen(),
         share: owner.share(),
+        overlapped: false,
     })
 }
 
@@ -87,6 +120,8 @@ fn four_at<R: Threads + Wait + Sync>(
     all.join(SharedClient::sit(rt, desk, first.seat));
     all.join(SharedClient::sit(rt, desk, second.seat));
     all.join(SharedClient::sit(rt, desk, third.seat));
+    let seats = [&owner.told, &first.told, &second.told, &third.told];
+    let overlapped = seats.iter().any(|told| is_cut(told));
     let mut told = owner.told;
     told.extend(first.told)?;
     told.extend(second.told)?;
@@ -95,6 +130,7 @@ fn four_at<R: Threads + Wait + Sync>(
         told,
         entries: all.seen(),
         share: all.share(),
+        overlapped,
     })
 }
 

@@ -22,6 +22,8 @@ pub struct Verdict {
     replies: bool,
     /// The owner has the whole share again.
     whole: bool,
+    /// Calls of one seat stand between the calls of another.
+    overlapped: bool,
 }
 
 impl Verdict {
@@ -35,6 +37,7 @@ impl Verdict {
             tickets: true,
             replies: true,
             whole: made.share == 1 << 63,
+            overlapped: made.overlapped,
         };
         let mut desk = PlainDesk::new(alloc);
         let mut tickets = 0u64;
@@ -51,6 +54,11 @@ impl Verdict {
         }
         Ok(verdict)
     }
+
+    /// Whether the notes are those of one desk, and each seat came back.
+    pub fn is_right(&self) -> bool {
+        self.places && self.tickets && self.replies && self.whole
+    }
 }
 
 /// Whether two replies have the same text.
@@ -62,8 +70,14 @@ impl fmt::Display for Verdict {
     fn fmt<W: fmt::Write>(&self, f: &mut fmt::Formatter<W>) -> fmt::Result {
         write!(
             f,
-            "{} entries, {} of them noted: each place once: {}; each ticket once: {}; each reply in its place: {}; whole share: {}",
-            self.entries, self.noted, self.places, self.tickets, self.replies, self.whole
+            "{} entries, {} of them noted: each place once: {}; each ticket once: {}; each reply in its place: {}; whole share: {}; seats overlapped: {}",
+            self.entries,
+            self.noted,
+            self.places,
+            self.tickets,
+            self.replies,
+            self.whole,
+            self.overlapped
         )
     }
 }

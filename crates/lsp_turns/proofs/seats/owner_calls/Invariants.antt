@@ -1,6 +1,6 @@
 use Rattle.std.proofs.Common.{◌≡◌}
-use Rattle.lsp_shared.specs.Seats.{owner_desk}
+use Rattle.lsp_shared.specs.Seats.{seat_desk}
 use Rattle.lsp_turns.proofs.seats.owner_calls.Given as goal
 
 abbrev pub invariant-loop-number : goal.invariant-loop-number
-invariant-loop-number g l = owner_desk l.owner ≡ owner_desk l.initial.owner
+invariant-loop-number g l = seat_desk l.owner ≡ seat_desk l.initial.owner
