@@ -12,7 +12,7 @@ use Rattle.lsp_proxy.specs.declared.side.Presence.{Presence}
 use Rattle.lsp_proxy.specs.declared.side.Presence.TheVariants.{Here, Down, Gone}
 use Rattle.lsp_proxy.specs.Entries.{AskerData, Entry, same_asker, same_asker-Decides, place_of}
 use Rattle.lsp_proxy.specs.Proxy.{State, Outcome, Opening, unopened, awaited, opened, bare, last_id, begin_initialize, initialize_at, initialize, shut_down, pass_request, ask_at, ask_as, ask, cancel_limit, cancel_note, cancel_passed, asked_place, cancel_target, cancel, note_as, note, called, from_editor, from_server, server_called, server_cancel, first_requested, cancel_entry, presence, is_gone}
-use Rattle.lsp_proxy.specs.Law.{react, IsAmong, IsTaken, is_none, is_cancel, CancelsAsked, CancelsRequested}
+use Rattle.lsp_proxy.specs.Law.{react, OnlySends, IsAmong, IsTaken, is_none, is_cancel, CancelsAsked, CancelsRequested}
 
 last_among : {X : Type 0} (xs : List X) (x : X) → IsAmong x (xs ++ x ∷ [])
 last_among xs x = (xs, [], refl)
@@ -117,23 +117,23 @@ module _ (r : RequestData) (s : State) (is : is_cancel r ≡ true) where
         go None at = tt
         go (Some n) at = passed_all (CancelsAsked k r s) Server n (i, n, under, refl, place_among (record { editor = k; id = i }) n s.asked at)
 
-    note_cancels : (p : Presence) → AllByRecursion (CancelsAsked k r s) (note_as p k (bare r) s).1
+    note_cancels : (p : Presence) → OnlySends s (CancelsAsked k r s) (note_as p k (bare r) s)
     unfolding cancel
-    note_cancels Here = subst (λ b. AllByRecursion (CancelsAsked k r s) (cond b (cancel k (bare r) s) (s, (Server, request (bare r)) ∷ [])).1) (sym cancelled) (named_asked (cancel_target r.params) refl)
-    note_cancels Down = tt
-    note_cancels Gone = tt
+    note_cancels Here = subst (λ b. OnlySends s (CancelsAsked k r s) (cond b (cancel k (bare r) s) (s, (Server, request (bare r)) ∷ []))) (sym cancelled) (named_asked (cancel_target r.params) refl, refl)
+    note_cancels Down = (tt, refl)
+    note_cancels Gone = (tt, refl)
 
-    called_cancels : AllByRecursion (CancelsAsked k r s) (called k r None s).1
+    called_cancels : OnlySends s (CancelsAsked k r s) (called k r None s)
     unfolding note
     called_cancels = rw (other (codes "initialize") refl, other (codes "initialized") refl, other (codes "shutdown") refl, other (codes "exit") refl) (note_cancels (presence k s))
 
-    pub editor_cancels : AllByRecursion (CancelsAsked k r s) (react (Editor k, request r) s).1
+    pub editor_cancels : OnlySends s (CancelsAsked k r s) (react (Editor k, request r) s)
     unfolding from_editor
     editor_cancels = go (is_gone (presence k s))
       where
-        go : (b : Bool) → AllByRecursion (CancelsAsked k r s) (cond b (s, []) (called k r r.id s)).1
-        go true = tt
-        go false = subst (λ o. AllByRecursion (CancelsAsked k r s) (called k r o s).1) (sym unnumbered) called_cancels
+        go : (b : Bool) → OnlySends s (CancelsAsked k r s) (cond b (s, []) (called k r r.id s))
+        go true = (tt, refl)
+        go false = subst (λ o. OnlySends s (CancelsAsked k r s) (called k r o s)) (sym unnumbered) called_cancels
 
   named_requested : (o : Option IdData) → cancel_target r.params ≡ o → AllByRecursion (CancelsRequested r s) (cancel_entry (option_and_then (λ i. first_requested i s.requested) o))
   named_requested None under = tt
@@ -146,8 +146,8 @@ module _ (r : RequestData) (s : State) (is : is_cancel r ≡ true) where
           passed_all (CancelsRequested r s) (Editor e.asker.editor) e.n
           (e.asker.id, e.n, e.asker.editor, under ∙ ap (λ j. Some j) (sym found.0), refl, found.1)
 
-  pub server_cancels : AllByRecursion (CancelsRequested r s) (react (Server, request r) s).1
+  pub server_cancels : OnlySends s (CancelsRequested r s) (react (Server, request r) s)
   unfolding from_server server_cancel
   server_cancels =
-      subst (λ o. AllByRecursion (CancelsRequested r s) (server_called r o s).1) (sym unnumbered)
-      (rw (cancelled) (named_requested (cancel_target r.params) refl))
+      subst (λ o. OnlySends s (CancelsRequested r s) (server_called r o s)) (sym unnumbered)
+      (rw (cancelled) (named_requested (cancel_target r.params) refl, refl))

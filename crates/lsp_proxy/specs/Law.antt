@@ -138,6 +138,10 @@ IsTaken r a s o = IsPassedOn r a s o ⊎ (IsWaiting a o ⊎ IsAnswered a o)
 
 -- ---- cancels
 
+-- this holds of all that is sent, and the proxy stays as it was
+abbrev pub OnlySends : State → (Side × MessageData → Type 0) → Outcome → Type 0
+OnlySends s P o = AllByRecursion P o.1 × (o.0 ≡ s)
+
 abbrev pub is_cancel : RequestData → Bool
 is_cancel r = is_none r.id && bytes_eq r.method (codes "$/cancelRequest")
 

@@ -3,7 +3,7 @@ ghost use Rattle.std.specs.Prelude.{ℕ, List, ◌≤◌, ◌≡◌, Some, true,
 ghost use Rattle.lsp_rpc.specs.Message.{IdData, RequestData, request};
 ghost use Rattle.lsp_proxy.specs.declared.side.Side.{Side as SideOf};
 ghost use Rattle.lsp_proxy.specs.declared.side.Side.TheVariants.{Editor, Server};
-ghost use Rattle.lsp_proxy.specs.Law.{Event, react, sent_over, request_ids, AreDistinct, responses_at, requests_at, GoesToOneHere, is_here_after, IsTaken, is_cancel, CancelsAsked, CancelsRequested};
+ghost use Rattle.lsp_proxy.specs.Law.{OnlySends, Event, react, sent_over, request_ids, AreDistinct, responses_at, requests_at, GoesToOneHere, is_here_after, IsTaken, is_cancel, CancelsAsked, CancelsRequested};
 ghost use Rattle.std.specs.List.{AllByRecursion};
 ghost use Rattle.lsp_proxy.specs.Origin.{HasOrigin, state_of};
 ghost use Rattle.lsp_proxy.specs.Proxy.{State, opening_state};
@@ -49,15 +49,15 @@ pub fn requests_taken()
 {}
 
 /// What an editor's cancel sends carries the number of an open request of that editor under the id
-/// that it names.
+/// that it names, and the proxy stays as it was: the request is still open.
 pub fn editor_cancels_its_own()
     ensures { (s : State) (k : ℕ) (r : RequestData) → is_cancel r ≡ true
-        → AllByRecursion (CancelsAsked k r s) (react (Editor k, request r) s).1 }
+        → OnlySends s (CancelsAsked k r s) (react (Editor k, request r) s) }
 {}
 
 /// What the server's cancel sends carries the number of an open request of the server under the id
-/// that it names, and goes to the editor that has it.
+/// that it names, and goes to the editor that has it. The proxy stays as it was.
 pub fn server_cancels_its_own()
     ensures { (s : State) (r : RequestData) → is_cancel r ≡ true
-        → AllByRecursion (CancelsRequested r s) (react (Server, request r) s).1 }
+        → OnlySends s (CancelsRequested r s) (react (Server, request r) s) }
 {}
