@@ -1,5 +1,5 @@
 -- The reads that were noted, and their order among the writes.
-use Rattle.std.proofs.Common.{◌≡◌, ◌≤◌, ◌+◌, ℕ, List, [], ◌∷◌, ◌++◌, length, sym, ◌∙◌, ap, append_assoc, length-append, arith}
+use Rattle.std.proofs.Common.{◌≡◌, ◌≤◌, ◌<◌, ◌+◌, ℕ, List, [], ◌∷◌, ◌++◌, length, sym, ◌∙◌, ap, append_assoc, length-append, arith}
 use Rattle.std.specs.Prelude.{◌≢◌, Option, Some, None}
 use Rattle.std.specs.List.{AllByRecursion}
 use Rattle.std.proofs.lemmas.List.{append-nil}
@@ -65,6 +65,9 @@ module _ (P : Moment → Type 0) where
 
   pub few_so_far : (old new : Option (List Moment)) (count reads : ℕ) → count ≤ reads → Made old new (Noted P count) → Made old new (λ made. length made ≤ reads)
   few_so_far old new count reads within noted = made_map old new (Noted P count) (λ made. length made ≤ reads) (λ made so_far. omega (arith, so_far.0, within)) noted
+
+  pub fewer_so_far : (old new : Option (List Moment)) (count reads : ℕ) → count < reads → Made old new (Noted P count) → Made old new (λ made. length made < reads)
+  fewer_so_far old new count reads within noted = made_map old new (Noted P count) (λ made. length made < reads) (λ made so_far. omega (arith, so_far.0, within)) noted
 
   pub all_made : (old new : Option (List Moment)) (count reads : ℕ) → count ≡ reads → Made old new (Noted P count) → Made old new (λ made. length made ≡ reads)
   all_made old new count reads is noted = made_map old new (Noted P count) (λ made. length made ≡ reads) (λ made so_far. so_far.0 ∙ is) noted

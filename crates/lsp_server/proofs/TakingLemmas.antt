@@ -126,6 +126,10 @@ pub no_step_spent : {A : Type 0} (P : Type 0) (r : Result A ServeError) → IfEr
 no_step_spent P (Ok x) others = tt
 no_step_spent P (Err e) others = λ is. absurd (subst IsInStep is others)
 
+pub no_step_fault : {A : Type 0} (P : Type 0) (r : Result A ServeError) → IfErr r IsInStep → IfSome (result_err r) (λ e. e ≡ ReadFault → P)
+no_step_fault P (Ok x) others = tt
+no_step_fault P (Err e) others = λ is. absurd (subst IsInStep is others)
+
 -- all was flushed before the step too
 pub flushed_then : (taken0 taken1 taken2 : Option (List ℕ)) (count0 count1 count2 : Option ℕ) (error : Option ServeError) → (IsFlushed taken0 count0 → IsFlushed taken1 count1)
     → StaysFlushed taken1 count1 taken2 count2 error → StaysFlushed taken0 count0 taken2 count2 error

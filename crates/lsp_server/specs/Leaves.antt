@@ -27,9 +27,12 @@ pub record TellsFaults (reads reads_after writes writes_after : ℕ) (error : Op
   pub read_told : reads < reads_after → error ≡ Some ReadFault
   pub write_told : writes < writes_after → error ≡ Some WriteFault
 
--- at most so many reads were made, each of at most so many bytes, and all of them where the call stops for that
+-- at most so many reads were made that don't fail, each of at most so many bytes, and all of them where the call stops
+-- for that; so where all were made, it stops neither before the end nor by a failed read
 pub record WithinReads (count size : ℕ) (left left_after : Option (List ℕ)) (reads reads_after : Option (List Moment)) (error : Option ServeError) : Type 0 where
   pub few : IfSome left (λ bytes. IfSome left_after (λ rest. length bytes ≤ length rest + count * size))
   pub reads_spent : IfSome error (λ e. e ≡ ReadsSpent → IfSome left (λ bytes. IfSome left_after (λ rest. count + length rest ≤ length bytes)))
   pub few_reads : Made reads reads_after (λ made. length made ≤ count)
   pub all_reads : IfSome error (λ e. e ≡ ReadsSpent → Made reads reads_after (λ made. length made ≡ count))
+  -- a read that fails is one of them too
+  pub fewer_at_fault : IfSome error (λ e. e ≡ ReadFault → Made reads reads_after (λ made. length made < count))

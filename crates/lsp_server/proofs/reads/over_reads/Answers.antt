@@ -1,12 +1,12 @@
 -- The loop over the reads: each piece, the end of input, and each error.
-use Rattle.std.proofs.Common.{rules, arith, ◌≡◌, take, length-take, refl, ◌∙◌, true}
+use Rattle.std.proofs.Common.{rules, arith, ◌≡◌, take, length-take, refl, ◌∙◌, true, ◌<◌, []}
 use Rattle.std.specs.Prelude.{Ok}
 use Rattle.std.specs.Result.{result_err}
 use Rattle.lsp_server.specs.Consuming.{piece, end, done, outcome_of, last_outcome}
 use Rattle.lsp_server.specs.Reads.{moment}
-use Rattle.lsp_server.proofs.KnownLemmas.{consumes_to}
-use Rattle.lsp_server.proofs.OrderLemmas.{not_at_end, noted_none, noted_more, in_order_so_far, in_order_last_read, few_reads}
-use Rattle.lsp_server.proofs.TakingLemmas.{reading_start, reading_more, took_last, end_timely, few_more, no_step_spent, step_tells}
+use Rattle.lsp_server.proofs.KnownLemmas.{consumes_to, kept_none}
+use Rattle.lsp_server.proofs.OrderLemmas.{few_reads, few_so_far, fewer_so_far, in_order_last_read, in_order_so_far, not_at_end, noted_more, noted_none}
+use Rattle.lsp_server.proofs.TakingLemmas.{reading_start, reading_more, took_last, end_timely, few_more, no_step_spent, step_tells, no_step_fault}
 use Rattle.lsp_server.proofs.reads.over_reads.Goals as goal
 
 pub loop-init : goal.loop-init
@@ -27,6 +27,20 @@ returns-in-Err-clause-in_order g c = rw c.in-Err.ensures.unnoted (in_order_so_fa
 
 pub returns-clause-in_order : goal.returns-clause-in_order
 returns-clause-in_order g c = in_order_so_far _ (g.T.Transport.reads c.args.io.now) (g.T.Transport.reads c.loop.io) c.loop.counter c.loop.invariant.noted
+
+pub returns-in-Err-clause-within : goal.returns-in-Err-clause-within
+returns-in-Err-clause-within g c =
+    let start = moment (g.T.Transport.left c.args.io.now) (g.T.Sink.taken c.args.io.now) (g.T.Sink.flushed c.args.io.now) in
+    let now = moment (g.T.Transport.left c.loop.io) (g.T.Sink.taken c.loop.io) (g.T.Sink.flushed c.loop.io) in
+    let below : c.loop.counter < c.args.reads = search rules in
+    record {
+      few = few_more (c.args.consumer.now, c.args.state.now) start now (c.loop.consumer, c.loop.state) c.loop.counter c.loop.invariant.reading (g.T.Transport.left c.read.new.self) [] c.args.reads
+          (kept_none (g.T.Transport.left c.loop.io) (g.T.Transport.left c.read.new.self) c.in-Err.ensures.kept) (omega arith) (omega (arith, below));
+      reads_spent = λ is. absurd (cc);
+      few_reads = rw c.in-Err.ensures.unnoted (few_so_far _ (g.T.Transport.reads c.args.io.now) (g.T.Transport.reads c.loop.io) c.loop.counter c.args.reads (omega (arith, below)) c.loop.invariant.noted);
+      all_reads = λ is. absurd (cc);
+      fewer_at_fault = λ is. rw c.in-Err.ensures.unnoted (fewer_so_far _ (g.T.Transport.reads c.args.io.now) (g.T.Transport.reads c.loop.io) c.loop.counter c.args.reads below c.loop.invariant.noted);
+    }
 
 -- ---- the end of input
 
@@ -59,6 +73,7 @@ returns-then-n-eq0-clause-within g c =
       reads_spent = no_step_spent _ c.end_flushed.result c.end_flushed.ensures.others;
       few_reads = rw apart.2 (few_reads _ (g.T.Transport.reads c.args.io.now) (g.T.Transport.reads c.loop.io) (g.T.Transport.reads c.read.new.self) now c.loop.counter c.loop.invariant.noted c.in-Ok.ensures.notes c.args.reads (search rules));
       all_reads = no_step_spent _ c.end_flushed.result c.end_flushed.ensures.others;
+      fewer_at_fault = no_step_fault _ c.end_flushed.result c.end_flushed.ensures.others;
     }
 
 pub returns-then-n-eq0-clause-faults : goal.returns-then-n-eq0-clause-faults
@@ -105,6 +120,7 @@ returns-in_err-take_flushed-clause-within g c =
       reads_spent = rw is (no_step_spent _ c.take_flushed.result c.take_flushed.ensures.others);
       few_reads = rw apart.2 (few_reads _ (g.T.Transport.reads c.args.io.now) (g.T.Transport.reads c.loop.io) (g.T.Transport.reads c.read.new.self) now c.loop.counter c.loop.invariant.noted c.in-Ok.ensures.notes c.args.reads (search rules));
       all_reads = rw is (no_step_spent _ c.take_flushed.result c.take_flushed.ensures.others);
+      fewer_at_fault = rw is (no_step_fault _ c.take_flushed.result c.take_flushed.ensures.others);
     }
 
 pub returns-in_err-take_flushed-clause-faults : goal.returns-in_err-take_flushed-clause-faults
@@ -150,6 +166,7 @@ returns-then-branch-clause-within g c =
       reads_spent = tt;
       few_reads = rw apart.2 (few_reads _ (g.T.Transport.reads c.args.io.now) (g.T.Transport.reads c.loop.io) (g.T.Transport.reads c.read.new.self) now c.loop.counter c.loop.invariant.noted c.in-Ok.ensures.notes c.args.reads (search rules));
       all_reads = tt;
+      fewer_at_fault = tt;
     }
 
 pub returns-then-branch-clause-faults : goal.returns-then-branch-clause-faults
