@@ -1,1 +1,2 @@
 pub mod TrialLemmas
+pub mod LinesLemmas

@@ -1,1 +1,3 @@
 pub mod Trial
+pub mod Lines
+pub mod LinesCounted

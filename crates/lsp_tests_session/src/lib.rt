@@ -5,6 +5,7 @@
 //! say what is meant.
 #![tactic(auto)]
 
+pub mod lines;
 #[cfg(test)]
 mod proxy;
 #[cfg(test)]

@@ -1,0 +1,58 @@
+-- Counting lines keeps the laws of consumers.
+use Rattle.std.proofs.Common.{◌≡◌, ◌<◌, ◌+◌, ◌^◌, ℕ, List, [], ◌++◌, refl, sym, ◌∙◌, ap, subst, zero-add, arith}
+use Rattle.std.specs.Prelude.{Some}
+use Rattle.std.specs.Io.KnownBytes.{Consumes}
+use Rattle.std.proofs.lemmas.List.Sums.{sum_by-append}
+use Rattle.lsp_server.specs.declared.step.ServeError.{ServeError}
+use Rattle.lsp_server.specs.Errors.{ComesOfSink}
+use Rattle.lsp_server.specs.Reads.{Moment}
+use Rattle.lsp_server.specs.Consuming.{Given, piece, end, Outcome, goes_on, done, stops, IsLawful, bytes_of, IsTimely, TookLast}
+use Rattle.lsp_server.proofs.KnownLemmas.{all_read, end_before}
+use Rattle.lsp_tests_session.specs.declared.lines.Lines.{Lines}
+use Rattle.lsp_tests_session.specs.declared.lines.Count.{Count}
+use Rattle.lsp_tests_session.specs.Lines.{lines_in, counted}
+use Rattle.lsp_tests_session.specs.LinesCounted.{Counts, counting}
+
+counted_more : (n a b m k : ℕ) → m ≡ counted (n + a) → k ≡ counted (m + b) → k ≡ counted (n + (a + b))
+counted_more n a b m k p q = omega (arith, p, q)
+
+counted_none : (n : ℕ) → n < 2 ^ 64 → n ≡ counted (n + 0)
+counted_none n h = omega arith
+
+fits : (n m : ℕ) → m ≡ counted n → m < 2 ^ 64
+fits n m is = omega (arith, is)
+
+opens : (a b : Lines × Count) (given : Given) (written : List ℕ) → Counts a.1.lines given goes_on written b.1.lines → b.1.lines < 2 ^ 64
+opens a b (piece bytes) written p = fits (a.1.lines + lines_in bytes) b.1.lines p.0
+opens a b end written p = absurd p
+
+more : (a b c : ℕ) (xs ys ws vs : List ℕ) → Counts a (piece xs) goes_on ws b → Counts b (piece ys) goes_on vs c → Counts a (piece (xs ++ ys)) goes_on (ws ++ vs) c
+more a b c xs ys ws vs p q = (
+  counted_more a (lines_in xs) (lines_in ys) b c p.0 q.0 ∙ ap (λ n. counted (a + n)) (sym (sum_by-append _ xs ys)),
+  ap (λ l. l ++ vs) p.1 ∙ q.1,
+)
+
+refused : (a b : ℕ) (given : Given) (outcome : Outcome) (written : List ℕ) (e : ServeError) → Counts a given (stops e) written b
+refused a b (piece bytes) outcome written e = tt
+refused a b end outcome written e = tt
+
+pub counting_lawful : IsLawful counting
+counting_lawful = record {
+  opens = opens;
+  none = λ a is. (counted_none a.1.lines is, refl);
+  more = λ a b c. more a.1.lines b.1.lines c.1.lines;
+  refused = λ a b given outcome written e p sink. refused a.1.lines b.1.lines given outcome written e;
+}
+
+-- at the end all lines were counted
+pub lines_counted : (a b : Lines × Count) (start now : Moment) (size : ℕ) (bytes : List ℕ) → a.1.lines ≡ 0 → start.left ≡ Some bytes → TookLast counting a start now size done b
+    → b.1.lines ≡ counted (lines_in bytes)
+lines_counted a b start now size bytes zero is t = at t.last t.gives t.timely t.did.does
+  where
+    at : (last : Given) → Consumes t.middle.left now.left (bytes_of last) → IsTimely last start.left now.left → Counts t.mid.1.lines last done t.did.written b.1.lines → b.1.lines ≡ counted (lines_in bytes)
+    at (piece xs) gives timely does = absurd does
+    at end gives timely does =
+        let after : now.left ≡ Some [] = rw is at timely in
+        let read = subst (λ l. Consumes l t.middle.left t.took.read) is t.took.gives in
+        let whole : bytes ≡ t.took.read = all_read bytes t.took.read t.middle.left read (end_before bytes t.took.read t.middle.left now.left read gives after) in
+        does.0 ∙ t.took.did.does.0 ∙ ap (λ n. counted (n + lines_in t.took.read)) zero ∙ ap counted (zero-add (lines_in t.took.read)) ∙ ap (λ l. counted (lines_in l)) (sym whole)
