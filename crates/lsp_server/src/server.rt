@@ -1,5 +1,6 @@
 // The server.
-ghost use Rattle.std.specs.Prelude.{◌≡◌, ◌≢◌, ◌≤◌, ◌<◌, ◌+◌, ◌*◌, [], ◌∷◌, ℕ, true, false, length, OnOk, OnErr, IfOk, IfErr, IfSome, IsErrAnd, IsErrOf};
+ghost use Rattle.std.specs.Prelude.{◌≡◌, ◌≢◌, ◌≤◌, ◌<◌, ◌+◌, ◌*◌, [], ◌∷◌, ℕ, true, false, length, OnOk, OnErr, IfOk, IfErr, IfSome, IsErrAnd};
+ghost use Rattle.std.specs.Result.{result_err};
 ghost use Rattle.lsp_desk.specs.Meaning.{IsOpening, Grown};
 ghost use Rattle.lsp_frame.specs.Codec.{AreLimits, default_limits};
 ghost use Rattle.lsp_session.specs.Item.{show_item, item_has_float, tick};
@@ -9,6 +10,7 @@ ghost use Rattle.lsp_server.specs.SourceSink.{CountRose, IsFlushed};
 ghost use Rattle.lsp_server.specs.Course.{course, picked};
 ghost use Rattle.lsp_server.specs.Written.{Ran, RanPart};
 ghost use Rattle.lsp_server.specs.Served.{call_bytes, handed_back, IsServed, ReadEnough, WroteTold, WrotePart};
+ghost use Rattle.lsp_server.specs.Leaves.{LeavesFaults};
 ghost use Rattle.lsp_server.specs.ServedView.{show_served};
 ghost use Rattle.lsp_server.specs.Errors.{IsBetweenReads, IsFlushedAt, IsInStep, ComesUnfailed, SaysSpent};
 
@@ -146,7 +148,6 @@ impl<D: Desk + Drop> Server<D> {
         ensures ready { OnOk result (IsReady H.semantics D.meaning session.new) }
         ensures flushed { OnOk result (IsFlushed (O.taken sink.old) (O.flushed sink.old)
             → IsFlushed (O.taken sink.new) (O.flushed sink.new)) }
-        ensures beside { O.beside sink.new ≡ O.beside sink.old }
 
         // At an error nothing was written, or what begins the frames of the whole step.
         ensures part { OnErr result (RanPart (Step H.semantics (order_by P.gives P.later) rounds)
@@ -155,11 +156,7 @@ impl<D: Desk + Drop> Server<D> {
         ensures grown { OnErr result (Grown D.meaning (desk_of session.old) (desk_of session.new)) }
 
         // Each error has its cause, and a failure is told.
-        ensures count { O.faults sink.old ≤ O.faults sink.new }
-        ensures write { IsErrOf result ServeError.WriteFault
-            → CountRose (O.faults sink.old) (O.faults sink.new) }
-        ensures write_told { O.faults sink.old < O.faults sink.new
-            → IsErrOf result ServeError.WriteFault }
+        ensures sink { LeavesFaults O.faults O.beside sink.old sink.new (result_err result) }
         ensures spent { IfErr result (λ e. SaysSpent D.meaning (desk_of session.new) e) }
         ensures others { IfErr result IsInStep }
     {
@@ -185,16 +182,11 @@ impl<D: Desk + Drop> Server<D> {
         ensures ready { OnOk result (IsReady H.semantics D.meaning session.new) }
         ensures flushed { OnOk result (IsFlushed (O.taken sink.old) (O.flushed sink.old)
             → IsFlushed (O.taken sink.new) (O.flushed sink.new)) }
-        ensures beside { O.beside sink.new ≡ O.beside sink.old }
         ensures part { OnErr result (RanPart (Step H.semantics (order_by P.gives P.later) rounds)
             (picked (session_view H.semantics D.meaning session.old) (P.state pick.old))
             (O.taken sink.old) (tick ∷ []) (O.taken sink.new)) }
         ensures grown { OnErr result (Grown D.meaning (desk_of session.old) (desk_of session.new)) }
-        ensures count { O.faults sink.old ≤ O.faults sink.new }
-        ensures write { IsErrOf result ServeError.WriteFault
-            → CountRose (O.faults sink.old) (O.faults sink.new) }
-        ensures write_told { O.faults sink.old < O.faults sink.new
-            → IsErrOf result ServeError.WriteFault }
+        ensures sink { LeavesFaults O.faults O.beside sink.old sink.new (result_err result) }
         ensures spent { IfErr result (λ e. SaysSpent D.meaning (desk_of session.new) e) }
         ensures others { IfErr result IsInStep }
     {

@@ -1,5 +1,6 @@
 // The step of an item, with what it writes.
-ghost use Rattle.std.specs.Prelude.{◌≡◌, ◌≢◌, ◌≤◌, ◌⊎◌, [], ◌∷◌, false, OnOk, OnErr, IfErr, IsErrOf};
+ghost use Rattle.std.specs.Prelude.{◌≡◌, ◌≢◌, ◌≤◌, ◌⊎◌, [], ◌∷◌, false, OnOk, OnErr, IfErr};
+ghost use Rattle.std.specs.Result.{result_err};
 ghost use Rattle.std.specs.Io.KnownBytes.{Keeps};
 ghost use Rattle.lsp_desk.specs.Meaning.{Grown};
 ghost use Rattle.lsp_session.specs.Item.{show_item, item_has_float};
@@ -9,6 +10,7 @@ ghost use Rattle.lsp_server.specs.SourceSink.{CountRose, Flushes};
 ghost use Rattle.lsp_server.specs.Course.{picked};
 ghost use Rattle.lsp_server.specs.Written.{Ran, RanPart};
 ghost use Rattle.lsp_server.specs.ServerView.{standing, IsReady};
+ghost use Rattle.lsp_server.specs.Leaves.{LeavesFaults};
 ghost use Rattle.lsp_server.specs.Errors.{IsFlushedAt, IsInStep, ComesOfSink, LeavesSink, SaysSpent};
 ghost use Rattle.lsp_server.specs.declared.step.ServeError.TheVariants.{NoMemory as no_memory};
 
@@ -76,12 +78,7 @@ pub(crate) fn write_step<O: Sink, D: Desk + Drop, H: Handlers<D>, P: Pick>(
         (O.taken sink.old) (show_item item ∷ []) (O.taken sink.new)) }
     ensures grown { OnErr result (Grown D.meaning (desk_of session.old) (desk_of session.new)) }
     ensures flushed { O.flushed sink.new ≡ O.flushed sink.old }
-    ensures beside { O.beside sink.new ≡ O.beside sink.old }
-    ensures count { O.faults sink.old ≤ O.faults sink.new }
-    ensures write { IsErrOf result ServeError.WriteFault
-        → CountRose (O.faults sink.old) (O.faults sink.new) }
-    ensures unfailed { OnOk result (O.faults sink.new ≡ O.faults sink.old) }
-    ensures left { IfErr result (λ e. LeavesSink e → O.faults sink.new ≡ O.faults sink.old) }
+    ensures sink { LeavesFaults O.faults O.beside sink.old sink.new (result_err result) }
     ensures spent { IfErr result (λ e. SaysSpent D.meaning (desk_of session.new) e) }
     ensures others { IfErr result IsInStep }
 {
@@ -104,12 +101,7 @@ pub(crate) fn flush<O: Sink>(sink: &mut O) -> Result<(), ServeError>
     ensures taken { Keeps (O.taken sink.old) (O.taken sink.new) }
     ensures flushes { OnOk result (Flushes (O.taken sink.old) (O.flushed sink.old)
         (O.flushed sink.new)) }
-    ensures beside { O.beside sink.new ≡ O.beside sink.old }
-    ensures count { O.faults sink.old ≤ O.faults sink.new }
-    ensures write { IsErrOf result ServeError.WriteFault
-        → CountRose (O.faults sink.old) (O.faults sink.new) }
-    ensures unfailed { OnOk result (O.faults sink.new ≡ O.faults sink.old) }
-    ensures left { IfErr result (λ e. LeavesSink e → O.faults sink.new ≡ O.faults sink.old) }
+    ensures sink { LeavesFaults O.faults O.beside sink.old sink.new (result_err result) }
     ensures others { IfErr result ComesOfSink }
 {
     match sink.flush() {
