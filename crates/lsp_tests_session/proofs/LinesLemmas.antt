@@ -4,7 +4,6 @@ use Rattle.std.specs.Prelude.{Some}
 use Rattle.std.specs.Io.KnownBytes.{Consumes}
 use Rattle.std.proofs.lemmas.List.Sums.{sum_by-append}
 use Rattle.lsp_server.specs.declared.step.ServeError.{ServeError}
-use Rattle.lsp_server.specs.Errors.{ComesOfSink}
 use Rattle.lsp_server.specs.Reads.{Moment}
 use Rattle.lsp_server.specs.Consuming.{Given, piece, end, Outcome, goes_on, done, stops, IsLawful, bytes_of, IsTimely, TookLast}
 use Rattle.lsp_server.proofs.KnownLemmas.{all_read, end_before}
