@@ -11,7 +11,7 @@ use Rattle.lsp_desk.specs.Call.{Call}
 use Rattle.lsp_desk.specs.Call as calls
 use Rattle.lsp_desk.specs.Reply.{Reply}
 use Rattle.lsp_desk.specs.Reply as replies
-use Rattle.lsp_desk.specs.Desk.{DeskState, AwaitedData, KeptData, desk_step, asked, told, polled, answered, awaiting, first_of, sent_with, is_kept_for, is_awaited_by, has_id}
+use Rattle.lsp_desk.specs.Desk.{DeskState, AwaitedData, KeptData, desk_step, asked, told_client, polled, answered, awaiting, first_of, sent_with, is_kept_for, is_awaited_by, has_id}
 use Rattle.lsp_desk.specs.Trace.{IsReply, after, after_reply, times}
 use Rattle.lsp_desk.specs.Flow.{put_in, taken_out, put_by, taken_by, all_put, all_taken, ticket_given, ticket_taken, given_by, answered_by, all_given, all_answered, open_tickets}
 use Rattle.lsp_desk.specs.Laws.{MessagesPass, TicketsAddUp, ReachesOldest, IsUnasked, AnswersReachOldest}
@@ -61,7 +61,7 @@ step_passes d (calls.Ask method params gated) =
     (asked d (number_id (pos d.next_id)) method params) (append-nil d.outbox) (append-nil d.outbox) refl
 step_passes d (calls.Tell method params gated) =
     unless (Passes d (calls.Tell method params gated)) (gated && holds_back d.life) (is_exited d.life) replies.Suppressed replies.Exited d
-    (told d method params) (append-nil d.outbox) (append-nil d.outbox) refl
+    (told_client d method params) (append-nil d.outbox) (append-nil d.outbox) refl
 step_passes d (calls.Raw r) =
     unless (Passes d (calls.Raw r)) false (is_exited d.life) replies.Exited replies.Exited d
     (sent_with d r r.id) (append-nil d.outbox) (append-nil d.outbox) (sent_passes d r r.id)
@@ -169,7 +169,7 @@ step_adds n d (calls.Ask method params gated) =
     sent (adds_none n d d refl) (adds_none n d d refl) (adds_ticket n d (number_id (pos d.next_id)) d.next_ticket sent.1 refl refl)
 step_adds n d (calls.Tell method params gated) =
     unless (AddsUp n d (calls.Tell method params gated)) (gated && holds_back d.life) (is_exited d.life) replies.Suppressed replies.Exited d
-    (told d method params) (adds_none n d d refl) (adds_none n d d refl) (adds_none n d (told d method params).1 refl)
+    (told_client d method params) (adds_none n d d refl) (adds_none n d d refl) (adds_none n d (told_client d method params).1 refl)
 step_adds n d (calls.Raw r) =
     unless (AddsUp n d (calls.Raw r)) false (is_exited d.life) replies.Exited replies.Exited d
     (sent_with d r r.id) (adds_none n d d refl) (adds_none n d d refl) (sent_adds n d r r.id)

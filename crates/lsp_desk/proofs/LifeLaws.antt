@@ -10,7 +10,7 @@ use Rattle.lsp_desk.specs.Call as calls
 use Rattle.lsp_desk.specs.Reply.{Reply}
 use Rattle.lsp_desk.specs.Desk.{DeskState, desk_step}
 use Rattle.lsp_desk.specs.Trace.{DeskEntry, after}
-use Rattle.lsp_desk.specs.Laws.{LifeGoesOn, LivesGoOn, EndsStay, ClientsLeaveLife}
+use Rattle.lsp_desk.specs.Laws.{LifeGoesOn, DeskLivesGoOn, EndsStay, ClientsLeaveLife}
 use Rattle.lsp_desk.proofs.TraceLemmas.{life_by, life_after, step_life, entry_life, client_life}
 
 -- what a call makes of a life
@@ -72,7 +72,7 @@ of_life d d2 l2 is g = record {
   falls = λ less. let w = g.falls (subst (λ l. rank l < rank d.life) is less) in (w.0, is ∙ w.1);
 }
 
-pub lives_go_on_lem : LivesGoOn
+pub lives_go_on_lem : DeskLivesGoOn
 lives_go_on_lem d call = of_life d (desk_step d call).1 (life_by d.life call) (step_life d call) (goes_on d.life call)
 
 pub clients_leave_life_lem : ClientsLeaveLife

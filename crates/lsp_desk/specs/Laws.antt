@@ -19,8 +19,8 @@ pub record LifeGoesOn (d d2 : DeskState) : Type 0 where
   pub ended : d.life ≡ Exited → d2.life ≡ Exited
   pub falls : rank d2.life < rank d.life → (d.life ≡ Initializing) × (d2.life ≡ Uninitialized)
 
-abbrev pub LivesGoOn : Type 0
-LivesGoOn = (d : DeskState) (call : Call) → LifeGoesOn d (desk_step d call).1
+abbrev pub DeskLivesGoOn : Type 0
+DeskLivesGoOn = (d : DeskState) (call : Call) → LifeGoesOn d (desk_step d call).1
 
 -- over any entries an end is an end
 abbrev pub EndsStay : Type 0

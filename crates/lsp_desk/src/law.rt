@@ -1,9 +1,9 @@
 //! What holds of every desk, whatever is called: functions whose contract is a law.
-ghost use Rattle.lsp_desk.specs.Laws.{LivesGoOn, EndsStay, ClientsLeaveLife, MessagesPass, TicketsAddUp, AnswersReachOldest, OthersTakeNone};
+ghost use Rattle.lsp_desk.specs.Laws.{DeskLivesGoOn, EndsStay, ClientsLeaveLife, MessagesPass, TicketsAddUp, AnswersReachOldest, OthersTakeNone};
 
 /// No life follows Exited, and a life falls only from Initializing to Uninitialized.
 pub fn lives_go_on()
-    ensures { LivesGoOn }
+    ensures { DeskLivesGoOn }
 {}
 
 /// Whatever is called, a session that has ended stays so.

@@ -1,12 +1,12 @@
 -- What a list of calls encoded is read as the messages that were encoded.
 use Rattle.std.proofs.Common.{List, [], ◌∷◌}
 use Rattle.lsp_frame.specs.Items.{At}
-use Rattle.lsp_frame.specs.Calls.{Call, fed, gave, finished, encoded, failed, Leads, messages_encoded}
+use Rattle.lsp_frame.specs.Calls.{CodecCall, fed, gave, finished, encoded, failed, Leads, messages_encoded}
 use Rattle.lsp_frame.specs.Laws.{AreReadBack, AreReadable, EncodedRead}
 use Rattle.lsp_frame.specs.declared.limits.Limits.{Limits}
 use Rattle.lsp_frame.proofs.FramesRead.{messages_read_lem}
 
-read_back : (limits : Limits) (calls : List Call) (a b : At) → Leads calls a b → AreReadable limits (messages_encoded calls) → AreReadBack limits (messages_encoded calls)
+read_back : (limits : Limits) (calls : List CodecCall) (a b : At) → Leads calls a b → AreReadable limits (messages_encoded calls) → AreReadBack limits (messages_encoded calls)
 read_back limits [] a b l readable = tt
 read_back limits (fed piece ∷ calls) a b l readable = read_back limits calls l.0 b l.2 readable
 read_back limits (gave x ∷ calls) a b l readable = read_back limits calls l.0 b l.2 readable

@@ -5,7 +5,7 @@ use Rattle.std.proofs.Math.Nat.{le-max_left, le-max_right}
 use Rattle.lsp_frame.specs.Blocks.{Header, block_len, headers_in}
 use Rattle.lsp_frame.specs.Headers.{content_length}
 use Rattle.lsp_frame.specs.Transitions.{Item, fault, Transition, stop, unfinished, go, transition, at_block, at_head, at_headers, at_place, first_place, body_item}
-use Rattle.lsp_frame.specs.Items.{Stands, IsTrimmed, most_held}
+use Rattle.lsp_frame.specs.Items.{GoesNowhere, IsTrimmed, most_held}
 use Rattle.lsp_frame.specs.Kept.{IsAllowed}
 use Rattle.lsp_frame.specs.declared.limits.Limits.{Limits}
 use Rattle.lsp_frame.specs.declared.parse_error.ParseError.{ParseError}
@@ -70,37 +70,37 @@ module _ (limits : Limits) where
 
   -- ---- where a state stands, few bytes are held
 
-  head_goes_on : (q : ℕ) (r : Result (Option ℕ) ParseError) → Stands (at_headers limits q r) → ⊥
+  head_goes_on : (q : ℕ) (r : Result (Option ℕ) ParseError) → GoesNowhere (at_headers limits q r) → ⊥
   head_goes_on q (Err e) stands = stands
   head_goes_on q (Ok None) stands = stands
   head_goes_on q (Ok (Some n)) stands = either (nat_lt limits.body n) stands
     where
-      either : (b : Bool) → Stands (cond b (go (Some (fault BodyTooLong)) (Skip n) q) (go None (Body n) q)) → ⊥
+      either : (b : Bool) → GoesNowhere (cond b (go (Some (fault BodyTooLong)) (Skip n) q) (go None (Body n) q)) → ⊥
       either true stands = stands
       either false stands = stands
 
-  block_held : (bs : List ℕ) (o : Option ℕ) → Stands (at_block limits bs o) → length bs < limits.head
+  block_held : (bs : List ℕ) (o : Option ℕ) → GoesNowhere (at_block limits bs o) → length bs < limits.head
   block_held bs None stands = short (nat_lt (length bs) limits.head) refl stands
     where
-      short : (b : Bool) → nat_lt (length bs) limits.head ≡ b → Stands (cond b unfinished (go (Some (fault HeadTooLong)) Search 1)) → length bs < limits.head
+      short : (b : Bool) → nat_lt (length bs) limits.head ≡ b → GoesNowhere (cond b unfinished (go (Some (fault HeadTooLong)) Search 1)) → length bs < limits.head
       short true e stands = grind arith
       short false e stands = absurd stands
   block_held bs (Some q) stands = headed (headers_in 2 (take q bs)) stands
     where
-      headed : (hs : Option (List Header)) → Stands (at_head limits q hs) → length bs < limits.head
+      headed : (hs : Option (List Header)) → GoesNowhere (at_head limits q hs) → length bs < limits.head
       headed None stands = absurd stands
       headed (Some hs) stands = absurd (head_goes_on q (content_length None hs) stands)
 
-  frame_held : (bs : List ℕ) (b : Bool) → (length bs == 0) ≡ b → Stands (cond b stop (at_block limits bs (block_len (take limits.head bs)))) → length bs ≤ limits.head
+  frame_held : (bs : List ℕ) (b : Bool) → (length bs == 0) ≡ b → GoesNowhere (cond b stop (at_block limits bs (block_len (take limits.head bs)))) → length bs ≤ limits.head
   frame_held bs true e stands = grind arith
   frame_held bs false e stands = omega (arith, block_held bs (block_len (take limits.head bs)) stands)
 
-  body_held : (n : ℕ) (bs : List ℕ) (a b : Bool) → nat_lt (length bs) n ≡ a → Stands (cond a unfinished (cond b (go None Frame 0) (go (Some (body_item (take n bs))) Frame n))) → length bs < n
+  body_held : (n : ℕ) (bs : List ℕ) (a b : Bool) → nat_lt (length bs) n ≡ a → GoesNowhere (cond a unfinished (cond b (go None Frame 0) (go (Some (body_item (take n bs))) Frame n))) → length bs < n
   body_held n bs true b e stands = grind arith
   body_held n bs false true e stands = absurd stands
   body_held n bs false false e stands = absurd stands
 
-  pub held_at_most : (s : DecodeState) (bs : List ℕ) → Stands (transition limits s bs) × IsTrimmed s bs → IsAllowed limits s → length bs ≤ most_held limits
+  pub held_at_most : (s : DecodeState) (bs : List ℕ) → GoesNowhere (transition limits s bs) × IsTrimmed s bs → IsAllowed limits s → length bs ≤ most_held limits
   held_at_most Frame bs waits allowed =
       omega (arith, frame_held bs (length bs == 0) refl waits.0, le-max_left limits.head limits.body, le-max_left (max limits.head limits.body) 13)
   held_at_most Search bs waits allowed = omega (arith, waits.1, le-max_right (max limits.head limits.body) 13)

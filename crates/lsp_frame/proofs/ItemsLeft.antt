@@ -4,7 +4,7 @@ use Rattle.std.proofs.Common.{◌≡◌, ℕ, List, [], ◌∷◌, ◌++◌, Boo
 use Rattle.lsp_rpc.specs.declared.message.Message.{Message}
 use Rattle.lsp_frame.specs.Transitions.{Item, fault}
 use Rattle.lsp_frame.specs.Items.{At, all_from, with_item, told_at, items_at}
-use Rattle.lsp_frame.specs.Places.{standing}
+use Rattle.lsp_frame.specs.Places.{codec_at}
 use Rattle.lsp_frame.specs.Shown.{show_found}
 use Rattle.lsp_frame.specs.declared.limits.Limits.{Limits}
 use Rattle.lsp_frame.specs.declared.parse_error.ParseError.{ParseError}
@@ -47,12 +47,12 @@ module _ (limits : Limits) where
   what_is_left s j h g (Some f) b goes ends none last = absurd (with_first s j h g f goes none)
 
   -- where nothing is told, what is left is what the last transition says
-  pub items_left : (a : At) (s j : DecodeState) (h g : List ℕ) (x : Option Found) (b : Bool) → standing limits s h ≡ a → Goes s h x j g → Ends x j g b → told_at a ≡ []
+  pub items_left : (a : At) (s j : DecodeState) (h g : List ℕ) (x : Option Found) (b : Bool) → codec_at limits s h ≡ a → Goes s h x j g → Ends x j g b → told_at a ≡ []
       → items_at a ≡ cond b (fault Rest ∷ []) []
   items_left a s j h g x b is goes ends none = ap items_at (sym is) ∙ what_is_left s j h g x b goes ends (ap told_at is ∙ none) (fault Rest ∷ [])
 
   -- there is no next item exactly where nothing is told
-  pub none_told : (a : At) (s j : DecodeState) (h g : List ℕ) (x : Option Found) (b : Bool) → standing limits s h ≡ a → Goes s h x j g → Ends x j g b
+  pub none_told : (a : At) (s j : DecodeState) (h g : List ℕ) (x : Option Found) (b : Bool) → codec_at limits s h ≡ a → Goes s h x j g → Ends x j g b
       → (option_map show_found x ≡ None) ↔ (told_at a ≡ [])
   none_told a s j h g None b is goes ends = (λ _. ap told_at (sym is) ∙ without_item s j h g b goes ends [] ∙ empty_both b, λ _. refl)
   none_told a s j h g (Some f) b is goes ends = (λ e. absurd cc, λ none. absurd (with_first s j h g f goes (ap told_at is ∙ none)))

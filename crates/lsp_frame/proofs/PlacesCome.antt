@@ -3,9 +3,9 @@ use Rattle.std.specs.Prelude.{IfSome}
 use Rattle.std.proofs.Common.{◌≡◌, ℕ, zero, suc, ◌+◌, ◌-◌, List, [], ◌++◌, length, take, drop, Option, Some, None, refl, sym, ap, ◌∙◌, subst, arith, append_assoc, length-drop}
 use Rattle.std.proofs.lemmas.Grind.{common_steps}
 use Rattle.lsp_frame.specs.Transitions.{Item, Transition, stop, unfinished, go, transition}
-use Rattle.lsp_frame.specs.Items.{At, Stands}
-use Rattle.lsp_frame.specs.Kept.{unneeded, waiting}
-use Rattle.lsp_frame.specs.Places.{standing, further, GoesOn, SilentBy, GoesSilently, without_unneeded, EndsAt, ComesTo, HoldsEnd, IsStateAfter}
+use Rattle.lsp_frame.specs.Items.{At, GoesNowhere}
+use Rattle.lsp_frame.specs.Kept.{unneeded, without_needed}
+use Rattle.lsp_frame.specs.Places.{codec_at, further, GoesOn, SilentBy, GoesSilently, without_unneeded, EndsAt, ComesTo, HoldsEnd, IsStateAfter}
 use Rattle.lsp_frame.specs.Laws.{OnePlace}
 use Rattle.lsp_frame.proofs.WaitingItems.{search_not_unfinished, skip_not_unfinished, waits_unfinished}
 use Rattle.lsp_frame.proofs.StatesAfter.{state_after}
@@ -28,15 +28,15 @@ goes_once a b c x y p q =
 
 -- a transition that goes on and tells nothing is not the last
 not_last : (a m b : At) (x : Option Item) → GoesOn a None m → EndsAt a x b → ⊥
-not_last a m b None on ends = subst Stands on.2 ends.0
+not_last a m b None on ends = subst GoesNowhere on.2 ends.0
 not_last a m b (Some x) on ends =
     let same : Is (go None on.0 on.1) (Some x) ends.0 ends.1 = sym on.2 ∙ ends.2 in
     absurd cc
 
 ends_once : (a b c : At) (x y : Option Item) → EndsAt a x b → EndsAt a y c → (x ≡ y) × (b ≡ c)
 ends_once a b c None None p q = (refl, sym p.1 ∙ q.1)
-ends_once a b c None (Some y) p q = absurd (subst Stands q.2 p.0)
-ends_once a b c (Some x) None p q = absurd (subst Stands p.2 q.0)
+ends_once a b c None (Some y) p q = absurd (subst GoesNowhere q.2 p.0)
+ends_once a b c (Some x) None p q = absurd (subst GoesNowhere p.2 q.0)
 ends_once a b c (Some x) (Some y) p q = goes_once a b c (Some x) (Some y) p q
 
 comes_once : (k l : ℕ) (a m n b c : At) (x y : Option Item) → SilentBy k a m → EndsAt m x b → SilentBy l a n → EndsAt n y c → (x ≡ y) × (b ≡ c)
@@ -67,7 +67,7 @@ silent_end zero a b p = ([], ap (λ t. t.held) p)
 silent_end (suc k) a b p = end_of_end a p.0 b (further_end a p.0 p.1.0 p.1.1 p.1.3) (silent_end k p.0 b p.2)
 
 last_end : (a b : At) (x : Option Item) → EndsAt a x b → HoldsEnd a b
-last_end a b None p = further_end a b (waiting a.state (length a.held)) (unneeded a.state (length a.held)) p.1
+last_end a b None p = further_end a b (without_needed a.state (length a.held)) (unneeded a.state (length a.held)) p.1
 last_end a b (Some x) p = further_end a b p.0 p.1 p.3
 
 pub comes_to_end : (a b : At) (x : Option Item) → ComesTo a x b → HoldsEnd a b
@@ -95,43 +95,43 @@ beyond n m xs = grind (arith, common_steps)
 
 module _ (limits : Limits) where
   goes_from : (s j : DecodeState) (bs : List ℕ) (place n : ℕ) (x : Option Item) → transition limits s (drop place bs) ≡ go x j n
-      → GoesOn (standing limits s (drop place bs)) x (standing limits j (drop (place + n) bs))
-  goes_from s j bs place n x e = (j, n, e, ap (standing limits j) (beyond place n bs))
+      → GoesOn (codec_at limits s (drop place bs)) x (codec_at limits j (drop (place + n) bs))
+  goes_from s j bs place n x e = (j, n, e, ap (codec_at limits j) (beyond place n bs))
 
   -- a transition that tells nothing is one more of them
-  pub one_more_silent : (a : At) (s j : DecodeState) (bs : List ℕ) (place n : ℕ) → GoesSilently a (standing limits s (drop place bs)) → transition limits s (drop place bs) ≡ go None j n
-      → GoesSilently a (standing limits j (drop (place + n) bs))
+  pub one_more_silent : (a : At) (s j : DecodeState) (bs : List ℕ) (place n : ℕ) → GoesSilently a (codec_at limits s (drop place bs)) → transition limits s (drop place bs) ≡ go None j n
+      → GoesSilently a (codec_at limits j (drop (place + n) bs))
   one_more_silent a s j bs place n silent e =
-      (suc silent.0, silent_more silent.0 a (standing limits s (drop place bs)) (standing limits j (drop (place + n) bs)) silent.1 (goes_from s j bs place n None e))
+      (suc silent.0, silent_more silent.0 a (codec_at limits s (drop place bs)) (codec_at limits j (drop (place + n) bs)) silent.1 (goes_from s j bs place n None e))
 
   -- one that tells an item is the last
-  pub comes_with_item : (a : At) (s j : DecodeState) (bs : List ℕ) (place n : ℕ) (x : Item) → GoesSilently a (standing limits s (drop place bs)) → transition limits s (drop place bs) ≡ go (Some x) j n
-      → ComesTo a (Some x) (standing limits j (drop (place + n) bs))
-  comes_with_item a s j bs place n x silent e = (standing limits s (drop place bs), silent, goes_from s j bs place n (Some x) e)
+  pub comes_with_item : (a : At) (s j : DecodeState) (bs : List ℕ) (place n : ℕ) (x : Item) → GoesSilently a (codec_at limits s (drop place bs)) → transition limits s (drop place bs) ≡ go (Some x) j n
+      → ComesTo a (Some x) (codec_at limits j (drop (place + n) bs))
+  comes_with_item a s j bs place n x silent e = (codec_at limits s (drop place bs), silent, goes_from s j bs place n (Some x) e)
 
   -- what is left at a stop
-  left_at_stop : (s : DecodeState) (bs : List ℕ) (place : ℕ) (to : DecodeState × ℕ) → to ≡ (waiting s (length bs - place), unneeded s (length bs - place))
-      → without_unneeded (standing limits s (drop place bs)) ≡ standing limits to.0 (drop (place + to.1) bs)
+  left_at_stop : (s : DecodeState) (bs : List ℕ) (place : ℕ) (to : DecodeState × ℕ) → to ≡ (without_needed s (length bs - place), unneeded s (length bs - place))
+      → without_unneeded (codec_at limits s (drop place bs)) ≡ codec_at limits to.0 (drop (place + to.1) bs)
   left_at_stop s bs place to gives =
       let here = drop place bs in
       let size : length here ≡ length bs - place = length-drop place bs in
-      let state : waiting s (length here) ≡ to.0 = ap (waiting s) size ∙ sym (ap (λ t. t.0) gives) in
+      let state : without_needed s (length here) ≡ to.0 = ap (without_needed s) size ∙ sym (ap (λ t. t.0) gives) in
       let count : unneeded s (length here) ≡ to.1 = ap (unneeded s) size ∙ sym (ap (λ t. t.1) gives) in
-      ap (λ i. standing limits i (drop (unneeded s (length here)) here)) state
-      ∙ ap (λ n. standing limits to.0 (drop n here)) count
-      ∙ ap (standing limits to.0) (beyond place to.1 bs)
+      ap (λ i. codec_at limits i (drop (unneeded s (length here)) here)) state
+      ∙ ap (λ n. codec_at limits to.0 (drop n here)) count
+      ∙ ap (codec_at limits to.0) (beyond place to.1 bs)
 
   -- one that stops is the last
-  pub comes_to_stop : (a : At) (s : DecodeState) (bs : List ℕ) (place : ℕ) (to : DecodeState × ℕ) → GoesSilently a (standing limits s (drop place bs)) → transition limits s (drop place bs) ≡ stop
-      → to ≡ (waiting s (length bs - place), unneeded s (length bs - place)) → ComesTo a None (standing limits to.0 (drop (place + to.1) bs))
-  comes_to_stop a s bs place to silent e gives = (standing limits s (drop place bs), silent, (subst Stands (sym e) tt, left_at_stop s bs place to gives))
+  pub comes_to_stop : (a : At) (s : DecodeState) (bs : List ℕ) (place : ℕ) (to : DecodeState × ℕ) → GoesSilently a (codec_at limits s (drop place bs)) → transition limits s (drop place bs) ≡ stop
+      → to ≡ (without_needed s (length bs - place), unneeded s (length bs - place)) → ComesTo a None (codec_at limits to.0 (drop (place + to.1) bs))
+  comes_to_stop a s bs place to silent e gives = (codec_at limits s (drop place bs), silent, (subst GoesNowhere (sym e) tt, left_at_stop s bs place to gives))
 
-  nothing_unneeded : (s : DecodeState) (h : List ℕ) → transition limits s h ≡ unfinished → without_unneeded (standing limits s h) ≡ standing limits s h
+  nothing_unneeded : (s : DecodeState) (h : List ℕ) → transition limits s h ≡ unfinished → without_unneeded (codec_at limits s h) ≡ codec_at limits s h
   nothing_unneeded Frame h e = refl
   nothing_unneeded Search h e = absurd (search_not_unfinished limits h e)
   nothing_unneeded (Body n) h e = refl
   nothing_unneeded (Skip n) h e = absurd (skip_not_unfinished limits n h e)
 
   -- so is one that finds the input unfinished
-  pub comes_unfinished : (a : At) (s : DecodeState) (h : List ℕ) → GoesSilently a (standing limits s h) → transition limits s h ≡ unfinished → ComesTo a None (standing limits s h)
-  comes_unfinished a s h silent e = (standing limits s h, silent, ((waits_unfinished limits s h e).0, nothing_unneeded s h e))
+  pub comes_unfinished : (a : At) (s : DecodeState) (h : List ℕ) → GoesSilently a (codec_at limits s h) → transition limits s h ≡ unfinished → ComesTo a None (codec_at limits s h)
+  comes_unfinished a s h silent e = (codec_at limits s h, silent, ((waits_unfinished limits s h e).0, nothing_unneeded s h e))

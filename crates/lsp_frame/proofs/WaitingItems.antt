@@ -3,8 +3,8 @@ use Rattle.std.proofs.Common.{◌≡◌, ℕ, zero, suc, ◌+◌, ◌-◌, ◌<�
 use Rattle.std.proofs.lemmas.Grind.{common_steps}
 use Rattle.std.specs.List.{starts_with}
 use Rattle.lsp_frame.specs.Transitions.{Item, Transition, stop, unfinished, go, transition, at_place, first_place}
-use Rattle.lsp_frame.specs.Items.{all_from, items_after, Stands, IsTrimmed}
-use Rattle.lsp_frame.specs.Kept.{unneeded, waiting}
+use Rattle.lsp_frame.specs.Items.{all_from, items_after, GoesNowhere, IsTrimmed}
+use Rattle.lsp_frame.specs.Kept.{unneeded, without_needed}
 use Rattle.lsp_frame.proofs.TransitionSteady.{front_decided, found_fits}
 use Rattle.lsp_frame.proofs.ItemsByTransition.{all_from-transition, none_at_stop}
 use Rattle.lsp_frame.specs.declared.limits.Limits.{Limits}
@@ -141,7 +141,7 @@ module _ (limits : Limits) where
 
   -- the items stay where a state that stops drops what it needs no more
   pub items_waiting : (s : DecodeState) (h : List ℕ) → transition limits s h ≡ stop → (last : List Item) (c : List ℕ)
-      → all_from limits last s (h ++ c) ≡ all_from limits last (waiting s (length h)) (drop (unneeded s (length h)) h ++ c)
+      → all_from limits last s (h ++ c) ≡ all_from limits last (without_needed s (length h)) (drop (unneeded s (length h)) h ++ c)
   items_waiting Frame h e last c = refl
   items_waiting Search h e last c = search_drop last (length h - 13) h c e (search_kept (length h))
   items_waiting (Body n) h e last c = refl
@@ -149,9 +149,9 @@ module _ (limits : Limits) where
 
   -- and there are none
   pub none_waiting : (s : DecodeState) (h : List ℕ) → transition limits s h ≡ stop → (last : List Item)
-      → all_from limits last (waiting s (length h)) (drop (unneeded s (length h)) h) ≡ []
+      → all_from limits last (without_needed s (length h)) (drop (unneeded s (length h)) h) ≡ []
   none_waiting s h e last =
-      ap (all_from limits last (waiting s (length h))) (sym (append-nil (drop (unneeded s (length h)) h)))
+      ap (all_from limits last (without_needed s (length h))) (sym (append-nil (drop (unneeded s (length h)) h)))
       ∙ sym (items_waiting s h e last [])
       ∙ ap (all_from limits last s) (append-nil h)
       ∙ none_at_stop limits last s h e
@@ -159,8 +159,8 @@ module _ (limits : Limits) where
   few_left : (h : List ℕ) → length (drop (length h - 13) h) ≤ 13
   few_left h = omega (arith, length-drop (length h - 13) h)
 
-  stands_at : (s : DecodeState) (bs : List ℕ) → transition limits s bs ≡ stop → Stands (transition limits s bs)
-  stands_at s bs e = subst Stands (sym e) tt
+  stands_at : (s : DecodeState) (bs : List ℕ) → transition limits s bs ≡ stop → GoesNowhere (transition limits s bs)
+  stands_at s bs e = subst GoesNowhere (sym e) tt
 
   empty_skip : (n : ℕ) (bs : List ℕ) → bs ≡ [] → 0 < n → transition limits (Skip n) bs ≡ stop
   empty_skip n bs e some = let there : nat_lt 0 n ≡ true = grind arith in rw e (rw there refl)
@@ -170,7 +170,7 @@ module _ (limits : Limits) where
 
   -- it waits there, with no more than it may need
   pub waits_there : (s : DecodeState) (h : List ℕ) → transition limits s h ≡ stop
-      → Stands (transition limits (waiting s (length h)) (drop (unneeded s (length h)) h)) × IsTrimmed (waiting s (length h)) (drop (unneeded s (length h)) h)
+      → GoesNowhere (transition limits (without_needed s (length h)) (drop (unneeded s (length h)) h)) × IsTrimmed (without_needed s (length h)) (drop (unneeded s (length h)) h)
   waits_there Frame h e = (stands_at Frame h e, tt)
   waits_there Search h e =
       let few = few_left h in
@@ -187,12 +187,12 @@ module _ (limits : Limits) where
   further n m xs = grind (arith, common_steps)
 
   module _ (s : DecodeState) (bs : List ℕ) (place : ℕ) (is : transition limits s (drop place bs) ≡ stop) (fits : place ≤ length bs) (to : DecodeState × ℕ)
-      (gives : to ≡ (waiting s (length bs - place), unneeded s (length bs - place))) where
+      (gives : to ≡ (without_needed s (length bs - place), unneeded s (length bs - place))) where
     size : length (drop place bs) ≡ length bs - place
     size = length-drop place bs
 
-    to_state : to.0 ≡ waiting s (length (drop place bs))
-    to_state = ap (λ t. t.0) gives ∙ ap (waiting s) (sym size)
+    to_state : to.0 ≡ without_needed s (length (drop place bs))
+    to_state = ap (λ t. t.0) gives ∙ ap (without_needed s) (sym size)
 
     to_bytes : drop (place + to.1) bs ≡ drop (unneeded s (length (drop place bs))) (drop place bs)
     to_bytes = ap (λ n. drop (place + n) bs) (ap (λ t. t.1) gives ∙ ap (unneeded s) (sym size)) ∙ sym (further place (unneeded s (length (drop place bs))) bs)
@@ -206,7 +206,7 @@ module _ (limits : Limits) where
     pub none_stopped : (last : List Item) → all_from limits last to.0 (drop (place + to.1) bs) ≡ []
     none_stopped last = rw (to_state, to_bytes) (none_waiting s (drop place bs) is last)
 
-    pub waits_stopped : Stands (transition limits to.0 (drop (place + to.1) bs)) × IsTrimmed to.0 (drop (place + to.1) bs)
+    pub waits_stopped : GoesNowhere (transition limits to.0 (drop (place + to.1) bs)) × IsTrimmed to.0 (drop (place + to.1) bs)
     waits_stopped = rw (to_state, to_bytes) (waits_there s (drop place bs) is)
 
   -- ---- where the input is unfinished
@@ -227,8 +227,8 @@ module _ (limits : Limits) where
       ends true e = absurd cc
       ends false e = absurd cc
 
-  pub waits_unfinished : (s : DecodeState) (h : List ℕ) → transition limits s h ≡ unfinished → Stands (transition limits s h) × IsTrimmed s h
-  waits_unfinished Frame h e = (subst Stands (sym e) tt, tt)
+  pub waits_unfinished : (s : DecodeState) (h : List ℕ) → transition limits s h ≡ unfinished → GoesNowhere (transition limits s h) × IsTrimmed s h
+  waits_unfinished Frame h e = (subst GoesNowhere (sym e) tt, tt)
   waits_unfinished Search h e = absurd (search_not_unfinished h e)
-  waits_unfinished (Body n) h e = (subst Stands (sym e) tt, tt)
+  waits_unfinished (Body n) h e = (subst GoesNowhere (sym e) tt, tt)
   waits_unfinished (Skip n) h e = absurd (skip_not_unfinished n h e)

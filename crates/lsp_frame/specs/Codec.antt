@@ -5,5 +5,5 @@ pub use Rattle.lsp_frame.specs.Items.{At, start, more, with_item, items_at, told
 pub use Rattle.lsp_frame.specs.Places.{ComesTo, HoldsEnd, IsStateAfter}
 pub use Rattle.lsp_frame.specs.Frames.{frame_text, frames, IsWithin, IsReadBack}
 pub use Rattle.lsp_frame.specs.Faults.{code_of_fault, text_of_fault}
-pub use Rattle.lsp_frame.specs.Shown.{shown, IsFloatFree}
-pub use Rattle.lsp_frame.specs.Calls.{Call, fed, gave, finished, encoded, failed, Gives, LeadsBy, Leads, bytes_fed, items_given, messages_encoded}
+pub use Rattle.lsp_frame.specs.Shown.{shown, DecodedIsFloatFree}
+pub use Rattle.lsp_frame.specs.Calls.{CodecCall, fed, gave, finished, encoded, failed, GivesItem, LeadsBy, Leads, bytes_fed, items_given, messages_encoded}

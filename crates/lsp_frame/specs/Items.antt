@@ -85,10 +85,10 @@ without_last_rest (x ∷ y ∷ ys) = x ∷ without_last_rest (y ∷ ys)
 -- ---- a codec that waits for bytes
 
 -- nothing goes on from here
-abbrev pub Stands : Transition → Type 0
-Stands stop = ⊤
-Stands unfinished = ⊤
-Stands (go x s n) = ⊥
+abbrev pub GoesNowhere : Transition → Type 0
+GoesNowhere stop = ⊤
+GoesNowhere unfinished = ⊤
+GoesNowhere (go x s n) = ⊥
 
 -- a search holds no more than the 13 bytes with which its text may begin, and a skip holds nothing
 abbrev pub IsTrimmed : DecodeState → List ℕ → Type 0
@@ -99,7 +99,7 @@ IsTrimmed (states.Skip n) bs = bs ≡ []
 
 -- the codec goes on nowhere until more is fed, and holds nothing that it needs no more
 abbrev pub IsWaiting : At → Type 0
-IsWaiting a = Stands (transition a.limits a.state a.held) × IsTrimmed a.state a.held
+IsWaiting a = GoesNowhere (transition a.limits a.state a.held) × IsTrimmed a.state a.held
 
 -- how many bytes a codec that waits holds at most
 abbrev pub most_held : Limits → ℕ

@@ -33,11 +33,11 @@ unneeded (Body n) len = 0
 unneeded (Skip n) len = len
 
 -- the state without them
-abbrev pub waiting : DecodeState → ℕ → DecodeState
-waiting Frame len = Frame
-waiting Search len = Search
-waiting (Body n) len = Body n
-waiting (Skip n) len = Skip (n - len)
+abbrev pub without_needed : DecodeState → ℕ → DecodeState
+without_needed Frame len = Frame
+without_needed Search len = Search
+without_needed (Body n) len = Body n
+without_needed (Skip n) len = Skip (n - len)
 
 -- a body that isn't empty is here, whole
 abbrev pub IsBodyHere : DecodeState → List ℕ → Type 0

@@ -8,7 +8,7 @@ use Rattle.lsp_frame.specs.Frames.{framed, frames, IsBodyWithin, IsWithin, IsRea
 use Rattle.lsp_frame.specs.Transitions.{Item, message, go, transition, body_item}
 use Rattle.lsp_frame.specs.Items.{At, start, all_from, items_after, items_at, told_at, items, told, without_last_rest}
 use Rattle.lsp_frame.specs.Places.{ComesTo}
-use Rattle.lsp_frame.specs.Calls.{Call, Leads, bytes_fed, items_given, messages_encoded}
+use Rattle.lsp_frame.specs.Calls.{CodecCall, Leads, bytes_fed, items_given, messages_encoded}
 use Rattle.lsp_frame.specs.declared.limits.Limits.{Limits}
 use Rattle.lsp_frame.specs.declared.decode_state.DecodeState.{DecodeState}
 use Rattle.lsp_frame.specs.declared.decode_state.DecodeState.TheVariants.{Frame, Search, Body, Skip}
@@ -49,7 +49,7 @@ ToldStays = (limits : Limits) (b c : List ℕ)
 
 -- over any list of calls, also those that fail, the items given, followed by those that are left, are those of all the bytes fed
 abbrev pub GivesAll : Type 0
-GivesAll = (limits : Limits) (calls : List Call) (a : At) → Leads calls (start limits) a
+GivesAll = (limits : Limits) (calls : List CodecCall) (a : At) → Leads calls (start limits) a
     → (told limits (bytes_fed calls) ≡ items_given calls ++ told_at a)
     × (items limits (bytes_fed calls) ≡ items_given calls ++ items_at a)
     × (a.limits ≡ limits)
@@ -76,5 +76,5 @@ AreReadable limits (m ∷ ms) = (IsReadable m × IsWithin limits m) × AreReadab
 
 -- what a list of calls encoded is read, by any codec whose limits allow it, as the messages that were encoded, if these can be read back
 abbrev pub EncodedRead : Type 0
-EncodedRead = (limits : Limits) (calls : List Call) (a b : At) (c : List ℕ) → Leads calls a b → AreReadable limits (messages_encoded calls)
+EncodedRead = (limits : Limits) (calls : List CodecCall) (a b : At) (c : List ℕ) → Leads calls a b → AreReadable limits (messages_encoded calls)
     → items limits (frames (messages_encoded calls) ++ c) ≡ map message (messages_encoded calls) ++ items limits c

@@ -1,20 +1,20 @@
 -- Where decoding comes to, with its next item or without one.
 use Rattle.std.specs.Prelude.{◌≡◌, ℕ, zero, suc, ◌<◌, ◌⊎◌, List, ◌++◌, length, drop, Option, Some, None}
 use Rattle.lsp_frame.specs.Transitions.{Item, message, fault, go, transition}
-use Rattle.lsp_frame.specs.Items.{At, Stands}
-use Rattle.lsp_frame.specs.Kept.{unneeded, waiting}
+use Rattle.lsp_frame.specs.Items.{At, GoesNowhere}
+use Rattle.lsp_frame.specs.Kept.{unneeded, without_needed}
 use Rattle.lsp_frame.specs.declared.limits.Limits.{Limits}
 use Rattle.lsp_frame.specs.declared.parse_error.ParseError.TheVariants.{Headers, MissingContentLength, InvalidContentType, InvalidContentLength, Utf8, Body, Rest, HeadTooLong, BodyTooLong}
 use Rattle.lsp_frame.specs.declared.decode_state.DecodeState.{DecodeState}
 use Rattle.lsp_frame.specs.declared.decode_state.DecodeState.TheVariants as states
 
 -- a codec in this state that holds these bytes
-abbrev pub standing : Limits → DecodeState → List ℕ → At
-standing limits s bs = record { limits = limits; state = s; held = bs }
+abbrev pub codec_at : Limits → DecodeState → List ℕ → At
+codec_at limits s bs = record { limits = limits; state = s; held = bs }
 
 -- in this state, after so many bytes
 abbrev pub further : At → DecodeState → ℕ → At
-further a s n = standing a.limits s (drop n a.held)
+further a s n = codec_at a.limits s (drop n a.held)
 
 -- the transition at a tells this item, or none, and goes on at b
 abbrev pub GoesOn : At → Option Item → At → Type 0
@@ -31,12 +31,12 @@ GoesSilently a b = (count : ℕ) × SilentBy count a b
 
 -- a codec that stops, without the bytes that it needs no more
 abbrev pub without_unneeded : At → At
-without_unneeded a = further a (waiting a.state (length a.held)) (unneeded a.state (length a.held))
+without_unneeded a = further a (without_needed a.state (length a.held)) (unneeded a.state (length a.held))
 
 -- the transition at a tells an item and goes on at b; or it goes on nowhere, and b is a without the bytes that it needs no more
 abbrev pub EndsAt : At → Option Item → At → Type 0
 EndsAt a (Some x) b = GoesOn a (Some x) b
-EndsAt a None b = Stands (transition a.limits a.state a.held) × (without_unneeded a ≡ b)
+EndsAt a None b = GoesNowhere (transition a.limits a.state a.held) × (without_unneeded a ≡ b)
 
 -- from a decoding comes to b: by transitions that tell nothing up to the first that tells an item, or that goes on nowhere
 abbrev pub ComesTo : At → Option Item → At → Type 0

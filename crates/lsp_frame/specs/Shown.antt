@@ -46,7 +46,7 @@ shown (decodeds.Fault e) = Some (fault e)
 shown decodeds.More = None
 
 -- the message that `decode` gives holds no float
-abbrev pub IsFloatFree : Decoded → Type 0
-IsFloatFree (decodeds.Item m) = message_has_float (show_message m) ≡ false
-IsFloatFree (decodeds.Fault e) = ⊤
-IsFloatFree decodeds.More = ⊤
+abbrev pub DecodedIsFloatFree : Decoded → Type 0
+DecodedIsFloatFree (decodeds.Item m) = message_has_float (show_message m) ≡ false
+DecodedIsFloatFree (decodeds.Fault e) = ⊤
+DecodedIsFloatFree decodeds.More = ⊤

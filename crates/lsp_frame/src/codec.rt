@@ -8,7 +8,7 @@ ghost use Rattle.lsp_frame.specs.Transitions.{fault, message as message_item};
 ghost use Rattle.lsp_frame.specs.Items.{start, more, items, items_at, told_at, with_item, IsWaiting, most_held, AreLimits, default_limits};
 ghost use Rattle.lsp_frame.specs.Places.{ComesTo, HoldsEnd, IsStateAfter};
 ghost use Rattle.lsp_frame.specs.Frames.{frame_text, IsWithin, IsReadBack};
-ghost use Rattle.lsp_frame.specs.Shown.{shown, show_found, IsFloatFree, IsFoundFloatFree};
+ghost use Rattle.lsp_frame.specs.Shown.{shown, show_found, DecodedIsFloatFree, IsFoundFloatFree};
 
 use crate::decode_state::DecodeState;
 use crate::encode::push_message;
@@ -36,7 +36,7 @@ pub enum Decoded {
 // What is answered where this item comes next.
 fn answer_of(item: Option<Result<Message, ParseError>>) -> Decoded
     ensures value { shown result ≡ option_map show_found item }
-    ensures floats { IsFoundFloatFree item → IsFloatFree result }
+    ensures floats { IsFoundFloatFree item → DecodedIsFloatFree result }
 {
     match item {
         Some(Ok(message)) => Decoded::Item(message),
@@ -138,7 +138,7 @@ impl LanguageServerCodec {
         ensures trimmed { IfOk result (λ d. shown d ≡ None → IsWaiting self.new) }
         ensures held { IfOk result (λ d. shown d ≡ None
             → length self.new.held ≤ most_held self.new.limits) }
-        ensures floats { IfOk result (λ d. IsFloatFree d) }
+        ensures floats { IfOk result (λ d. DecodedIsFloatFree d) }
         ensures limits { OnOk result (self.new.limits ≡ self.old.limits) }
         ensures err { OnErr result (self.new ≡ self.old) }
         // Memory is taken for an item alone.

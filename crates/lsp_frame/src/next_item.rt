@@ -1,9 +1,9 @@
 // The transitions up to the next item.
 ghost use Rattle.std.specs.Prelude.{◌≡◌, ◌≢◌, ◌≤◌, ◌+◌, ◌++◌, ◌-◌, ◌⊎◌, [], ℕ, List, length, drop, option_map, IfOk, OnErr, None, if◌then◌else◌};
 ghost use Rattle.lsp_frame.specs.Transitions.{Item, transition as transition_of};
-ghost use Rattle.lsp_frame.specs.Items.{all_from, with_item, Stands, IsTrimmed};
-ghost use Rattle.lsp_frame.specs.Kept.{IsLooked, IsAllowed, IsBodyHere, unneeded, waiting as waiting_state};
-ghost use Rattle.lsp_frame.specs.Places.{standing, ComesTo};
+ghost use Rattle.lsp_frame.specs.Items.{all_from, with_item, GoesNowhere, IsTrimmed};
+ghost use Rattle.lsp_frame.specs.Kept.{IsLooked, IsAllowed, IsBodyHere, unneeded, without_needed as waiting_state};
+ghost use Rattle.lsp_frame.specs.Places.{codec_at, ComesTo};
 ghost use Rattle.lsp_frame.specs.Shown.{show_found, show_transition, IsWithinBytes, IsItemFloatFree, IsFoundFloatFree};
 
 use crate::decode_state::DecodeState;
@@ -77,9 +77,9 @@ pub(crate) fn find_next(
     requires clear { IsLooked bytes.now looked }
     requires allowed { IsAllowed limits state }
     ensures within { IfOk result (λ r. r.consumed ≤ length bytes.now) }
-    ensures place { IfOk result (λ r. ComesTo (standing limits state bytes.now)
+    ensures place { IfOk result (λ r. ComesTo (codec_at limits state bytes.now)
         (option_map show_found r.item)
-        (standing limits r.state (drop r.consumed bytes.now))) }
+        (codec_at limits r.state (drop r.consumed bytes.now))) }
     ensures goes { IfOk result (λ r. (last : List Item) (c : List ℕ)
         → all_from limits last state (bytes.now ++ c)
         ≡ with_item (option_map show_found r.item) (all_from limits last r.state
@@ -88,7 +88,7 @@ pub(crate) fn find_next(
         → all_from limits last r.state (drop r.consumed bytes.now)
         ≡ (if r.unfinished then last else [])) }
     ensures waits { IfOk result (λ r. r.item ≡ None
-        → Stands (transition_of limits r.state (drop r.consumed bytes.now))
+        → GoesNowhere (transition_of limits r.state (drop r.consumed bytes.now))
         × IsTrimmed r.state (drop r.consumed bytes.now)) }
     ensures allowed { IfOk result (λ r. IsAllowed limits r.state) }
     ensures clear { IfOk result (λ r. IsLooked (drop r.consumed bytes.now) r.looked) }

@@ -6,9 +6,9 @@ use Rattle.lsp_rpc.specs.Message.{IdData, ErrorData, RequestData, MessageData, r
 use Rattle.lsp_rpc.specs.Ids.{same_id}
 use Rattle.lsp_proxy.specs.declared.side.Side.{Side}
 use Rattle.lsp_proxy.specs.declared.side.Side.TheVariants.{Server, Editor}
-use Rattle.lsp_proxy.specs.Entries.{AskerData, Entry, asker_at, without}
-use Rattle.lsp_proxy.specs.Proxy.{State, Sent, Outcome, Opening, awaited, bare, refused, answers_internal, cancel_note, cancel_limit, shutdown_request, exit_note, is_of, cancel_passed, asked_place, cancel_target, answered_to, opening_after, is_here_in, is_here, first_requested, cancel_entry, here_from, opening_state}
-use Rattle.lsp_proxy.specs.Law.{Event, react, sent_over, one_if, same_side, is_response_at, responses_at, has_id, is_request_at, requests_at, responses_to, requests_of}
+use Rattle.lsp_proxy.specs.Entries.{AskerData, Entry, asker_at, without_entry}
+use Rattle.lsp_proxy.specs.Proxy.{ProxyState, Sent, Outcome, Opening, awaited, bare, refused, answers_internal, cancel_note, cancel_limit, shutdown_request, exit_note, is_asked_by, cancel_passed, asked_place, cancel_target, answered_to, opening_after, is_here_in, is_here, first_requested, cancel_entry, here_from, opening_state}
+use Rattle.lsp_proxy.specs.Law.{Event, react, sent_over, one_if, same_side, is_response_at, responses_at, is_same_id, is_request_at, requests_at, responses_to, times_requested}
 use Rattle.lsp_proxy.proofs.RowLemmas.{Row, idle, begins, waits, shuts, passes, answers, announces, notes, cancels, leaves, closes, ends, replies, stray, is_shut, opens, returns, calls, refuses, server_cancels, tells, event_of, after, sent_at, by_rows}
 
 -- ---- sums
@@ -32,13 +32,13 @@ total-filter f p (x ∷ xs) = go (p x) (total-filter f p xs)
     go true more = omega (arith, more)
     go false more = omega (arith, more)
 
-total-without : (f : AskerData → ℕ) (n : ℕ) (a : AskerData) (es : List Entry) → asker_at n es ≡ Some a → total (λ e. f e.asker) (without n es) + f a ≡ total (λ e. f e.asker) es
+total-without : (f : AskerData → ℕ) (n : ℕ) (a : AskerData) (es : List Entry) → asker_at n es ≡ Some a → total (λ e. f e.asker) (without_entry n es) + f a ≡ total (λ e. f e.asker) es
 unfolding total
 total-without f n a [] at = absurd (cc)
 total-without f n a (e ∷ es) at = go (n == e.n) at (total-without f n a es)
   where
-    go : (b : Bool) → cond b (Some e.asker) (asker_at n es) ≡ Some a → (asker_at n es ≡ Some a → total (λ x. f x.asker) (without n es) + f a ≡ total (λ x. f x.asker) es)
-        → total (λ x. f x.asker) (cond b es (e ∷ without n es)) + f a ≡ f e.asker + total (λ x. f x.asker) es
+    go : (b : Bool) → cond b (Some e.asker) (asker_at n es) ≡ Some a → (asker_at n es ≡ Some a → total (λ x. f x.asker) (without_entry n es) + f a ≡ total (λ x. f x.asker) es)
+        → total (λ x. f x.asker) (cond b es (e ∷ without_entry n es)) + f a ≡ f e.asker + total (λ x. f x.asker) es
     go true at later =
         let same : e.asker ≡ a = cc in
         let ones : f e.asker ≡ f a = ap f same in
@@ -61,10 +61,10 @@ module _ (side : Side) (i : IdData) where
   in_opening other = 0
 
   -- the responses that the side may still get under the id
-  abbrev pending : State → ℕ
+  abbrev pending : ProxyState → ℕ
   pending s = total (λ e. owed_asker e.asker) s.asked + in_opening s.opening + total (λ e. owed_server e.asker) s.requested
 
-  abbrev Bound : State → Event → Outcome → Type 0
+  abbrev Bound : ProxyState → Event → Outcome → Type 0
   Bound s e o = responses_at side i o.1 + pending o.0 ≤ pending s + one_if (is_request_at side i e)
 
   -- ---- responses among what is sent
@@ -117,18 +117,18 @@ module _ (side : Side) (i : IdData) where
 
   -- a request under an id pays for one response under it
   paid : (from : Side) (r : RequestData) (id : IdData) → r.id ≡ Some id → one_if (is_request_at side i (from, request r)) ≡ owed from id
-  paid from r id under = ap (λ o. one_if (same_side side from && has_id i o)) under
+  paid from r id under = ap (λ o. one_if (same_side side from && is_same_id i o)) under
 
   -- an editor leaves, and one more request is sent or none
-  left_pays : (k : ℕ) (s : State) (m : MessageData) → is_response_at side i (Server, m) ≡ false → responses_at side i (answers_internal k s.requested ++ (Server, m) ∷ []) + total (λ e. owed_server e.asker) (filter (λ e. not (is_of k e)) s.requested) ≡ total (λ e. owed_server e.asker) s.requested
+  left_pays : (k : ℕ) (s : ProxyState) (m : MessageData) → is_response_at side i (Server, m) ≡ false → responses_at side i (answers_internal k s.requested ++ (Server, m) ∷ []) + total (λ e. owed_server e.asker) (filter (λ e. not (is_asked_by k e)) s.requested) ≡ total (λ e. owed_server e.asker) s.requested
   left_pays k s m none =
       let one : one_if (is_response_at side i (Server, m)) ≡ 0 = ap one_if none in
       let all = responses-append (answers_internal k s.requested) ((Server, m) ∷ []) in
-      let refusals = all_refused (filter (is_of k) s.requested) in
-      let parts = total-filter (λ e. owed_server e.asker) (is_of k) s.requested in
+      let refusals = all_refused (filter (is_asked_by k) s.requested) in
+      let parts = total-filter (λ e. owed_server e.asker) (is_asked_by k) s.requested in
       omega (arith, all, one, refusals, parts)
 
-  bound_row : (s : State) (x : Row s) → Bound s (event_of x) (after x, sent_at x)
+  bound_row : (s : ProxyState) (x : Row s) → Bound s (event_of x) (after x, sent_at x)
   unfolding in_opening total
   bound_row s (begins k r id under method is) =
       let pays = paid (Editor k) r id under in
@@ -147,8 +147,8 @@ module _ (side : Side) (i : IdData) where
   bound_row s (answers k r id body under own here) = let pays = paid (Editor k) r id under in omega (arith, pays)
   bound_row s (cancels k r) = let none = none_cancel Server (asked_place k (cancel_target r.params) s) in omega (arith, none)
   bound_row s (leaves k r exit) =
-      let refusals = all_refused (filter (is_of k) s.requested) in
-      let parts = total-filter (λ e. owed_server e.asker) (is_of k) s.requested in
+      let refusals = all_refused (filter (is_asked_by k) s.requested) in
+      let parts = total-filter (λ e. owed_server e.asker) (is_asked_by k) s.requested in
       omega (arith, refusals, parts)
   bound_row s (closes k r exit) = let parts = left_pays k s (shutdown_request s.next) refl in omega (arith, parts)
   bound_row s (ends k r exit) = let parts = left_pays k s exit_note refl in omega (arith, parts)
@@ -177,7 +177,7 @@ module _ (side : Side) (i : IdData) where
 
   -- ---- over all events
 
-  over_all : (es : List Event) (s : State) → responses_at side i (sent_over es s) ≤ pending s + requests_at side i es
+  over_all : (es : List Event) (s : ProxyState) → responses_at side i (sent_over es s) ≤ pending s + requests_at side i es
   over_all [] s = omega arith
   over_all (e ∷ es) s =
       let here = by_rows (λ t d o. Bound t d o) bound_row s e in
@@ -189,5 +189,5 @@ module _ (side : Side) (i : IdData) where
   unfolding in_opening total
   at_most_sent editors es = let all = over_all es (opening_state editors) in omega (arith, all)
 
-pub at_most_asked : (k : ℕ) (i : IdData) (editors : ℕ) (es : List Event) → responses_to k i (sent_over es (opening_state editors)) ≤ requests_of k i es
+pub at_most_asked : (k : ℕ) (i : IdData) (editors : ℕ) (es : List Event) → responses_to k i (sent_over es (opening_state editors)) ≤ times_requested k i es
 at_most_asked k i editors es = at_most_sent (Editor k) i editors es

@@ -8,7 +8,7 @@ use Rattle.lsp_rpc.specs.Ids.{same_id, same_id-Decides}
 use Rattle.lsp_proxy.specs.declared.side.Side.{Side}
 use Rattle.lsp_proxy.specs.declared.side.Side.TheVariants.{Server, Editor}
 use Rattle.lsp_proxy.specs.Entries.{AskerData, Entry}
-use Rattle.lsp_proxy.specs.Proxy.{State, Sent, Outcome, drawn, bare, cancel_limit, shutdown_request, exit_note, refused, answers_internal, cancel_note, is_of, cancel_passed, asked_place, cancel_target, answered_to, is_here_in, is_here, first_requested, cancel_entry, here_from}
+use Rattle.lsp_proxy.specs.Proxy.{ProxyState, Sent, Outcome, drawn, bare, cancel_limit, shutdown_request, exit_note, refused, answers_internal, cancel_note, is_asked_by, cancel_passed, asked_place, cancel_target, answered_to, is_here_in, is_here, first_requested, cancel_entry, here_from}
 use Rattle.lsp_proxy.specs.Law.{Event, react, sent_over, request_ids, with_id_of, with_some, AreDistinct}
 use Rattle.lsp_proxy.proofs.RowLemmas.{Row, begins, passes, leaves, closes, ends, cancels, opens, returns, calls, server_cancels, tells, after, sent_at, by_rows}
 
@@ -57,19 +57,19 @@ no_ids_returned false body a = refl
 -- ---- row by row
 
 -- nothing is drawn, or the next id is
-abbrev Draws : State → Outcome → Type 0
+abbrev Draws : ProxyState → Outcome → Type 0
 Draws s o = ((request_ids o.1 ≡ []) × (o.0.next ≡ s.next)) ⊎ ((request_ids o.1 ≡ drawn s.next ∷ []) × (o.0.next ≡ s.next + 1))
 
 -- one more message after the refusals of an editor's
-ids_last : (k : ℕ) (s : State) (m : MessageData) → request_ids (answers_internal k s.requested ++ (Server, m) ∷ []) ≡ with_id_of m []
+ids_last : (k : ℕ) (s : ProxyState) (m : MessageData) → request_ids (answers_internal k s.requested ++ (Server, m) ∷ []) ≡ with_id_of m []
 ids_last k s m =
     request_ids-append (answers_internal k s.requested) ((Server, m) ∷ [])
-    ∙ ap (λ ids. ids ++ with_id_of m []) (no_ids_refused (filter (is_of k) s.requested))
+    ∙ ap (λ ids. ids ++ with_id_of m []) (no_ids_refused (filter (is_asked_by k) s.requested))
 
-draws_row : (s : State) (x : Row s) → Draws s (after x, sent_at x)
+draws_row : (s : ProxyState) (x : Row s) → Draws s (after x, sent_at x)
 draws_row s (begins k r i under method is) = inr (refl, refl)
 draws_row s (passes k r i under) = inr (refl, refl)
-draws_row s (leaves k r exit) = inl (no_ids_refused (filter (is_of k) s.requested), refl)
+draws_row s (leaves k r exit) = inl (no_ids_refused (filter (is_asked_by k) s.requested), refl)
 draws_row s (closes k r exit) = inr (ids_last k s (shutdown_request s.next), refl)
 draws_row s (ends k r exit) = inl (ids_last k s exit_note, refl)
 draws_row s (cancels k r) = inl (no_ids_cancel Server (asked_place k (cancel_target r.params) s), refl)
@@ -80,7 +80,7 @@ draws_row s (server_cancels r) = inl (no_ids_entry (option_and_then (λ i. first
 draws_row s (tells r) = inl (no_ids_noted r (here_from 0 s.editors), refl)
 draws_row s other = inl (refl, refl)
 
-draws : (e : Event) (s : State) → Draws s (react e s)
+draws : (e : Event) (s : ProxyState) → Draws s (react e s)
 draws e s = by_rows (λ t d o. Draws t o) draws_row s e
 
 -- ---- over all events
@@ -89,13 +89,13 @@ abbrev IsFrom : ℕ → List IdData → Type 0
 IsFrom n [] = ⊤
 IsFrom n (i ∷ ids) = (m : ℕ) × (i ≡ drawn m) × (n ≤ m) × IsFrom (m + 1) ids
 
-from_step : (o : Outcome) (ids : List IdData) (s : State) → Draws s o → IsFrom o.0.next ids → IsFrom s.next (request_ids o.1 ++ ids)
+from_step : (o : Outcome) (ids : List IdData) (s : ProxyState) → Draws s o → IsFrom o.0.next ids → IsFrom s.next (request_ids o.1 ++ ids)
 from_step o ids s (inl none) later = subst (λ l. IsFrom s.next (l ++ ids)) (sym none.0) (subst (λ n. IsFrom n ids) none.1 later)
 from_step o ids s (inr one) later =
     let rest : IsFrom (s.next + 1) ids = subst (λ n. IsFrom n ids) one.1 later in
     subst (λ l. IsFrom s.next (l ++ ids)) (sym one.0) (s.next, refl, omega arith, rest)
 
-from_next : (es : List Event) (s : State) → IsFrom s.next (request_ids (sent_over es s))
+from_next : (es : List Event) (s : ProxyState) → IsFrom s.next (request_ids (sent_over es s))
 from_next [] s = tt
 from_next (e ∷ es) s = subst (IsFrom s.next) (sym (request_ids-append (react e s).1 (sent_over es (react e s).0))) (from_step (react e s) (request_ids (sent_over es (react e s).0)) s (draws e s) (from_next es (react e s).0))
 
@@ -120,5 +120,5 @@ distinct_from n (i ∷ ids) h = (
   distinct_from (h.0 + 1) ids h.3,
 )
 
-pub ids_distinct : (es : List Event) (s : State) → AreDistinct (request_ids (sent_over es s))
+pub ids_distinct : (es : List Event) (s : ProxyState) → AreDistinct (request_ids (sent_over es s))
 ids_distinct es s = distinct_from s.next (request_ids (sent_over es s)) (from_next es s)

@@ -9,9 +9,9 @@ use Rattle.lsp_rpc.specs.Message.{IdData, number_id, text_id, null_id, ErrorData
 use Rattle.lsp_rpc.specs.Ids.{same_id-Decides}
 use Rattle.lsp_proxy.specs.declared.side.Side.{Side}
 use Rattle.lsp_proxy.specs.declared.side.Side.TheVariants.{Server, Editor}
-use Rattle.lsp_proxy.specs.Entries.{AskerData, Entry, asker_at, without, AreBelow}
-use Rattle.lsp_proxy.specs.Proxy.{State, Sent, Opening, unopened, awaited, opened, answer, drawn, drawn_of, bare, cancel_limit, cancel_note, shutdown_request, exit_note, refused, is_of, cancel_passed, asked_place, cancel_target, answered_to, opening_after, is_here_in, is_here, is_closing, first_requested, cancel_entry, here_from}
-use Rattle.lsp_proxy.specs.Law.{Event, react, has_id, is_request_of}
+use Rattle.lsp_proxy.specs.Entries.{AskerData, Entry, asker_at, without_entry, AreBelow}
+use Rattle.lsp_proxy.specs.Proxy.{ProxyState, Sent, Opening, unopened, awaited, opened, response_to, drawn, drawn_of, bare, cancel_limit, cancel_note, shutdown_request, exit_note, refused, is_asked_by, cancel_passed, asked_place, cancel_target, answered_to, opening_after, is_here_in, is_here, is_closing, first_requested, cancel_entry, here_from}
+use Rattle.lsp_proxy.specs.Law.{Event, react, is_same_id, is_request_of}
 use Rattle.lsp_proxy.specs.Origin.{state_of, is_drawn, is_response_under, WasPassed, HasInitialized, AwaitsInitialize, since_initialize, HasAnswered, IsOwn, HasOrigin}
 use Rattle.lsp_proxy.proofs.EntryLemmas.{below_head, below_tail, below_cons}
 use Rattle.lsp_proxy.proofs.ProxyLemmas.{below_next, below_pushed, below-without}
@@ -70,36 +70,36 @@ numbered_pushed n a (e ∷ es) h below = (
   numbered_pushed n a es h.1 (below_tail n e es below),
 )
 
-asker_at-without : (m n : ℕ) (es : List Entry) → asker_at m es ≡ None → asker_at m (without n es) ≡ None
+asker_at-without : (m n : ℕ) (es : List Entry) → asker_at m es ≡ None → asker_at m (without_entry n es) ≡ None
 asker_at-without m n [] h = refl
 asker_at-without m n (e ∷ es) h = go (n == e.n) (differs m e es h) (asker_at-without m n es)
   where
-    go : (b : Bool) → ((m == e.n) ≡ false) × (asker_at m es ≡ None) → (asker_at m es ≡ None → asker_at m (without n es) ≡ None) → asker_at m (cond b es (e ∷ without n es)) ≡ None
+    go : (b : Bool) → ((m == e.n) ≡ false) × (asker_at m es ≡ None) → (asker_at m es ≡ None → asker_at m (without_entry n es) ≡ None) → asker_at m (cond b es (e ∷ without_entry n es)) ≡ None
     go true d later = d.1
-    go false d later = ap (λ b. cond b (Some e.asker) (asker_at m (without n es))) d.0 ∙ later d.1
+    go false d later = ap (λ b. cond b (Some e.asker) (asker_at m (without_entry n es))) d.0 ∙ later d.1
 
-numbered-without : (n : ℕ) (es : List Entry) → AreNumbered es → AreNumbered (without n es)
+numbered-without : (n : ℕ) (es : List Entry) → AreNumbered es → AreNumbered (without_entry n es)
 numbered-without n [] h = tt
 numbered-without n (e ∷ es) h = go (n == e.n) (numbered-without n es h.1)
   where
-    go : (b : Bool) → AreNumbered (without n es) → AreNumbered (cond b es (e ∷ without n es))
+    go : (b : Bool) → AreNumbered (without_entry n es) → AreNumbered (cond b es (e ∷ without_entry n es))
     go true later = h.1
     go false later = (asker_at-without e.n n es h.0, later)
 
 -- what was taken out isn't there again
-gone_without : (n : ℕ) (es : List Entry) → AreNumbered es → asker_at n (without n es) ≡ None
+gone_without : (n : ℕ) (es : List Entry) → AreNumbered es → asker_at n (without_entry n es) ≡ None
 gone_without n [] h = refl
 gone_without n (e ∷ es) h = go (n == e.n) refl (gone_without n es h.1)
   where
-    go : (b : Bool) → (n == e.n) ≡ b → asker_at n (without n es) ≡ None → asker_at n (cond b es (e ∷ without n es)) ≡ None
+    go : (b : Bool) → (n == e.n) ≡ b → asker_at n (without_entry n es) ≡ None → asker_at n (cond b es (e ∷ without_entry n es)) ≡ None
     go true is later = ap (λ m. asker_at m es) (eqb-true n e.n is) ∙ h.0
-    go false is later = ap (λ b. cond b (Some e.asker) (asker_at n (without n es))) is ∙ later
+    go false is later = ap (λ b. cond b (Some e.asker) (asker_at n (without_entry n es))) is ∙ later
 
-all_without : (P : Entry → Type 0) (n : ℕ) (es : List Entry) → AllByRecursion P es → AllByRecursion P (without n es)
+all_without : (P : Entry → Type 0) (n : ℕ) (es : List Entry) → AllByRecursion P es → AllByRecursion P (without_entry n es)
 all_without P n [] h = tt
 all_without P n (e ∷ es) h = go (n == e.n) (all_without P n es h.1)
   where
-    go : (b : Bool) → AllByRecursion P (without n es) → AllByRecursion P (cond b es (e ∷ without n es))
+    go : (b : Bool) → AllByRecursion P (without_entry n es) → AllByRecursion P (cond b es (e ∷ without_entry n es))
     go true later = h.1
     go false later = (h.0, later)
 
@@ -199,7 +199,7 @@ module _ (editors : ℕ) where
     shut : ClosingIs next asked closing
     begun : OpeningIs h (IsApart next asked closing) opening
 
-  abbrev KnownOf : List Event → State → Type 0
+  abbrev KnownOf : List Event → ProxyState → Type 0
   KnownOf h s = Known h s.next s.asked s.closing s.opening
 
   closing_more : (a b : ℕ) (es : List Entry) (o : Option ℕ) → a ≤ b → ClosingIs a es o → ClosingIs b es o
@@ -268,13 +268,13 @@ module _ (editors : ℕ) where
   drawn_is (text_id t) n is = absurd (cc)
   drawn_is null_id n is = absurd (cc)
 
-  event_is : (r : ResponseData) (n : ℕ) → drawn_of r.id ≡ Some n → ◌≡◌ {A = Event} (Server, response r) (Server, answer (drawn n) r.body)
+  event_is : (r : ResponseData) (n : ℕ) → drawn_of r.id ≡ Some n → ◌≡◌ {A = Event} (Server, response r) (Server, response_to (drawn n) r.body)
   event_is r n is =
-      let under : IdData → Event = λ i. (Server, answer i r.body) in
+      let under : IdData → Event = λ i. (Server, response_to i r.body) in
       ap under (drawn_is r.id n is)
 
   module _ (h : List Event) (known : KnownOf h (state_of editors h)) where
-    abbrev s : State
+    abbrev s : ProxyState
     s = state_of editors h
 
     -- ---- the state after each row
@@ -334,7 +334,7 @@ module _ (editors : ℕ) where
     closing_pushed None x at c = tt
     closing_pushed (Some m) x at c = (omega (arith, c.0), asker_at-append m x s.asked c.1 (eqb-less m x.n (omega (arith, at, c.0))))
 
-    closing_without : (n : ℕ) (o : Option ℕ) → ClosingIs s.next s.asked o → ClosingIs s.next (without n s.asked) o
+    closing_without : (n : ℕ) (o : Option ℕ) → ClosingIs s.next s.asked o → ClosingIs s.next (without_entry n s.asked) o
     unfolding ClosingIs
     closing_without n None c = tt
     closing_without n (Some m) c = (c.0, asker_at-without m n s.asked c.1)
@@ -343,7 +343,7 @@ module _ (editors : ℕ) where
         → OpeningIs ((Server, response r) ∷ h) (IsApart s.next s.asked s.closing) (opening_after body)
     unfolding OpeningIs
     settled_is r n (Ok v) is at awaits =
-        let with_body : Result Data ErrorData → List Event = λ b. (Server, answer (drawn n) b) ∷ h in
+        let with_body : Result Data ErrorData → List Event = λ b. (Server, response_to (drawn n) b) ∷ h in
         let first : Event → List Event = λ x. x ∷ h in
         record { later = []; earlier = h; n = n; split = ap first (event_is r n is) ∙ ap with_body at; awaits = awaits }
     settled_is r n (Err x) is at awaits = tt
@@ -438,9 +438,9 @@ module _ (editors : ℕ) where
     known_row (returns r n a under at apart) made = record {
       below = below-without s.next n s.asked known.below;
       numbered = numbered-without n s.asked known.numbered;
-      passed = all_passed_later h (Server, response r) (without n s.asked) (none_under n r (without n s.asked) under (gone_without n s.asked known.numbered)) (all_without (PassedOn h) n s.asked known.passed);
+      passed = all_passed_later h (Server, response r) (without_entry n s.asked) (none_under n r (without_entry n s.asked) under (gone_without n s.asked known.numbered)) (all_without (PassedOn h) n s.asked known.passed);
       shut = closing_without n s.closing known.shut;
-      begun = opening_later h (Server, response r) (IsApart s.next s.asked s.closing) (IsApart s.next (without n s.asked) s.closing) s.opening
+      begun = opening_later h (Server, response r) (IsApart s.next s.asked s.closing) (IsApart s.next (without_entry n s.asked) s.closing) s.opening
           (λ m x. (x.0, (asker_at-without m n s.asked x.1.0, x.1.1))) (leaves_awaited r n s.opening under apart) known.begun;
     }
     known_row (calls k r i under to) made =
@@ -460,7 +460,7 @@ module _ (editors : ℕ) where
     -- ---- what each row sends
 
     asked_by : (k : ℕ) (r : RequestData) (i : IdData) → r.id ≡ Some i → is_request_of k i (Editor k, request r) ≡ true
-    asked_by k r i under = and_from (k == k) (has_id i r.id) (eq-eqb k k refl) (ap (has_id i) under ∙ (same_id-Decides i i).1 refl)
+    asked_by k r i under = and_from (k == k) (is_same_id i r.id) (eq-eqb k k refl) (ap (is_same_id i) under ∙ (same_id-Decides i i).1 refl)
 
     own_is : (k : ℕ) (r : RequestData) (body : Result Data ErrorData) → IsOwnAnswer s r body → IsOwn editors h (Editor k, request r) body
     unfolding OpeningIs
@@ -493,9 +493,9 @@ module _ (editors : ℕ) where
     sends_row (announces k r) = (tt, tt)
     sends_row (notes k r) = (tt, tt)
     sends_row (cancels k r) = no_cancel (Editor k, request r) h Server (asked_place k (cancel_target r.params) s)
-    sends_row (leaves k r exit) = subst (Sends h (Editor k, request r)) (append-nil (map refused (filter (is_of k) s.requested))) (no_refused (Editor k, request r) h (filter (is_of k) s.requested) [] tt)
-    sends_row (closes k r exit) = no_refused (Editor k, request r) h (filter (is_of k) s.requested) ((Server, shutdown_request s.next) ∷ []) (tt, tt)
-    sends_row (ends k r exit) = no_refused (Editor k, request r) h (filter (is_of k) s.requested) ((Server, exit_note) ∷ []) (tt, tt)
+    sends_row (leaves k r exit) = subst (Sends h (Editor k, request r)) (append-nil (map refused (filter (is_asked_by k) s.requested))) (no_refused (Editor k, request r) h (filter (is_asked_by k) s.requested) [] tt)
+    sends_row (closes k r exit) = no_refused (Editor k, request r) h (filter (is_asked_by k) s.requested) ((Server, shutdown_request s.next) ∷ []) (tt, tt)
+    sends_row (ends k r exit) = no_refused (Editor k, request r) h (filter (is_asked_by k) s.requested) ((Server, exit_note) ∷ []) (tt, tt)
     sends_row (replies k r n a at) = (tt, tt)
     sends_row (stray r n under none apart) = tt
     sends_row (is_shut r n under at) = (tt, tt)

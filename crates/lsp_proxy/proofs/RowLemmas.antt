@@ -8,9 +8,9 @@ use Rattle.lsp_rpc.specs.Message.{IdData, ErrorData, RequestData, ResponseData, 
 use Rattle.lsp_proxy.specs.declared.side.Side.TheVariants.{Server, Editor}
 use Rattle.lsp_proxy.specs.declared.side.Presence.{Presence}
 use Rattle.lsp_proxy.specs.declared.side.Presence.TheVariants.{Here, Down, Gone}
-use Rattle.lsp_proxy.specs.Entries.{AskerData, asker_at, place_of, without}
-use Rattle.lsp_proxy.specs.Proxy.{State, Sent, Outcome, Opening, unopened, awaited, opened, answer, drawn_of, bare, passed_as, invalid, internal, last_id, shutdown_request, exit_note, begin_initialize, initialize_at, initialize, initialized, shut_down, pass_request, ask_at, ask_as, ask, answers_internal, left, closed, are_gone_but, leave, cancel_passed, asked_place, cancel_target, cancel, note_as, note, called, reply_to, replied_under, replied, heard, from_editor, answered_to, opening_after, is_here_in, is_here, waiting_sent, by_waiting, initialize_answered, answer_to, answered, is_closing, response_under, server_response, pass_to, request_to, lowest, server_request, first_requested, cancel_entry, server_cancel, here_from, broadcast, server_called, from_server, presence, is_gone}
-use Rattle.lsp_proxy.specs.Law.{Event, react, is_none, is_exit}
+use Rattle.lsp_proxy.specs.Entries.{AskerData, asker_at, place_of, without_entry}
+use Rattle.lsp_proxy.specs.Proxy.{ProxyState, Sent, Outcome, Opening, unopened, awaited, opened, response_to, drawn_of, bare, passed_as, invalid, internal, last_id, shutdown_request, exit_note, begin_initialize, initialize_at, initialize, initialized_heard, shut_down, pass_request, ask_at, ask_as, ask, answers_internal, left, closing_drawn, are_gone_but, leave, cancel_passed, asked_place, cancel_target, cancel_heard, note_as, note, call_heard, reply_to, replied_under, reply_heard, heard, from_editor, answered_to, opening_after, is_here_in, is_here, waiting_sent, by_waiting, initialize_answered, answer_to, answer_heard, is_closing, response_under, server_response, pass_to, request_to, lowest, server_request, first_requested, cancel_entry, server_cancel, here_from, broadcast, server_called, from_server, presence, is_gone}
+use Rattle.lsp_proxy.specs.Law.{Event, react, is_none, says_exit}
 use Rattle.lsp_proxy.specs.Origin.{is_drawn, is_response_under}
 
 -- no response to `initialize` is awaited under n
@@ -19,10 +19,10 @@ IsUnawaited n (awaited m askers) = (n == m) ≡ false
 IsUnawaited n other = Unit {0}
 
 -- the proxy answers a request so by itself, and stays as it is
-abbrev pub IsOwnAnswer : State → RequestData → Result Data ErrorData → Type 0
+abbrev pub IsOwnAnswer : ProxyState → RequestData → Result Data ErrorData → Type 0
 IsOwnAnswer s r body = (body ≡ invalid) ⊎ ((body ≡ internal) ⊎ ((v : Data) × (body ≡ Ok v) × (bytes_eq r.method (codes "initialize") ≡ true) × (s.opening ≡ opened v)))
 
-pub data Row (s : State) : Type 0 where
+pub data Row (s : ProxyState) : Type 0 where
   -- no response of the server
   idle : (e : Event) → ((n : ℕ) → is_response_under n e ≡ false) → Row s
   -- editor k's requests
@@ -35,9 +35,9 @@ pub data Row (s : State) : Type 0 where
   announces : (k : ℕ) (r : RequestData) → Row s
   notes : (k : ℕ) (r : RequestData) → Row s
   cancels : (k : ℕ) (r : RequestData) → Row s
-  leaves : (k : ℕ) (r : RequestData) → is_exit r ≡ true → Row s
-  closes : (k : ℕ) (r : RequestData) → is_exit r ≡ true → Row s
-  ends : (k : ℕ) (r : RequestData) → is_exit r ≡ true → Row s
+  leaves : (k : ℕ) (r : RequestData) → says_exit r ≡ true → Row s
+  closes : (k : ℕ) (r : RequestData) → says_exit r ≡ true → Row s
+  ends : (k : ℕ) (r : RequestData) → says_exit r ≡ true → Row s
   -- its responses
   replies : (k : ℕ) (r : ResponseData) (n : ℕ) (a : AskerData) → asker_at n s.requested ≡ Some a → Row s
   -- the server's responses
@@ -51,7 +51,7 @@ pub data Row (s : State) : Type 0 where
   server_cancels : (r : RequestData) → Row s
   tells : (r : RequestData) → Row s
 
-module _ {s : State} where
+module _ {s : ProxyState} where
   abbrev pub event_of : Row s → Event
   event_of (idle e quiet) = e
   event_of (begins k r i under method is) = (Editor k, request r)
@@ -76,7 +76,7 @@ module _ {s : State} where
   event_of (tells r) = (Server, request r)
 
   -- the state after it
-  abbrev pub after : Row s → State
+  abbrev pub after : Row s → ProxyState
   after (begins k r i under method is) = record s { next = s.next + 1; opening = awaited s.next (record { editor = k; id = i } ∷ []) }
   after (waits k r i m askers under method is) = record s { opening = awaited m (askers ++ record { editor = k; id = i } ∷ []) }
   after (shuts k r i under method here) = record s { editors = slice_set s.editors k Down }
@@ -85,44 +85,44 @@ module _ {s : State} where
   after (leaves k r exit) = left k s
   after (closes k r exit) = record (left k s) { next = s.next + 1; closing = Some s.next }
   after (ends k r exit) = left k s
-  after (replies k r n a at) = record s { requested = without n s.requested }
+  after (replies k r n a at) = record s { requested = without_entry n s.requested }
   after (is_shut r n under at) = record s { closing = None }
   after (opens r n m askers under is at) = record s { opening = opening_after r.body }
-  after (returns r n a under at apart) = record s { asked = without n s.asked }
+  after (returns r n a under at apart) = record s { asked = without_entry n s.asked }
   after (calls k r i under to) = record s { next = s.next + 1; requested = s.requested ++ record { n = s.next; asker = record { editor = k; id = i } } ∷ [] }
   after other = s
 
   -- what is sent
   abbrev pub sent_at : Row s → Sent
   sent_at (begins k r i under method is) = (Server, passed_as s.next (bare r)) ∷ []
-  sent_at (shuts k r i under method here) = (Editor k, answer i (Ok null)) ∷ []
+  sent_at (shuts k r i under method here) = (Editor k, response_to i (Ok null)) ∷ []
   sent_at (passes k r i under) = (Server, passed_as s.next (bare r)) ∷ []
-  sent_at (answers k r i body under own here) = (Editor k, answer i body) ∷ []
+  sent_at (answers k r i body under own here) = (Editor k, response_to i body) ∷ []
   sent_at (announces k r) = (Server, request (bare r)) ∷ []
   sent_at (notes k r) = (Server, request (bare r)) ∷ []
   sent_at (cancels k r) = cancel_passed Server (asked_place k (cancel_target r.params) s)
   sent_at (leaves k r exit) = answers_internal k s.requested
   sent_at (closes k r exit) = answers_internal k s.requested ++ (Server, shutdown_request s.next) ∷ []
   sent_at (ends k r exit) = answers_internal k s.requested ++ (Server, exit_note) ∷ []
-  sent_at (replies k r n a at) = (Server, answer a.id r.body) ∷ []
+  sent_at (replies k r n a at) = (Server, response_to a.id r.body) ∷ []
   sent_at (is_shut r n under at) = (Server, exit_note) ∷ []
   sent_at (opens r n m askers under is at) = map (answered_to r.body) (filter (is_here_in s.editors) askers)
   sent_at (returns r n a under at apart) = cond (is_here s a) (answered_to r.body a ∷ []) []
   sent_at (calls k r i under to) = (Editor k, passed_as s.next (bare r)) ∷ []
-  sent_at (refuses r i under) = (Server, answer i internal) ∷ []
+  sent_at (refuses r i under) = (Server, response_to i internal) ∷ []
   sent_at (server_cancels r) = cancel_entry (option_and_then (λ i. first_requested i s.requested) (cancel_target r.params))
   sent_at (tells r) = map (λ k. (Editor k, request (bare r))) (here_from 0 s.editors)
   sent_at other = []
 
 -- the outcome of the event is a row's
-abbrev pub IsRow : State → Event → Outcome → Type 0
+abbrev pub IsRow : ProxyState → Event → Outcome → Type 0
 IsRow s e o = (x : Row s) × (event_of x ≡ e) × ((after x, sent_at x) ≡ o)
 
-row_if : (s : State) (e : Event) (b : Bool) (x y : Outcome) → (b ≡ true → IsRow s e x) → (b ≡ false → IsRow s e y) → IsRow s e (cond b x y)
+row_if : (s : ProxyState) (e : Event) (b : Bool) (x y : Outcome) → (b ≡ true → IsRow s e x) → (b ≡ false → IsRow s e y) → IsRow s e (cond b x y)
 row_if s e true x y hx hy = hx refl
 row_if s e false x y hx hy = hy refl
 
-module _ (s : State) where
+module _ (s : ProxyState) where
   -- ---- editor k's message
 
   module _ (k : ℕ) (here : is_gone (presence k s) ≡ false) (r : RequestData) where
@@ -135,7 +135,7 @@ module _ (s : State) where
     nothing : Made (s, [])
     nothing = (idle e (λ n. refl), refl, refl)
 
-    own : (i : IdData) (body : Result Data ErrorData) → r.id ≡ Some i → IsOwnAnswer s r body → Made (s, (Editor k, answer i body) ∷ [])
+    own : (i : IdData) (body : Result Data ErrorData) → r.id ≡ Some i → IsOwnAnswer s r body → Made (s, (Editor k, response_to i body) ∷ [])
     own i body under is = (answers k r i body under is here, refl, refl)
 
     initialize_row : (i : IdData) → r.id ≡ Some i → bytes_eq r.method (codes "initialize") ≡ true → Made (initialize k (bare r) i s)
@@ -160,8 +160,8 @@ module _ (s : State) where
         go Down = own i invalid under (inl refl)
         go Gone = nothing
 
-    leave_row : is_exit r ≡ true → Made (leave k s)
-    unfolding leave closed
+    leave_row : says_exit r ≡ true → Made (leave k s)
+    unfolding leave closing_drawn
     leave_row exit = row_if s e (are_gone_but k 0 s.editors) _ _ (λ _. go (nat_lt s.next last_id)) (λ _. (leaves k r exit, refl, refl))
       where
         go : (b : Bool) → Made (cond b (record (left k s) { next = s.next + 1; closing = Some s.next }) (left k s), answers_internal k s.requested ++ (Server, cond b (shutdown_request s.next) exit_note) ∷ [])
@@ -169,13 +169,13 @@ module _ (s : State) where
         go false = (ends k r exit, refl, refl)
 
     note_row : (p : Presence) → Made (note_as p k (bare r) s)
-    unfolding cancel
+    unfolding cancel_heard
     note_row Here = row_if s e (bytes_eq r.method (codes "$/cancelRequest")) _ _ (λ _. (cancels k r, refl, refl)) (λ _. (notes k r, refl, refl))
     note_row Down = nothing
     note_row Gone = nothing
 
-    called_row : (o : Option IdData) → r.id ≡ o → Made (called k r o s)
-    unfolding initialized shut_down note
+    called_row : (o : Option IdData) → r.id ≡ o → Made (call_heard k r o s)
+    unfolding initialized_heard shut_down note
     called_row (Some i) under =
         row_if s e (bytes_eq r.method (codes "initialize")) _ _ (initialize_row i under) (λ _.
         row_if s e (bytes_eq r.method (codes "shutdown")) _ _ (λ method. (shuts k r i under method here, refl, refl)) (λ _. ask_row i under))
@@ -194,7 +194,7 @@ module _ (s : State) where
       go (Some a) at = row_if s (Editor k, response r) (k == a.editor) _ _ (λ _. (replies k r n a at, refl, refl)) (λ _. (idle (Editor k, response r) (λ n. refl), refl, refl))
 
   editor_row : (k : ℕ) (m : MessageData) → IsRow s (Editor k, m) (from_editor k m s)
-  unfolding from_editor replied
+  unfolding from_editor reply_heard
   editor_row k m = row_if s (Editor k, m) (is_gone (presence k s)) _ _ (λ _. gone m) (λ here. heard_row here m)
     where
       gone : (m : MessageData) → IsRow s (Editor k, m) (s, [])
@@ -207,8 +207,8 @@ module _ (s : State) where
 
   -- ---- the server's message
 
-  answered_row : (r : ResponseData) (n : ℕ) → drawn_of r.id ≡ Some n → IsUnawaited n s.opening → IsRow s (Server, response r) (answered n r.body s)
-  unfolding answered
+  answered_row : (r : ResponseData) (n : ℕ) → drawn_of r.id ≡ Some n → IsUnawaited n s.opening → IsRow s (Server, response r) (answer_heard n r.body s)
+  unfolding answer_heard
   answered_row r n under apart = go (asker_at n s.asked) refl
     where
       go : (o : Option AskerData) → asker_at n s.asked ≡ o → IsRow s (Server, response r) (answer_to n r.body o s)
@@ -238,14 +238,14 @@ module _ (s : State) where
       go (Some k) to = row_if s (Server, request r) (nat_lt s.next last_id) _ _ (λ _. (calls k r i under to, refl, refl)) (λ _. (refuses r i under, refl, refl))
   server_called_row r None under = row_if s (Server, request r) (bytes_eq r.method (codes "$/cancelRequest")) _ _ (λ _. (server_cancels r, refl, refl)) (λ _. (tells r, refl, refl))
 
-pub row : (s : State) (e : Event) → IsRow s e (react e s)
+pub row : (s : ProxyState) (e : Event) → IsRow s e (react e s)
 unfolding from_server server_response
 row s (Editor k, m) = editor_row s k m
 row s (Server, response r) = response_row s r (drawn_of r.id) refl
 row s (Server, request r) = server_called_row s r r.id refl
 
 -- what holds of each row holds of what a proxy makes of an event
-pub by_rows : (P : (s : State) → Event → Outcome → Type 0) → ((s : State) (x : Row s) → P s (event_of x) (after x, sent_at x)) → (s : State) (e : Event) → P s e (react e s)
+pub by_rows : (P : (s : ProxyState) → Event → Outcome → Type 0) → ((s : ProxyState) (x : Row s) → P s (event_of x) (after x, sent_at x)) → (s : ProxyState) (e : Event) → P s e (react e s)
 by_rows P each s e =
     let x = row s e in
     subst (λ o. P s e o) x.2 (subst (λ (d : Event). P s d (after x.0, sent_at x.0)) x.1 (each s x.0))

@@ -11,7 +11,7 @@ use Rattle.lsp_proxy.specs.declared.side.Side.TheVariants.{Server, Editor}
 use Rattle.lsp_proxy.specs.declared.side.Presence.{Presence}
 use Rattle.lsp_proxy.specs.declared.side.Presence.TheVariants.{Here, Down, Gone}
 use Rattle.lsp_proxy.specs.Entries.{AskerData, Entry, same_asker, same_asker-Decides, place_of}
-use Rattle.lsp_proxy.specs.Proxy.{State, Outcome, Opening, unopened, awaited, opened, bare, last_id, begin_initialize, initialize_at, initialize, shut_down, pass_request, ask_at, ask_as, ask, cancel_limit, cancel_note, cancel_passed, asked_place, cancel_target, cancel, note_as, note, called, from_editor, from_server, server_called, server_cancel, first_requested, cancel_entry, presence, is_gone}
+use Rattle.lsp_proxy.specs.Proxy.{ProxyState, Outcome, Opening, unopened, awaited, opened, bare, last_id, begin_initialize, initialize_at, initialize, shut_down, pass_request, ask_at, ask_as, ask, cancel_limit, cancel_note, cancel_passed, asked_place, cancel_target, cancel_heard, note_as, note, call_heard, from_editor, from_server, server_called, server_cancel, first_requested, cancel_entry, presence, is_gone}
 use Rattle.lsp_proxy.specs.Law.{react, OnlySends, IsAmong, IsTaken, is_none, is_cancel, CancelsAsked, CancelsRequested}
 
 last_among : {X : Type 0} (xs : List X) (x : X) → IsAmong x (xs ++ x ∷ [])
@@ -19,7 +19,7 @@ last_among xs x = (xs, [], refl)
 
 -- ---- requests
 
-module _ (k : ℕ) (r : RequestData) (i : IdData) (s : State) where
+module _ (k : ℕ) (r : RequestData) (i : IdData) (s : ProxyState) where
   abbrev asker : AskerData
   asker = record { editor = k; id = i }
 
@@ -47,7 +47,7 @@ module _ (k : ℕ) (r : RequestData) (i : IdData) (s : State) where
   ask_taken Down here = inr (inr (_, refl))
   ask_taken Gone here = absurd (true≢false here)
 
-  called_taken : is_gone (presence k s) ≡ false → Taken (called k r (Some i) s)
+  called_taken : is_gone (presence k s) ≡ false → Taken (call_heard k r (Some i) s)
   unfolding initialize shut_down ask
   called_taken here =
       taken_if (bytes_eq r.method (codes "initialize")) _ _ (initialize_taken s.opening)
@@ -56,7 +56,7 @@ module _ (k : ℕ) (r : RequestData) (i : IdData) (s : State) where
   pub request_taken : r.id ≡ Some i → is_gone (presence k s) ≡ false → Taken (react (Editor k, request r) s)
   unfolding from_editor
   request_taken under here =
-      subst (λ b. Taken (cond b (s, []) (called k r r.id s))) (sym here) (subst (λ o. Taken (called k r o s)) (sym under) (called_taken here))
+      subst (λ b. Taken (cond b (s, []) (call_heard k r r.id s))) (sym here) (subst (λ o. Taken (call_heard k r o s)) (sym under) (called_taken here))
 
 -- ---- cancels
 
@@ -93,7 +93,7 @@ passed_all P to n p = go (nat_lt n cancel_limit)
     go true = (p, tt)
     go false = tt
 
-module _ (r : RequestData) (s : State) (is : is_cancel r ≡ true) where
+module _ (r : RequestData) (s : ProxyState) (is : is_cancel r ≡ true) where
   cancelled : bytes_eq r.method (codes "$/cancelRequest") ≡ true
   cancelled = (and_parts (is_none r.id) (bytes_eq r.method (codes "$/cancelRequest")) is).1
 
@@ -118,12 +118,12 @@ module _ (r : RequestData) (s : State) (is : is_cancel r ≡ true) where
         go (Some n) at = passed_all (CancelsAsked k r s) Server n (i, n, under, refl, place_among (record { editor = k; id = i }) n s.asked at)
 
     note_cancels : (p : Presence) → OnlySends s (CancelsAsked k r s) (note_as p k (bare r) s)
-    unfolding cancel
-    note_cancels Here = subst (λ b. OnlySends s (CancelsAsked k r s) (cond b (cancel k (bare r) s) (s, (Server, request (bare r)) ∷ []))) (sym cancelled) (named_asked (cancel_target r.params) refl, refl)
+    unfolding cancel_heard
+    note_cancels Here = subst (λ b. OnlySends s (CancelsAsked k r s) (cond b (cancel_heard k (bare r) s) (s, (Server, request (bare r)) ∷ []))) (sym cancelled) (named_asked (cancel_target r.params) refl, refl)
     note_cancels Down = (tt, refl)
     note_cancels Gone = (tt, refl)
 
-    called_cancels : OnlySends s (CancelsAsked k r s) (called k r None s)
+    called_cancels : OnlySends s (CancelsAsked k r s) (call_heard k r None s)
     unfolding note
     called_cancels = rw (other (codes "initialize") refl, other (codes "initialized") refl, other (codes "shutdown") refl, other (codes "exit") refl) (note_cancels (presence k s))
 
@@ -131,9 +131,9 @@ module _ (r : RequestData) (s : State) (is : is_cancel r ≡ true) where
     unfolding from_editor
     editor_cancels = go (is_gone (presence k s))
       where
-        go : (b : Bool) → OnlySends s (CancelsAsked k r s) (cond b (s, []) (called k r r.id s))
+        go : (b : Bool) → OnlySends s (CancelsAsked k r s) (cond b (s, []) (call_heard k r r.id s))
         go true = (tt, refl)
-        go false = subst (λ o. OnlySends s (CancelsAsked k r s) (called k r o s)) (sym unnumbered) called_cancels
+        go false = subst (λ o. OnlySends s (CancelsAsked k r s) (call_heard k r o s)) (sym unnumbered) called_cancels
 
   named_requested : (o : Option IdData) → cancel_target r.params ≡ o → AllByRecursion (CancelsRequested r s) (cancel_entry (option_and_then (λ i. first_requested i s.requested) o))
   named_requested None under = tt

@@ -32,9 +32,9 @@ place_of a [] = None
 place_of a (e ∷ es) = if same_asker a e.asker then Some e.n else place_of a es
 
 -- the entries without the one under n
-abbrev pub without : ℕ → List Entry → List Entry
-without n [] = []
-without n (e ∷ es) = if n == e.n then es else e ∷ without n es
+abbrev pub without_entry : ℕ → List Entry → List Entry
+without_entry n [] = []
+without_entry n (e ∷ es) = if n == e.n then es else e ∷ without_entry n es
 
 -- every entry's drawn id is below this one
 abbrev pub are_below : ℕ → List Entry → Bool

@@ -7,22 +7,22 @@ use Rattle.lsp_rpc.specs.Ids.{same_id}
 use Rattle.lsp_proxy.specs.declared.side.Side.{Side}
 use Rattle.lsp_proxy.specs.declared.side.Side.TheVariants.{Server, Editor}
 use Rattle.lsp_proxy.specs.Entries.{AskerData, Entry}
-use Rattle.lsp_proxy.specs.Proxy.{State, Sent, Outcome, Opening, awaited, from_editor, from_server, answer, bare, passed_as, cancel_note, cancel_target}
+use Rattle.lsp_proxy.specs.Proxy.{ProxyState, Sent, Outcome, Opening, awaited, from_editor, from_server, response_to, bare, passed_as, cancel_note, cancel_target}
 
 -- a message, and the side that it comes from
 abbrev pub Event : Type 0
 Event = Side × MessageData
 
-abbrev pub react : Event → State → Outcome
+abbrev pub react : Event → ProxyState → Outcome
 react (Server, m) s = from_server m s
 react (Editor k, m) s = from_editor k m s
 
 -- all that is sent, event after event
-abbrev pub sent_over : List Event → State → Sent
+abbrev pub sent_over : List Event → ProxyState → Sent
 sent_over [] s = []
 sent_over (e ∷ es) s = (react e s).1 ++ sent_over es (react e s).0
 
-abbrev pub state_after : List Event → State → State
+abbrev pub state_after : List Event → ProxyState → ProxyState
 state_after [] s = s
 state_after (e ∷ es) s = state_after es (react e s).0
 
@@ -65,12 +65,12 @@ abbrev pub responses_at : Side → IdData → Sent → ℕ
 responses_at side i [] = 0
 responses_at side i (s ∷ ss) = one_if (is_response_at side i s) + responses_at side i ss
 
-abbrev pub has_id : IdData → Option IdData → Bool
-has_id i None = false
-has_id i (Some j) = same_id i j
+abbrev pub is_same_id : IdData → Option IdData → Bool
+is_same_id i None = false
+is_same_id i (Some j) = same_id i j
 
 abbrev pub is_request_at : Side → IdData → Event → Bool
-is_request_at side i (from, request r) = same_side side from && has_id i r.id
+is_request_at side i (from, request r) = same_side side from && is_same_id i r.id
 is_request_at side i (from, response r) = false
 
 -- how many requests the side sends under the id
@@ -86,8 +86,8 @@ abbrev pub is_request_of : ℕ → IdData → Event → Bool
 is_request_of k i e = is_request_at (Editor k) i e
 
 -- how many requests editor k sends under the id
-abbrev pub requests_of : ℕ → IdData → List Event → ℕ
-requests_of k i es = requests_at (Editor k) i es
+abbrev pub times_requested : ℕ → IdData → List Event → ℕ
+times_requested k i es = requests_at (Editor k) i es
 
 -- ---- who gets what
 
@@ -95,12 +95,12 @@ abbrev pub is_none : Option IdData → Bool
 is_none None = true
 is_none (Some i) = false
 
-abbrev pub is_exit : RequestData → Bool
-is_exit r = is_none r.id && bytes_eq r.method (codes "exit")
+abbrev pub says_exit : RequestData → Bool
+says_exit r = is_none r.id && bytes_eq r.method (codes "exit")
 
 -- the event is editor k's `exit`
 abbrev pub is_exit_of : ℕ → Event → Bool
-is_exit_of k (Editor j, request r) = (k == j) && is_exit r
+is_exit_of k (Editor j, request r) = (k == j) && says_exit r
 is_exit_of k other = false
 
 -- editor k is one of so many, and hasn't sent `exit`. A history has the latest event first
@@ -121,38 +121,38 @@ abbrev pub WaitsUnder : ℕ → AskerData → Opening → Type 0
 WaitsUnder n a o = (askers : List AskerData) × (o ≡ awaited n askers) × IsAmong a askers
 
 -- the request goes on under the next id, where its asker waits for the response
-abbrev pub IsPassedOn : RequestData → AskerData → State → Outcome → Type 0
+abbrev pub IsPassedOn : RequestData → AskerData → ProxyState → Outcome → Type 0
 IsPassedOn r a s o =
     (o.1 ≡ (Server, passed_as s.next (bare r)) ∷ [])
     × (IsAmong {X = Entry} (record { n = s.next; asker = a }) o.0.asked ⊎ WaitsUnder s.next a o.0.opening)
 
 -- nothing is sent, and its asker waits for the response to an `initialize` that was passed on
-abbrev pub IsWaiting : AskerData → Outcome → Type 0
-IsWaiting a o = (o.1 ≡ []) × (n : ℕ) × WaitsUnder n a o.0.opening
+abbrev pub RequestWaits : AskerData → Outcome → Type 0
+RequestWaits a o = (o.1 ≡ []) × (n : ℕ) × WaitsUnder n a o.0.opening
 
-abbrev pub IsAnswered : AskerData → Outcome → Type 0
-IsAnswered a o = (body : Result Data ErrorData) × (o.1 ≡ (Editor a.editor, answer a.id body) ∷ [])
+abbrev pub RequestIsAnswered : AskerData → Outcome → Type 0
+RequestIsAnswered a o = (body : Result Data ErrorData) × (o.1 ≡ (Editor a.editor, response_to a.id body) ∷ [])
 
-abbrev pub IsTaken : RequestData → AskerData → State → Outcome → Type 0
-IsTaken r a s o = IsPassedOn r a s o ⊎ (IsWaiting a o ⊎ IsAnswered a o)
+abbrev pub IsTaken : RequestData → AskerData → ProxyState → Outcome → Type 0
+IsTaken r a s o = IsPassedOn r a s o ⊎ (RequestWaits a o ⊎ RequestIsAnswered a o)
 
 -- ---- cancels
 
 -- this holds of all that is sent, and the proxy stays as it was
-abbrev pub OnlySends : State → (Side × MessageData → Type 0) → Outcome → Type 0
+abbrev pub OnlySends : ProxyState → (Side × MessageData → Type 0) → Outcome → Type 0
 OnlySends s P o = AllByRecursion P o.1 × (o.0 ≡ s)
 
 abbrev pub is_cancel : RequestData → Bool
 is_cancel r = is_none r.id && bytes_eq r.method (codes "$/cancelRequest")
 
 -- the server is sent the number of an entry of editor k under the id that the cancel names
-abbrev pub CancelsAsked : ℕ → RequestData → State → Side × MessageData → Type 0
+abbrev pub CancelsAsked : ℕ → RequestData → ProxyState → Side × MessageData → Type 0
 CancelsAsked k r s sent =
     (i : IdData) × (n : ℕ) × (cancel_target r.params ≡ Some i) × (sent ≡ (Server, cancel_note n))
     × IsAmong {X = Entry} (record { n = n; asker = record { editor = k; id = i } }) s.asked
 
 -- an editor is sent the number of an entry of its own under the id that the server's cancel names
-abbrev pub CancelsRequested : RequestData → State → Side × MessageData → Type 0
+abbrev pub CancelsRequested : RequestData → ProxyState → Side × MessageData → Type 0
 CancelsRequested r s sent =
     (i : IdData) × (n : ℕ) × (k : ℕ) × (cancel_target r.params ≡ Some i) × (sent ≡ (Editor k, cancel_note n))
     × IsAmong {X = Entry} (record { n = n; asker = record { editor = k; id = i } }) s.requested

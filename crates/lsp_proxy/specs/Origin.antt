@@ -6,11 +6,11 @@ use Rattle.serde_json.specs.Data.{Data, null}
 use Rattle.lsp_rpc.specs.Message.{IdData, ErrorData, RequestData, MessageData, response, request}
 use Rattle.lsp_proxy.specs.declared.side.Side.{Side}
 use Rattle.lsp_proxy.specs.declared.side.Side.TheVariants.{Server, Editor}
-use Rattle.lsp_proxy.specs.Proxy.{State, opening_state, answer, drawn, drawn_of, bare, passed_as, invalid, internal}
+use Rattle.lsp_proxy.specs.Proxy.{ProxyState, opening_state, response_to, drawn, drawn_of, bare, passed_as, invalid, internal}
 use Rattle.lsp_proxy.specs.Law.{Event, react, is_request_of}
 
 -- the state after a history
-abbrev pub state_of : ℕ → List Event → State
+abbrev pub state_of : ℕ → List Event → ProxyState
 state_of editors [] = opening_state editors
 state_of editors (e ∷ h) = (react e (state_of editors h)).0
 
@@ -64,7 +64,7 @@ pub record HasAnswered (editors : ℕ) (h : List Event) (v : Data) : Type 0 wher
   pub later : List Event
   pub earlier : List Event
   pub n : ℕ
-  pub split : h ≡ later ++ (Server, answer (drawn n) (Ok v)) ∷ earlier
+  pub split : h ≡ later ++ (Server, response_to (drawn n) (Ok v)) ∷ earlier
   pub awaits : AwaitsInitialize editors earlier n
 
 -- the event is a request or a notification of that method
@@ -87,7 +87,7 @@ IsOwn editors h e body =
 abbrev pub Origin : ℕ → List Event → Event → ℕ → IdData → Result Data ErrorData → Type 0
 Origin editors h e k i body =
     ((is_request_of k i e ≡ true) × IsOwn editors h e body)
-    ⊎ ((n : ℕ) × (e ≡ (Server, answer (drawn n) body))
+    ⊎ ((n : ℕ) × (e ≡ (Server, response_to (drawn n) body))
     × (WasPassed editors h n k i ⊎ SharesInitialize editors h n k i))
 
 abbrev pub HasOrigin : ℕ → List Event → Event → Side × MessageData → Type 0

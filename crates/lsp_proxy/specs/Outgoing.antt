@@ -6,7 +6,7 @@ use Rattle.lsp_proxy.specs.declared.outgoing.Outgoing.{Outgoing}
 use Rattle.lsp_proxy.specs.declared.outgoing.Outgoing.TheVariants.{Each, Broadcast}
 use Rattle.lsp_proxy.specs.declared.proxy.Proxy.{Proxy}
 use Rattle.lsp_proxy.specs.declared.side.Side.TheVariants.{Editor}
-use Rattle.lsp_proxy.specs.Proxy.{State, Sent, Outcome}
+use Rattle.lsp_proxy.specs.Proxy.{ProxyState, Sent, Outcome}
 use Rattle.lsp_proxy.specs.Sent.{all_sent}
 use Rattle.lsp_proxy.specs.Shown.{show_proxy, IsSame}
 
@@ -16,8 +16,8 @@ expanded (Each sent) = all_sent sent.items
 expanded (Broadcast editors note) = map (λ k. (Editor k, request (show_request note))) editors.items
 
 -- the proxy after the call, and the list of what it sends, are what these rows make of the proxy before
-abbrev pub Gives : Proxy → Proxy → (State → Outcome) → Outgoing → Type 0
-Gives old new rows outgoing = (show_proxy new ≡ (rows (show_proxy old)).0) × (expanded outgoing ≡ (rows (show_proxy old)).1)
+abbrev pub GivesOutgoing : Proxy → Proxy → (ProxyState → Outcome) → Outgoing → Type 0
+GivesOutgoing old new rows outgoing = (show_proxy new ≡ (rows (show_proxy old)).0) × (expanded outgoing ≡ (rows (show_proxy old)).1)
 
 abbrev pub is_broadcast : Outgoing → Bool
 is_broadcast (Each sent) = false

@@ -10,14 +10,14 @@ use Rattle.lsp_proxy.specs.declared.proxy.Proxy.{Proxy}
 use Rattle.lsp_proxy.specs.Sent.{all_sent}
 use Rattle.lsp_proxy.specs.Tables.{show_asker}
 use Rattle.lsp_proxy.specs.Proxy as plain
-use Rattle.lsp_proxy.specs.Proxy.{State, Outcome}
+use Rattle.lsp_proxy.specs.Proxy.{ProxyState, Outcome}
 
 abbrev pub show_opening : Opening → plain.Opening
 show_opening code.Unopened = plain.unopened
 show_opening (code.Awaited n askers) = plain.awaited n (map show_asker askers.items)
 show_opening (code.Opened value) = plain.opened (view value)
 
-abbrev pub show_proxy : Proxy → State
+abbrev pub show_proxy : Proxy → ProxyState
 show_proxy p = record {
   next = p.next;
   asked = p.asked;
@@ -29,8 +29,8 @@ show_proxy p = record {
 }
 
 -- the proxy after the call, and what it sends, are what these rows make of the proxy before
-abbrev pub Makes : Proxy → Proxy → (State → Outcome) → Vec (Side × Message) Global → Type 0
-Makes old new rows sent = (show_proxy new ≡ (rows (show_proxy old)).0) × (all_sent sent.items ≡ (rows (show_proxy old)).1)
+abbrev pub MakesSent : Proxy → Proxy → (ProxyState → Outcome) → Vec (Side × Message) Global → Type 0
+MakesSent old new rows sent = (show_proxy new ≡ (rows (show_proxy old)).0) × (all_sent sent.items ≡ (rows (show_proxy old)).1)
 
 -- the proxy shows the same
 abbrev pub IsSame : Proxy → Proxy → Type 0

@@ -2,10 +2,10 @@
 ghost use Rattle.std.specs.Prelude.{◌≡◌, ◌<◌, ◌+◌, ◌^◌, length, Some, not, false, IfOk, OnOk, OnErr};
 ghost use Rattle.std.specs.List.{filter};
 ghost use Rattle.lsp_rpc.specs.Shown.{show_id, show_message, show_request, show_response};
-ghost use Rattle.lsp_proxy.specs.Proxy.{begin_initialize, initialize, initialized, shut_down, pass_request, ask, leave, cancel, note, with_id, without_id, called, replied, is_gone, presence, with_waiting, answers_internal, last_message, last_id, closed, left, is_of, lowest, AreOf};
+ghost use Rattle.lsp_proxy.specs.Proxy.{begin_initialize, initialize, initialized_heard, shut_down, pass_request, ask, leave, cancel_heard, note, request_heard, notification_heard, call_heard, reply_heard, is_gone, presence, with_waiting, answers_internal, last_message, last_id, closing_drawn, left, is_asked_by, lowest, AreOf};
 ghost use Rattle.lsp_proxy.specs.Sent.{all_sent};
 ghost use Rattle.lsp_proxy.specs.Tables.{show_asker};
-ghost use Rattle.lsp_proxy.specs.Shown.{show_proxy, show_opening, Makes, IsSame};
+ghost use Rattle.lsp_proxy.specs.Shown.{show_proxy, show_opening, MakesSent, IsSame};
 
 use crate::parts::{
     LAST_ID, Sent, answered_id, cancels, exit, named_by, one, refusal, response, shutdown, split,
@@ -38,7 +38,7 @@ fn add_waiting(opening: &mut Opening, asker: Asker) -> Result<(), NoMemory>
 fn drop_requests(editors: &[Presence], requested: &mut Table, k: u32)
     requires few { length editors.now < 2 ^ 32 }
     requires of_lowest { AreOf (lowest editors.now) requested.old }
-    ensures { requested.new ≡ filter (λ e. not (is_of k e)) requested.old }
+    ensures { requested.new ≡ filter (λ e. not (is_asked_by k e)) requested.old }
 {
     if is_lowest(editors, k) {
         requested.clear();
@@ -51,7 +51,7 @@ impl Proxy {
     #[tactic(auto, unfolding(crate::specs::Proxy::begin_initialize))]
     fn begin_initialize(&mut self, k: u32, request: Request, id: Id) -> Result<Sent, NoMemory>
         ensures ok { IfOk result
-            (Makes self.old self.new (begin_initialize k (show_request request) (show_id id))) }
+            (MakesSent self.old self.new (begin_initialize k (show_request request) (show_id id))) }
         ensures err { OnErr result (IsSame self.old self.new) }
     {
         if self.next >= LAST_ID {
@@ -70,7 +70,7 @@ impl Proxy {
     #[tactic(auto, unfolding(crate::specs::Proxy::initialize))]
     fn initialize(&mut self, k: u32, request: Request, id: Id) -> Result<Sent, NoMemory>
         ensures ok { IfOk result
-            (Makes self.old self.new (initialize k (show_request request) (show_id id))) }
+            (MakesSent self.old self.new (initialize k (show_request request) (show_id id))) }
         ensures err { OnErr result (IsSame self.old self.new) }
     {
         match &self.opening {
@@ -87,9 +87,9 @@ impl Proxy {
     }
 
     // The first `initialized` is passed on.
-    #[tactic(auto, unfolding(crate::specs::Proxy::initialized))]
+    #[tactic(auto, unfolding(crate::specs::Proxy::initialized_heard))]
     fn initialized(&mut self, request: Request) -> Result<Sent, NoMemory>
-        ensures ok { IfOk result (Makes self.old self.new (initialized (show_request request))) }
+        ensures ok { IfOk result (MakesSent self.old self.new (initialized_heard (show_request request))) }
         ensures err { OnErr result (IsSame self.old self.new) }
     {
         if self.announced {
@@ -104,7 +104,7 @@ impl Proxy {
     fn shut_down(&mut self, k: u32, id: Id) -> Result<Sent, NoMemory>
         requires known { k < length (show_proxy self.old).editors }
         requires here { is_gone (presence k (show_proxy self.old)) ≡ false }
-        ensures ok { IfOk result (Makes self.old self.new (shut_down k (show_id id))) }
+        ensures ok { IfOk result (MakesSent self.old self.new (shut_down k (show_id id))) }
         ensures err { OnErr result (IsSame self.old self.new) }
     {
         let sent = one(self.alloc, Side::Editor(k), response(id, Ok(Value::Null)))?;
@@ -116,7 +116,7 @@ impl Proxy {
     #[tactic(auto, unfolding(crate::specs::Proxy::pass_request))]
     fn pass_request(&mut self, k: u32, request: Request, id: Id) -> Result<Sent, NoMemory>
         ensures ok { IfOk result
-            (Makes self.old self.new (pass_request k (show_request request) (show_id id))) }
+            (MakesSent self.old self.new (pass_request k (show_request request) (show_id id))) }
         ensures err { OnErr result (IsSame self.old self.new) }
     {
         if self.next >= LAST_ID {
@@ -134,7 +134,7 @@ impl Proxy {
     #[tactic(auto, unfolding(crate::specs::Proxy::ask))]
     fn ask(&mut self, k: u32, request: Request, id: Id) -> Result<Sent, NoMemory>
         ensures ok { IfOk result
-            (Makes self.old self.new (ask k (show_request request) (show_id id))) }
+            (MakesSent self.old self.new (ask k (show_request request) (show_id id))) }
         ensures err { OnErr result (IsSame self.old self.new) }
     {
         let asker = Asker { editor: k, id };
@@ -188,9 +188,9 @@ impl Proxy {
         self.next += 1;
     }
 
-    #[tactic(auto, unfolding(crate::specs::Proxy::closed))]
+    #[tactic(auto, unfolding(crate::specs::Proxy::closing_drawn))]
     fn close(&mut self)
-        ensures { show_proxy self.new ≡ closed (show_proxy self.old) }
+        ensures { show_proxy self.new ≡ closing_drawn (show_proxy self.old) }
     {
         if self.next < LAST_ID {
             self.await_shutdown();
@@ -208,7 +208,7 @@ impl Proxy {
     #[tactic(auto, unfolding(crate::specs::Proxy::leave))]
     fn leave(&mut self, k: u32) -> Result<Sent, NoMemory>
         requires known { k < length (show_proxy self.old).editors }
-        ensures ok { IfOk result (Makes self.old self.new (leave k)) }
+        ensures ok { IfOk result (MakesSent self.old self.new (leave k)) }
         ensures err { OnErr result (IsSame self.old self.new) }
     {
         let mut sent = self.answers_internal(k)?;
@@ -222,9 +222,9 @@ impl Proxy {
         Ok(sent)
     }
 
-    #[tactic(auto, unfolding(crate::specs::Proxy::cancel))]
+    #[tactic(auto, unfolding(crate::specs::Proxy::cancel_heard))]
     fn cancel(&self, k: u32, request: Request) -> Result<Sent, NoMemory>
-        ensures { IfOk result (Makes self.now self.now (cancel k (show_request request))) }
+        ensures { IfOk result (MakesSent self.now self.now (cancel_heard k (show_request request))) }
     {
         let (_, _, params) = request.into_parts();
         let place = match named_by(params) {
@@ -236,7 +236,7 @@ impl Proxy {
 
     #[tactic(auto, unfolding(crate::specs::Proxy::note))]
     fn note(&self, k: u32, request: Request) -> Result<Sent, NoMemory>
-        ensures { IfOk result (Makes self.now self.now (note k (show_request request))) }
+        ensures { IfOk result (MakesSent self.now self.now (note k (show_request request))) }
     {
         match presence_of(&self.editors, k) {
             Presence::Here => {
@@ -254,7 +254,7 @@ impl Proxy {
         requires known { k < length (show_proxy self.old).editors }
         requires here { is_gone (presence k (show_proxy self.old)) ≡ false }
         ensures ok { IfOk result
-            (Makes self.old self.new (with_id k (show_request request) (show_id id))) }
+            (MakesSent self.old self.new (request_heard k (show_request request) (show_id id))) }
         ensures err { OnErr result (IsSame self.old self.new) }
     {
         match request.method() {
@@ -267,7 +267,7 @@ impl Proxy {
     fn without_id(&mut self, k: u32, request: Request) -> Result<Sent, NoMemory>
         requires known { k < length (show_proxy self.old).editors }
         requires here { is_gone (presence k (show_proxy self.old)) ≡ false }
-        ensures ok { IfOk result (Makes self.old self.new (without_id k (show_request request))) }
+        ensures ok { IfOk result (MakesSent self.old self.new (notification_heard k (show_request request))) }
         ensures err { OnErr result (IsSame self.old self.new) }
     {
         match request.method() {
@@ -283,7 +283,7 @@ impl Proxy {
         requires known { k < length (show_proxy self.old).editors }
         requires here { is_gone (presence k (show_proxy self.old)) ≡ false }
         ensures ok { IfOk result
-            (Makes self.old self.new (called k (show_request request) (show_request request).id)) }
+            (MakesSent self.old self.new (call_heard k (show_request request) (show_request request).id)) }
         ensures err { OnErr result (IsSame self.old self.new) }
     {
         let (request, id) = split(request);
@@ -294,9 +294,9 @@ impl Proxy {
     }
 
     // Passes the response to a request of the server on, under the server's id.
-    #[tactic(auto, unfolding(crate::specs::Proxy::replied))]
+    #[tactic(auto, unfolding(crate::specs::Proxy::reply_heard))]
     pub(crate) fn replied(&mut self, k: u32, reply: Response) -> Result<Sent, NoMemory>
-        ensures ok { IfOk result (Makes self.old self.new (replied k (show_response reply))) }
+        ensures ok { IfOk result (MakesSent self.old self.new (reply_heard k (show_response reply))) }
         ensures err { OnErr result (IsSame self.old self.new) }
     {
         let (id, body) = reply.into_parts();

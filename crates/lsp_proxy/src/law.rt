@@ -6,7 +6,7 @@ ghost use Rattle.lsp_proxy.specs.declared.side.Side.TheVariants.{Editor, Server}
 ghost use Rattle.lsp_proxy.specs.Law.{OnlySends, Event, react, sent_over, request_ids, AreDistinct, responses_at, requests_at, GoesToOneHere, is_here_after, IsTaken, is_cancel, CancelsAsked, CancelsRequested};
 ghost use Rattle.std.specs.List.{AllByRecursion};
 ghost use Rattle.lsp_proxy.specs.Origin.{HasOrigin, state_of};
-ghost use Rattle.lsp_proxy.specs.Proxy.{State, opening_state};
+ghost use Rattle.lsp_proxy.specs.Proxy.{ProxyState, opening_state};
 
 /// No two requests that a proxy sends have one id, whichever side they go to.
 pub fn ids_differ()
@@ -51,13 +51,13 @@ pub fn requests_taken()
 /// What an editor's cancel sends carries the number of an open request of that editor under the id
 /// that it names, and the proxy stays as it was: the request is still open.
 pub fn editor_cancels_its_own()
-    ensures { (s : State) (k : ℕ) (r : RequestData) → is_cancel r ≡ true
+    ensures { (s : ProxyState) (k : ℕ) (r : RequestData) → is_cancel r ≡ true
         → OnlySends s (CancelsAsked k r s) (react (Editor k, request r) s) }
 {}
 
 /// What the server's cancel sends carries the number of an open request of the server under the id
 /// that it names, and goes to the editor that has it. The proxy stays as it was.
 pub fn server_cancels_its_own()
-    ensures { (s : State) (r : RequestData) → is_cancel r ≡ true
+    ensures { (s : ProxyState) (r : RequestData) → is_cancel r ≡ true
         → OnlySends s (CancelsRequested r s) (react (Server, request r) s) }
 {}

@@ -4,7 +4,7 @@ ghost use Rattle.serde_json.specs.Find.{get, get_member};
 ghost use Rattle.serde_json.specs.View.{view, members_view};
 ghost use Rattle.lsp_rpc.specs.Message.{error_with_code};
 ghost use Rattle.lsp_rpc.specs.Shown.{show_id, show_body, show_request, show_message};
-ghost use Rattle.lsp_proxy.specs.Proxy.{answer, bare, passed_as, shutdown_request, exit_note, cancel_note, is_small, named_id, cancel_target, drawn_of, cancel_passed, last_id, cancel_limit};
+ghost use Rattle.lsp_proxy.specs.Proxy.{response_to, bare, passed_as, shutdown_request, exit_note, cancel_note, is_small, named_id, cancel_target, drawn_of, cancel_passed, last_id, cancel_limit};
 ghost use Rattle.lsp_proxy.specs.Sent.{all_sent};
 
 use crate::side::Side;
@@ -30,14 +30,14 @@ pub(crate) fn one(alloc: Global, side: Side, message: Message) -> Result<Sent, N
 }
 
 pub(crate) fn response(id: Id, body: Result<Value, Error>) -> Message
-    ensures { show_message result ≡ answer (show_id id) (show_body body) }
+    ensures { show_message result ≡ response_to (show_id id) (show_body body) }
 {
     Message::Response(Response::from_parts(id, body))
 }
 
 /// The response that refuses the request of that id.
 pub(crate) fn refusal(alloc: Global, id: Id, code: ErrorCode) -> Result<Message, NoMemory>
-    ensures { IfOk result (λ m. show_message m ≡ answer (show_id id) (Err (error_with_code code))) }
+    ensures { IfOk result (λ m. show_message m ≡ response_to (show_id id) (Err (error_with_code code))) }
 {
     Ok(response(id, Err(Error::new(alloc, code)?)))
 }

@@ -55,9 +55,9 @@ fn all_here(alloc: Global, n: u32) -> Result<Vec<Presence>, NoMemory>
 
 impl Proxy {
     ghost use Rattle.lsp_rpc.specs.Shown.{show_message};
-    ghost use Rattle.lsp_proxy.specs.Outgoing.{Gives, KeepsAtBroadcast};
+    ghost use Rattle.lsp_proxy.specs.Outgoing.{GivesOutgoing, KeepsAtBroadcast};
     ghost use Rattle.lsp_proxy.specs.Proxy.{from_editor, from_server};
-    ghost use Rattle.lsp_proxy.specs.Shown.{show_proxy, Makes, IsSame};
+    ghost use Rattle.lsp_proxy.specs.Shown.{show_proxy, MakesSent, IsSame};
 
     /// A proxy for that many editors, at least one. They are numbered from 0.
     pub fn new(alloc: Global, editors: u32) -> Result<Proxy, NoMemory>
@@ -83,7 +83,7 @@ impl Proxy {
     /// the number of editors is as one that is gone. Out of memory changes nothing.
     #[tactic(auto, unfolding(crate::specs::Proxy::from_editor))]
     pub fn editor(&mut self, k: u32, message: Message) -> Result<Sent, NoMemory>
-        ensures ok { IfOk result (Makes self.old self.new (from_editor k (show_message message))) }
+        ensures ok { IfOk result (MakesSent self.old self.new (from_editor k (show_message message))) }
         ensures err { OnErr result (IsSame self.old self.new) }
     {
         if presence_of(&self.editors, k).is_gone() {
@@ -98,7 +98,7 @@ impl Proxy {
     /// Takes a message of the server, and gives what is to be sent for it. Out of memory changes
     /// nothing.
     pub fn server(&mut self, message: Message) -> Result<Sent, NoMemory>
-        ensures ok { IfOk result (Makes self.old self.new (from_server (show_message message))) }
+        ensures ok { IfOk result (MakesSent self.old self.new (from_server (show_message message))) }
         ensures err { OnErr result (IsSame self.old self.new) }
     {
         match self.server_outgoing(message)? {
@@ -111,7 +111,7 @@ impl Proxy {
     /// notification that goes to several editors is there once, with these editors.
     #[tactic(auto, unfolding(crate::specs::Proxy::from_server))]
     pub fn server_outgoing(&mut self, message: Message) -> Result<Outgoing, NoMemory>
-        ensures ok { IfOk result (Gives self.old self.new (from_server (show_message message))) }
+        ensures ok { IfOk result (GivesOutgoing self.old self.new (from_server (show_message message))) }
         ensures broadcast { IfOk result (KeepsAtBroadcast self.old self.new) }
         ensures err { OnErr result (IsSame self.old self.new) }
     {

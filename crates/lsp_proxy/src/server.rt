@@ -3,11 +3,11 @@ ghost use Rattle.std.specs.Prelude.{◌≡◌, ◌<◌, ◌^◌, [], ◌∷◌, 
 ghost use Rattle.lsp_rpc.specs.Message.{request};
 ghost use Rattle.lsp_rpc.specs.Shown.{show_id, show_body, show_request, show_response};
 ghost use Rattle.std.specs.List.{filter};
-ghost use Rattle.lsp_proxy.specs.Proxy.{waiting_sent, opening_after, initialize_answered, answered, server_response, pass_to, server_request, first_requested, cancel_entry, server_cancel, broadcast, lowest, last_id, answer, internal, server_called, here_from, is_here_in, answered_to};
-ghost use Rattle.lsp_proxy.specs.Outgoing.{Gives, KeepsAtBroadcast};
+ghost use Rattle.lsp_proxy.specs.Proxy.{waiting_sent, opening_after, initialize_answered, answer_heard, server_response, pass_to, server_request, first_requested, cancel_entry, server_cancel, broadcast, lowest, last_id, response_to, internal, server_called, here_from, is_here_in, answered_to};
+ghost use Rattle.lsp_proxy.specs.Outgoing.{GivesOutgoing, KeepsAtBroadcast};
 ghost use Rattle.lsp_proxy.specs.Sent.{all_sent};
 ghost use Rattle.lsp_proxy.specs.Tables.{show_asker};
-ghost use Rattle.lsp_proxy.specs.Shown.{show_opening, show_proxy, Makes, IsSame};
+ghost use Rattle.lsp_proxy.specs.Shown.{show_opening, show_proxy, MakesSent, IsSame};
 
 use crate::outgoing::{Outgoing, here};
 use crate::parts::{
@@ -92,7 +92,7 @@ impl Proxy {
     #[tactic(auto, unfolding(crate::specs::Proxy::initialize_answered))]
     fn initialize_answered(&mut self, n: u64, body: Result<Value, Error>) -> Result<Sent, NoMemory>
         ensures ok { IfOk result
-            (Makes self.old self.new (initialize_answered n (show_body body))) }
+            (MakesSent self.old self.new (initialize_answered n (show_body body))) }
         ensures err { OnErr result (IsSame self.old self.new) }
     {
         match self.waiting_sent(n, &body)? {
@@ -105,9 +105,9 @@ impl Proxy {
     }
 
     // The response to an editor's request goes to that editor, under its own id.
-    #[tactic(auto, unfolding(crate::specs::Proxy::answered))]
+    #[tactic(auto, unfolding(crate::specs::Proxy::answer_heard))]
     fn answered(&mut self, n: u64, body: Result<Value, Error>) -> Result<Sent, NoMemory>
-        ensures ok { IfOk result (Makes self.old self.new (answered n (show_body body))) }
+        ensures ok { IfOk result (MakesSent self.old self.new (answer_heard n (show_body body))) }
         ensures err { OnErr result (IsSame self.old self.new) }
     {
         let Some(asker) = self.asked.asker(n) else {
@@ -120,7 +120,7 @@ impl Proxy {
 
     #[tactic(auto, unfolding(crate::specs::Proxy::server_response))]
     pub(crate) fn server_response(&mut self, reply: Response) -> Result<Sent, NoMemory>
-        ensures ok { IfOk result (Makes self.old self.new (server_response (show_response reply))) }
+        ensures ok { IfOk result (MakesSent self.old self.new (server_response (show_response reply))) }
         ensures err { OnErr result (IsSame self.old self.new) }
     {
         let (id, body) = reply.into_parts();
@@ -141,7 +141,7 @@ impl Proxy {
         requires lowest { lowest (show_proxy self.old).editors ≡ Some k }
         requires left { (show_proxy self.old).next < last_id }
         ensures ok { IfOk result
-            (Makes self.old self.new (pass_to k (show_request request) (show_id id))) }
+            (MakesSent self.old self.new (pass_to k (show_request request) (show_id id))) }
         ensures err { OnErr result (IsSame self.old self.new) }
     {
         let n = self.next;
@@ -153,7 +153,7 @@ impl Proxy {
 
     fn refuse_server(&self, id: Id) -> Result<Sent, NoMemory>
         ensures { IfOk result (λ sent. all_sent sent.items
-            ≡ (Side.Server, answer (show_id id) internal) ∷ []) }
+            ≡ (Side.Server, response_to (show_id id) internal) ∷ []) }
     {
         let refused = refusal(self.alloc, id, ErrorCode::InternalError)?;
         one(self.alloc, Side::Server, refused)
@@ -162,7 +162,7 @@ impl Proxy {
     #[tactic(auto, unfolding(crate::specs::Proxy::server_request))]
     fn server_request(&mut self, request: Request, id: Id) -> Result<Sent, NoMemory>
         ensures ok { IfOk result
-            (Makes self.old self.new (server_request (show_request request) (show_id id))) }
+            (MakesSent self.old self.new (server_request (show_request request) (show_id id))) }
         ensures err { OnErr result (IsSame self.old self.new) }
     {
         match lowest_of(&self.editors) {
@@ -199,7 +199,7 @@ impl Proxy {
 
     #[tactic(auto, unfolding(crate::specs::Proxy::server_cancel))]
     fn server_cancel(&self, request: Request) -> Result<Sent, NoMemory>
-        ensures { IfOk result (Makes self.now self.now (server_cancel (show_request request))) }
+        ensures { IfOk result (MakesSent self.now self.now (server_cancel (show_request request))) }
     {
         let (_, _, params) = request.into_parts();
         match named_by(params) {
@@ -210,7 +210,7 @@ impl Proxy {
 
     #[tactic(auto, unfolding(crate::specs::Proxy::broadcast))]
     fn broadcast(&self, note: Request) -> Result<Outgoing, NoMemory>
-        ensures { IfOk result (Gives self.now self.now (broadcast (show_request note))) }
+        ensures { IfOk result (GivesOutgoing self.now self.now (broadcast (show_request note))) }
     {
         let editors = here(self.alloc, &self.editors)?;
         Ok(Outgoing::Broadcast(editors, note))
@@ -218,7 +218,7 @@ impl Proxy {
 
     pub(crate) fn server_called(&mut self, request: Request) -> Result<Outgoing, NoMemory>
         ensures ok { IfOk result
-            (Gives self.old self.new (server_called (show_request request)
+            (GivesOutgoing self.old self.new (server_called (show_request request)
             (show_request request).id)) }
         ensures broadcast { IfOk result (KeepsAtBroadcast self.old self.new) }
         ensures err { OnErr result (IsSame self.old self.new) }

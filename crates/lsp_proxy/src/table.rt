@@ -1,10 +1,10 @@
 //! The requests that wait for a response, found by their drawn ids and by who asked.
 ghost use Rattle.std.specs.Prelude.{◌≡◌, ◌++◌, [], ◌∷◌, map, IfOk, OnOk, OnErr, option_map};
 ghost use Rattle.std.specs.Cmp.{on_equiv, on_per, partial_equiv_from_equiv};
-ghost use Rattle.lsp_proxy.specs.Entries.{asker_at, place_of, without, AreBelow, same_asker_equiv, asker_writes, asker_writes_alike};
+ghost use Rattle.lsp_proxy.specs.Entries.{asker_at, place_of, without_entry, AreBelow, same_asker_equiv, asker_writes, asker_writes_alike};
 ghost use Rattle.lsp_proxy.specs.Proxy.{refused};
 ghost use Rattle.lsp_proxy.specs.Sent.{all_sent};
-ghost use Rattle.lsp_proxy.specs.Tables.{show_asker, same_shown, entries_of};
+ghost use Rattle.lsp_proxy.specs.Tables.{show_asker, same_shown, table_entries};
 
 use crate::parts::{Sent, refusal};
 use crate::side::Side;
@@ -71,11 +71,11 @@ pub(crate) struct Table {
 impl Model for Table {
     ghost use Rattle.std.specs.Prelude.{List};
     ghost use Rattle.lsp_proxy.specs.Entries.{Entry};
-    ghost use Rattle.lsp_proxy.specs.Tables.{entries_of};
+    ghost use Rattle.lsp_proxy.specs.Tables.{table_entries};
 
     ghost Value = { List Entry };
 
-    ghost view = { λ t. entries_of t.keyed };
+    ghost view = { λ t. table_entries t.keyed };
 }
 
 impl Table {
@@ -119,7 +119,7 @@ impl Table {
 
     /// Takes the entry under the drawn id out.
     pub(crate) fn remove(&mut self, n: u64)
-        ensures { self.new ≡ without n self.old }
+        ensures { self.new ≡ without_entry n self.old }
     {
         drop(self.keyed.remove(n));
     }
@@ -141,7 +141,7 @@ impl Table {
 
 fn answers_to(alloc: Global, entries: &BTreeMap<u64, (Asker, ())>) -> Result<Sent, NoMemory>
     ensures { IfOk result
-        (λ sent. all_sent sent.items ≡ map refused (entries_of entries.now.entries)) }
+        (λ sent. all_sent sent.items ≡ map refused (table_entries entries.now.entries)) }
 {
     let mut sent = Vec::new(alloc);
     for (_, (asker, ())) in entries.iter() {

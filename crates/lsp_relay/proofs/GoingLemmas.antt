@@ -11,26 +11,26 @@ use Rattle.lsp_server.proofs.KnownLemmas.{appends_none, appends_more, consumes_m
 use Rattle.lsp_server.proofs.CodecLemmas.{told_now, items_now, more_more}
 use Rattle.lsp_proxy.specs.Proxy.{opening_state}
 use Rattle.lsp_proxy.specs.Law.{sent_over, state_after}
-use Rattle.lsp_relay.specs.Relay.{events, count_dropped, counted, sent_frames, relay_frames, IsRelayed, WroteTold, WrotePart, Place, opening_place, Took}
+use Rattle.lsp_relay.specs.Relay.{events, count_dropped, counted, sent_frames, relay_frames, IsRelayed, RelayWroteTold, RelayWrotePart, RelayPlace, opening_place, TookItems}
 use Rattle.lsp_relay.specs.Relaying.{frames_from}
 use Rattle.lsp_relay.proofs.ApartLemmas.{keeps_apart}
 use Rattle.lsp_relay.proofs.EventLemmas.{events-append, over_both}
 use Rattle.lsp_relay.proofs.TookLemmas.{took_more, took_after}
 
 -- a relay has come this far with the bytes that it was given
-pub record Going (editors : ℕ) (left0 left1 taken0 taken1 : Option (List ℕ)) (place : Place) (codec : At) : Type 0 where
+pub record Going (editors : ℕ) (left0 left1 taken0 taken1 : Option (List ℕ)) (place : RelayPlace) (codec : At) : Type 0 where
   pub fed : List ℕ
   pub gives : Consumes left0 left1 fed
   pub given : List Item
   pub decodes : Decodes (more (start default_limits) fed) given codec
   -- all that waited was written
   pub written : List ℕ
-  pub took : Took (opening_place editors) given (record place { waiting = written })
+  pub took : TookItems (opening_place editors) given (record place { waiting = written })
   pub empty : place.waiting ≡ []
   pub writes : Appends taken0 taken1 written
   pub told : told_at codec ≡ []
 
-module _ (editors : ℕ) (left0 left1 taken0 taken1 : Option (List ℕ)) (place : Place) (codec : At) (going : Going editors left0 left1 taken0 taken1 place codec) where
+module _ (editors : ℕ) (left0 left1 taken0 taken1 : Option (List ℕ)) (place : RelayPlace) (codec : At) (going : Going editors left0 left1 taken0 taken1 place codec) where
   -- the items given are those that the bytes read tell
   told_is : told default_limits going.fed ≡ going.given
   told_is = told_now (more (start default_limits) going.fed) codec going.given going.decodes ∙ ap (λ l. going.given ++ l) going.told ∙ append-nil going.given
@@ -40,7 +40,7 @@ module _ (editors : ℕ) (left0 left1 taken0 taken1 : Option (List ℕ)) (place 
 
 -- ---- what it comes to, where the bytes are told
 
-module _ (editors : ℕ) (bytes : List ℕ) (left1 taken0 taken1 : Option (List ℕ)) (place : Place) (codec : At) (going : Going editors (Some bytes) left1 taken0 taken1 place codec) where
+module _ (editors : ℕ) (bytes : List ℕ) (left1 taken0 taken1 : Option (List ℕ)) (place : RelayPlace) (codec : At) (going : Going editors (Some bytes) left1 taken0 taken1 place codec) where
   told_given : told default_limits going.fed ≡ going.given
   told_given = told_is editors (Some bytes) left1 taken0 taken1 place codec going
 
@@ -48,7 +48,7 @@ module _ (editors : ℕ) (bytes : List ℕ) (left1 taken0 taken1 : Option (List 
   frames_told = ap (relay_frames editors) told_given ∙ sym (written_is editors (Some bytes) left1 taken0 taken1 place codec going)
 
   -- between two reads what was written is exact
-  pub exact : WroteTold editors (call_bytes bytes left1 taken0 taken1)
+  pub exact : RelayWroteTold editors (call_bytes bytes left1 taken0 taken1)
   exact = record {
     read = going.fed;
     gives = going.gives;
@@ -65,7 +65,7 @@ module _ (editors : ℕ) (bytes : List ℕ) (left1 taken0 taken1 : Option (List 
 
   -- ---- the end of input
 
-  pub at_end : (left2 : Option (List ℕ)) → left1 ≡ Some [] → left2 ≡ Some [] → (last : Place) → Took place (items_at codec) last → events place.editors (items_at codec) ≡ []
+  pub at_end : (left2 : Option (List ℕ)) → left1 ≡ Some [] → left2 ≡ Some [] → (last : RelayPlace) → TookItems place (items_at codec) last → events place.editors (items_at codec) ≡ []
       → IsRelayed editors (call_bytes bytes left2 taken0 taken1) last.passed last.dropped
   at_end left2 empty after last took silent =
       let read : bytes ≡ going.fed = all_read bytes going.fed left1 going.gives empty in
@@ -88,7 +88,7 @@ module _ (editors : ℕ) (bytes : List ℕ) (left1 taken0 taken1 : Option (List 
 
   wrote : (left2 taken2 : Option (List ℕ)) (piece : List ℕ) (size : ℕ) → Consumes left1 left2 piece → length piece ≤ size → (late : List ℕ) → Appends taken1 taken2 late
       → ((rest : List ℕ) → IsPrefixOf late (sent_frames (sent_over (events editors (items_at (more codec (piece ++ rest)))) place.state)))
-      → WrotePart editors (call_bytes bytes left2 taken0 taken2) size
+      → RelayWrotePart editors (call_bytes bytes left2 taken0 taken2) size
   wrote left2 taken2 piece size gives short late writes part =
       let read = consumes_more (Some bytes) left1 left2 going.fed piece going.gives gives in
       let left = what_is_left bytes left2 (going.fed ++ piece) read in
@@ -109,14 +109,14 @@ module _ (editors : ℕ) (bytes : List ℕ) (left1 taken0 taken1 : Option (List 
       }
 
   -- nothing of the piece was written
-  pub wrote_before : (left2 : Option (List ℕ)) (piece : List ℕ) (size : ℕ) → Consumes left1 left2 piece → length piece ≤ size → WrotePart editors (call_bytes bytes left2 taken0 taken1) size
+  pub wrote_before : (left2 : Option (List ℕ)) (piece : List ℕ) (size : ℕ) → Consumes left1 left2 piece → length piece ≤ size → RelayWrotePart editors (call_bytes bytes left2 taken0 taken1) size
   wrote_before left2 piece size gives short =
       wrote left2 taken1 piece size gives short [] (appends_none taken1)
       (λ rest. (sent_frames (sent_over (events editors (items_at (more codec (piece ++ rest)))) place.state), refl))
 
   -- some of what the proxy sends for the piece was written
   pub wrote_within : (left2 taken2 : Option (List ℕ)) (piece : List ℕ) (size : ℕ) → Consumes left1 left2 piece → length piece ≤ size → (written : List ℕ)
-      → ((rest : List ℕ) → IsPrefixOf written (frames_from place (items_at (more (more codec piece) rest)))) → Appends taken1 taken2 written → WrotePart editors (call_bytes bytes left2 taken0 taken2) size
+      → ((rest : List ℕ) → IsPrefixOf written (frames_from place (items_at (more (more codec piece) rest)))) → Appends taken1 taken2 written → RelayWrotePart editors (call_bytes bytes left2 taken0 taken2) size
   wrote_within left2 taken2 piece size gives short written part writes =
       wrote left2 taken2 piece size gives short written writes
       (λ rest. subst (λ n. IsPrefixOf written (sent_frames (sent_over (events n (items_at (more codec (piece ++ rest)))) place.state))) going.took.editors

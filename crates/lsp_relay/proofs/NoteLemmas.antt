@@ -13,7 +13,7 @@ use Rattle.lsp_rpc.proofs.Integers.{has_float-of_integer, has_float-id_data}
 use Rattle.lsp_proxy.specs.declared.side.Side.{Side}
 use Rattle.lsp_proxy.specs.Law.{Event}
 use Rattle.lsp_relay.specs.Value.{put_some, put_body, error_value, version, message_value}
-use Rattle.lsp_relay.specs.Notes.{event_with, event_in, event_of_message, side_in, number_of, note_of}
+use Rattle.lsp_relay.specs.Notes.{event_with, event_in, event_of_message, side_in, number_of_side, note_of}
 
 either_false : (a b : Bool) → a ≡ false → b ≡ false → (a || b) ≡ false
 either_false true b h k = h
@@ -65,7 +65,7 @@ value_free (request r) h =
 
 pub note_free : (s : Side × MessageData) → message_has_float s.1 ≡ false → message_has_float (note_of s) ≡ false
 note_free s h =
-    put_free (codes "message") (message_value s.1) (put (codes "side") (number (unsigned (number_of s.0))) no_members) (value_free s.1 h) refl
+    put_free (codes "message") (message_value s.1) (put (codes "side") (number (unsigned (number_of_side s.0))) no_members) (value_free s.1 h) refl
 
 -- ---- what comes
 

@@ -11,10 +11,10 @@ use Rattle.lsp_server.specs.Items.{Decodes}
 use Rattle.lsp_server.specs.Served.{call_bytes}
 use Rattle.lsp_server.specs.Reads.{Moment}
 use Rattle.lsp_server.specs.Written.{IsPrefixOf}
-use Rattle.lsp_server.specs.Consuming.{Given, piece, end, Outcome, done, stops, last_outcome, Did, Took as TookBytes, AllTook, bytes_of, IsTimely, TookLast}
+use Rattle.lsp_server.specs.Consuming.{Given, piece, end, ConsumerOutcome, done, stops, last_outcome, Did, Took as TookBytes, AllTook, bytes_of, IsTimely, TookLast}
 use Rattle.lsp_server.proofs.KnownLemmas.{appends_none, appends_more, consumes_none, end_before}
 use Rattle.lsp_server.proofs.TakingLemmas.{did_none}
-use Rattle.lsp_relay.specs.Relay.{Place, opening_place, events, Took, IsRelayed, WroteTold, AllPassed, WrotePart}
+use Rattle.lsp_relay.specs.Relay.{RelayPlace, opening_place, events, TookItems, IsRelayed, RelayWroteTold, AllPassed, RelayWrotePart}
 use Rattle.lsp_relay.specs.Relaying.{Stand, IsOpen, frames_from, Relays, relays}
 use Rattle.lsp_relay.proofs.RelaysLemmas.{relays_lawful}
 use Rattle.lsp_relay.proofs.GoingLemmas.{Going, exact, at_end, wrote_before, wrote_within}
@@ -22,9 +22,9 @@ use Rattle.lsp_relay.proofs.GoingLemmas.{Going, exact, at_end, wrote_before, wro
 -- nothing was taken
 pub opened : (editors : ℕ) (a : Stand) → a.place ≡ opening_place editors → a.codec ≡ start_codec default_limits → IsOpen a
 opened editors a opening fresh =
-    let passed : a.place.passed ≡ 0 = ap (λ (p : Place). p.passed) opening in
-    let dropped : a.place.dropped ≡ 0 = ap (λ (p : Place). p.dropped) opening in
-    record { empty = ap (λ (p : Place). p.waiting) opening; told = ap told_at fresh; passed = omega (arith, passed); dropped = omega (arith, dropped) }
+    let passed : a.place.passed ≡ 0 = ap (λ (p : RelayPlace). p.passed) opening in
+    let dropped : a.place.dropped ≡ 0 = ap (λ (p : RelayPlace). p.dropped) opening in
+    record { empty = ap (λ (p : RelayPlace). p.waiting) opening; told = ap told_at fresh; passed = omega (arith, passed); dropped = omega (arith, dropped) }
 
 -- an error of the last step is one of the sink or of memory
 of_sink : (a b : Stand) (given : Given) (e : ServeError) (written : List ℕ) → Relays a given (stops e) written b → ComesOfSink e
@@ -39,7 +39,7 @@ no_desk_of a b begin now size ReadsSpent last = λ n is. absurd (cc)
 no_desk_of a b begin now size NoMemory last = λ n is. absurd (cc)
 
 -- nothing more was written
-going_on : {bytes : List ℕ} (editors : ℕ) (left1 taken0 taken1 taken2 : Option (List ℕ)) (place : Place) (codec : At) → Going editors (Some bytes) left1 taken0 taken1 place codec → Appends taken1 taken2 []
+going_on : {bytes : List ℕ} (editors : ℕ) (left1 taken0 taken1 taken2 : Option (List ℕ)) (place : RelayPlace) (codec : At) → Going editors (Some bytes) left1 taken0 taken1 place codec → Appends taken1 taken2 []
     → Going editors (Some bytes) left1 taken0 taken2 place codec
 going_on editors left1 taken0 taken1 taken2 place codec going nothing = record {
   fed = going.fed;
@@ -63,13 +63,13 @@ module _ (editors : ℕ) (a : Stand) (opening : a.place ≡ opening_place editor
     given = t.did.does.given;
     decodes = subst (λ k. Decodes (more k t.read) t.did.does.given b.codec) fresh t.did.does.decodes;
     written = t.did.written;
-    took = subst (λ p. Took p t.did.does.given (record b.place { waiting = t.did.written })) opening t.did.does.took;
+    took = subst (λ p. TookItems p t.did.does.given (record b.place { waiting = t.did.written })) opening t.did.does.took;
     empty = t.did.does.opened.empty;
     writes = t.did.writes;
     told = t.did.does.opened.told;
   }
 
-  pub between : (b : Stand) (now : Moment) → TookBytes relays a begin now b → WroteTold editors (call_bytes bytes now.left begin.taken now.taken)
+  pub between : (b : Stand) (now : Moment) → TookBytes relays a begin now b → RelayWroteTold editors (call_bytes bytes now.left begin.taken now.taken)
   between b now t = exact editors bytes now.left begin.taken now.taken b.place b.codec (going b now t)
 
   pub all_passed : (now : Moment) → AllTook relays a begin now → AllPassed editors bytes begin now
@@ -95,7 +95,7 @@ module _ (editors : ℕ) (a : Stand) (opening : a.place ≡ opening_place editor
         now.left ends.0 ends.1 b.place d.does.took d.does.silent
 
     part_at : (size : ℕ) (last : Given) (e : ServeError) → Consumes middle.left now.left (bytes_of last) → length (bytes_of last) ≤ size
-        → (written : List ℕ) → Relays mid last (stops e) written b → Appends middle.taken now.taken written → WrotePart editors (call_bytes bytes now.left begin.taken now.taken) size
+        → (written : List ℕ) → Relays mid last (stops e) written b → Appends middle.taken now.taken written → RelayWrotePart editors (call_bytes bytes now.left begin.taken now.taken) size
     part_at size (piece xs) e gives short written d writes =
         wrote_within editors bytes middle.left begin.taken middle.taken mid.place mid.codec (going mid middle took) now.left now.taken xs size gives short written d.1 writes
     part_at size end e gives short written d writes =
@@ -106,17 +106,17 @@ module _ (editors : ℕ) (a : Stand) (opening : a.place ≡ opening_place editor
     pub done_all : TookLast relays a begin now size done b → IsRelayed editors (call_bytes bytes now.left begin.taken now.taken) b.place.passed b.place.dropped
     done_all t = done_at t.mid t.middle t.took b now t.last t.gives t.timely t.did
 
-    last_part : (outcome : Outcome) → TookLast relays a begin now size outcome b → WrotePart editors (call_bytes bytes now.left begin.taken now.taken) size
+    last_part : (outcome : ConsumerOutcome) → TookLast relays a begin now size outcome b → RelayWrotePart editors (call_bytes bytes now.left begin.taken now.taken) size
     last_part outcome t =
         part_at t.mid t.middle t.took b now size t.last NoMemory t.gives t.short t.did.written
         (relays_lawful.refused t.mid b t.last outcome t.did.written NoMemory t.did.does tt) t.did.writes
 
-    between_part : TookBytes relays a begin now b → WrotePart editors (call_bytes bytes now.left begin.taken now.taken) size
+    between_part : TookBytes relays a begin now b → RelayWrotePart editors (call_bytes bytes now.left begin.taken now.taken) size
     between_part t =
         wrote_before editors bytes now.left begin.taken now.taken b.place b.codec (going b now t) now.left [] size (consumes_none now.left) (omega arith)
 
     pub all_part : {A : Type 0} (r : Result A ServeError) → (EndsInStep r → TookLast relays a begin now size (last_outcome r) b) → IfErr r (λ e. IsBetweenReads e → TookBytes relays a begin now b)
-        → WrotePart editors (call_bytes bytes now.left begin.taken now.taken) size
+        → RelayWrotePart editors (call_bytes bytes now.left begin.taken now.taken) size
     all_part (Ok x) last took = last_part done (last tt)
     all_part (Err ReadFault) last took = between_part (took tt)
     all_part (Err WriteFault) last took = last_part (stops WriteFault) (last tt)
@@ -127,12 +127,12 @@ module _ (editors : ℕ) (a : Stand) (opening : a.place ≡ opening_place editor
     -- ---- all of it, by the answer
 
     pub exact_of : {A : Type 0} (r : Result A ServeError) → IfErr r (λ e. IsBetweenReads e → TookBytes relays a begin now b)
-        → IfErr r (λ e. IsBetweenReads e → WroteTold editors (call_bytes bytes now.left begin.taken now.taken))
+        → IfErr r (λ e. IsBetweenReads e → RelayWroteTold editors (call_bytes bytes now.left begin.taken now.taken))
     exact_of (Ok x) took = tt
     exact_of (Err e) took = λ at. between b now (took at)
 
 -- where nothing was read
-pub nothing_part : (editors : ℕ) (bytes : List ℕ) (begin : Moment) (size : ℕ) → begin.left ≡ Some bytes → WrotePart editors (call_bytes bytes begin.left begin.taken begin.taken) size
+pub nothing_part : (editors : ℕ) (bytes : List ℕ) (begin : Moment) (size : ℕ) → begin.left ≡ Some bytes → RelayWrotePart editors (call_bytes bytes begin.left begin.taken begin.taken) size
 nothing_part editors bytes begin size is =
     let a : Stand = record { place = opening_place editors; codec = start_codec default_limits } in
     between_part editors a refl refl bytes begin is a begin size (record { read = []; gives = consumes_none begin.left; did = did_none relays relays_lawful a begin.taken (opened editors a refl refl) })
@@ -149,5 +149,5 @@ did_nothing a b bytes taken e sink = record {
 pub did_no_end : (a b : Stand) (taken : Option (List ℕ)) (e : ServeError) → ComesOfSink e → Did relays a end (stops e) taken taken b
 did_no_end a b taken e sink = record { written = []; does = (sink, refl); writes = appends_none taken }
 
-pub did_end : (a b : Stand) (taken : Option (List ℕ)) → Took a.place (items_at a.codec) b.place → events a.place.editors (items_at a.codec) ≡ [] → Did relays a end done taken taken b
+pub did_end : (a b : Stand) (taken : Option (List ℕ)) → TookItems a.place (items_at a.codec) b.place → events a.place.editors (items_at a.codec) ≡ [] → Did relays a end done taken taken b
 did_end a b taken took silent = record { written = []; does = record { took = took; silent = silent; none = refl }; writes = appends_none taken }

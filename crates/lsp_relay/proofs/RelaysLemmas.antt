@@ -7,16 +7,16 @@ use Rattle.lsp_server.specs.declared.step.ServeError.{ServeError}
 use Rattle.lsp_server.specs.Errors.{ComesOfSink}
 use Rattle.lsp_server.specs.Items.{Decodes}
 use Rattle.lsp_server.specs.Written.{IsPrefixOf}
-use Rattle.lsp_server.specs.Consuming.{Given, piece, end, Outcome, goes_on, done, stops, IsLawful, Did}
+use Rattle.lsp_server.specs.Consuming.{Given, piece, end, ConsumerOutcome, goes_on, done, stops, IsLawfulConsumer, Did}
 use Rattle.lsp_server.proofs.CodecLemmas.{decodes_nothing, decodes_more, decodes_fed, more_nothing, more_more}
 use Rattle.lsp_proxy.specs.Law.{sent_over, state_after}
-use Rattle.lsp_relay.specs.Relay.{Place, Took, TookTold, events, sent_frames, counted}
+use Rattle.lsp_relay.specs.Relay.{RelayPlace, TookItems, TookTold, events, sent_frames, counted}
 use Rattle.lsp_relay.specs.Relaying.{Stand, IsOpen, RelaysTold, frames_from, Relays, relays}
 use Rattle.lsp_relay.proofs.EventLemmas.{events-append, over_both}
 use Rattle.lsp_relay.proofs.TookLemmas.{took_none, took_more, took_after}
 
 -- the frames over items that were taken, and over those after them
-pub frames_on : (a : Place) (xs ys : List Item) → frames_from a (xs ++ ys) ≡ frames_from a xs ++ sent_frames (sent_over (events a.editors ys) (state_after (events a.editors xs) a.state))
+pub frames_on : (a : RelayPlace) (xs ys : List Item) → frames_from a (xs ++ ys) ≡ frames_from a xs ++ sent_frames (sent_over (events a.editors ys) (state_after (events a.editors xs) a.state))
 frames_on a xs ys = ap (λ l. sent_frames (sent_over l a.state)) (events-append a.editors xs ys) ∙ over_both (events a.editors xs) (events a.editors ys) a.state
 
 -- what was taken is counted
@@ -32,7 +32,7 @@ relays_none a is = record {
   opened = is;
 }
   where
-    took_none_waiting : Took a.place [] (record a.place { waiting = [] })
+    took_none_waiting : TookItems a.place [] (record a.place { waiting = [] })
     took_none_waiting =
         let none = took_none a.place (record { passed = is.passed; dropped = is.dropped }) in
         record { editors = none.editors; state = none.state; passed = none.passed; dropped = none.dropped; waiting = sym is.empty ∙ none.waiting }
@@ -56,7 +56,7 @@ told_begins a b bytes written p c =
     let written_is : written ≡ frames_from a.place p.given = p.took.waiting ∙ ap (λ l. l ++ frames_from a.place p.given) p.before in
     (rest, ap (λ l. l ++ rest) written_is ∙ sym (frames_on a.place p.given after) ∙ ap (frames_from a.place) (sym (p.decodes.items c)))
 
-relays_refused : (a b : Stand) (given : Given) (outcome : Outcome) (written : List ℕ) (e : ServeError) → Relays a given outcome written b → ComesOfSink e → Relays a given (stops e) written b
+relays_refused : (a b : Stand) (given : Given) (outcome : ConsumerOutcome) (written : List ℕ) (e : ServeError) → Relays a given outcome written b → ComesOfSink e → Relays a given (stops e) written b
 relays_refused a b (piece bytes) goes_on written e p sink = (sink, told_begins a b bytes written p)
 relays_refused a b (piece bytes) done written e p sink = absurd p
 relays_refused a b (piece bytes) (stops e0) written e p sink = (sink, p.1)
@@ -68,16 +68,16 @@ relays_opens : (a b : Stand) (given : Given) (written : List ℕ) → Relays a g
 relays_opens a b (piece bytes) written p = p.opened
 relays_opens a b end written p = absurd p
 
-pub relays_lawful : IsLawful relays
+pub relays_lawful : IsLawfulConsumer relays
 relays_lawful = record { opens = relays_opens; none = relays_none; more = relays_more; refused = relays_refused }
 
 -- ---- what taking and writing come to
 
 -- all that waited was written
-pub did_told : (a b : Stand) (mid : Place) (bytes : List ℕ) (taken0 taken1 : Option (List ℕ)) → IsOpen a → TookTold a.place (more a.codec bytes) mid b.codec → told_at b.codec ≡ []
+pub did_told : (a b : Stand) (mid : RelayPlace) (bytes : List ℕ) (taken0 taken1 : Option (List ℕ)) → IsOpen a → TookTold a.place (more a.codec bytes) mid b.codec → told_at b.codec ≡ []
     → b.place ≡ record mid { waiting = [] } → Appends taken0 taken1 mid.waiting → Did relays a (piece bytes) goes_on taken0 taken1 b
 did_told a b mid bytes taken0 taken1 is told all rest writes =
-    let took : Took a.place told.given (record b.place { waiting = mid.waiting }) = subst (λ p. Took a.place told.given (record p { waiting = mid.waiting })) (sym rest) told.took in
+    let took : TookItems a.place told.given (record b.place { waiting = mid.waiting }) = subst (λ p. TookItems a.place told.given (record p { waiting = mid.waiting })) (sym rest) told.took in
     record {
       written = mid.waiting;
       does = record {
@@ -86,7 +86,7 @@ did_told a b mid bytes taken0 taken1 is told all rest writes =
         took = took;
         before = is.empty;
         opened = record {
-          empty = ap (λ (p : Place). p.waiting) rest;
+          empty = ap (λ (p : RelayPlace). p.waiting) rest;
           told = all;
           passed = fits a.place.passed (length (events a.place.editors told.given)) b.place.passed took.passed;
           dropped = fits a.place.dropped _ b.place.dropped took.dropped;
@@ -96,7 +96,7 @@ did_told a b mid bytes taken0 taken1 is told all rest writes =
     }
 
 -- some of what waited was written
-pub did_some : (a b : Stand) (mid : Place) (codec : At) (bytes : List ℕ) (taken0 taken1 : Option (List ℕ)) (e : ServeError) → IsOpen a → TookTold a.place (more a.codec bytes) mid codec → ComesOfSink e
+pub did_some : (a b : Stand) (mid : RelayPlace) (codec : At) (bytes : List ℕ) (taken0 taken1 : Option (List ℕ)) (e : ServeError) → IsOpen a → TookTold a.place (more a.codec bytes) mid codec → ComesOfSink e
     → (written : List ℕ) × IsPrefixOf written mid.waiting × Appends taken0 taken1 written → Did relays a (piece bytes) (stops e) taken0 taken1 b
 did_some a b mid codec bytes taken0 taken1 e is told sink part = record {
   written = part.0;

@@ -6,7 +6,7 @@ use Rattle.lsp_server.specs.Items.{Decodes}
 use Rattle.lsp_server.proofs.CodecLemmas.{decodes_nothing, decodes_more, told_now}
 use Rattle.lsp_proxy.specs.Law.{Event, react, sent_over, state_after}
 use Rattle.lsp_relay.specs.Notes.{event_of}
-use Rattle.lsp_relay.specs.Relay.{events, count_dropped, counted, sent_frames, Place, Took, TookTold}
+use Rattle.lsp_relay.specs.Relay.{events, count_dropped, counted, sent_frames, RelayPlace, TookItems, TookTold}
 use Rattle.lsp_relay.proofs.EventLemmas.{events-append, count_dropped-append, state_after-append, over_both}
 
 counted_more : (n a b m k : ℕ) → m ≡ counted (n + a) → k ≡ counted (m + b) → k ≡ counted (n + (a + b))
@@ -16,11 +16,11 @@ pub counted_none : (n : ℕ) → n < 2 ^ 64 → n ≡ counted (n + 0)
 counted_none n h = omega arith
 
 -- the counts fit 64 bits
-pub record IsCounted (p : Place) : Type 0 where
+pub record IsCounted (p : RelayPlace) : Type 0 where
   pub passed : p.passed < 2 ^ 64
   pub dropped : p.dropped < 2 ^ 64
 
-pub took_none : (p : Place) → IsCounted p → Took p [] p
+pub took_none : (p : RelayPlace) → IsCounted p → TookItems p [] p
 took_none p fits = record {
   editors = refl;
   state = refl;
@@ -29,7 +29,7 @@ took_none p fits = record {
   waiting = sym (append-nil p.waiting);
 }
 
-pub took_more : (a b c : Place) (xs ys : List Item) → Took a xs b → Took b ys c → Took a (xs ++ ys) c
+pub took_more : (a b c : RelayPlace) (xs ys : List Item) → TookItems a xs b → TookItems b ys c → TookItems a (xs ++ ys) c
 took_more a b c xs ys p q =
     let same : events a.editors ys ≡ events b.editors ys = ap (λ n. events n ys) (sym p.editors) in
     let lost : count_dropped a.editors ys ≡ count_dropped b.editors ys = ap (λ n. count_dropped n ys) (sym p.editors) in
@@ -49,12 +49,12 @@ took_more a b c xs ys p q =
           ∙ ap (λ l. a.waiting ++ sent_frames (sent_over l a.state)) (sym (events-append a.editors xs ys));
     }
 
-pub took_same : (a b : Place) (xs ys : List Item) → xs ≡ ys → Took a xs b → Took a ys b
-took_same a b xs ys is p = subst (λ l. Took a l b) is p
+pub took_same : (a b : RelayPlace) (xs ys : List Item) → xs ≡ ys → TookItems a xs b → TookItems a ys b
+took_same a b xs ys is p = subst (λ l. TookItems a l b) is p
 
 -- the same after frames that were written
-pub took_after : (a b : Place) (xs : List Item) (before : List ℕ) → a.waiting ≡ [] → Took a xs b
-    → Took (record a { waiting = before }) xs (record b { waiting = before ++ b.waiting })
+pub took_after : (a b : RelayPlace) (xs : List Item) (before : List ℕ) → a.waiting ≡ [] → TookItems a xs b
+    → TookItems (record a { waiting = before }) xs (record b { waiting = before ++ b.waiting })
 took_after a b xs before empty p = record {
   editors = p.editors;
   state = p.state;
@@ -64,8 +64,8 @@ took_after a b xs before empty p = record {
 }
 
 -- an item that tells no message is counted
-pub took_dropped : (a b : Place) (x : Item) → event_of a.editors x ≡ None → b.editors ≡ a.editors → b.state ≡ a.state → b.passed ≡ counted (a.passed + 0) → b.dropped ≡ counted (a.dropped + 1)
-    → b.waiting ≡ a.waiting → Took a (x ∷ []) b
+pub took_dropped : (a b : RelayPlace) (x : Item) → event_of a.editors x ≡ None → b.editors ≡ a.editors → b.state ≡ a.state → b.passed ≡ counted (a.passed + 0) → b.dropped ≡ counted (a.dropped + 1)
+    → b.waiting ≡ a.waiting → TookItems a (x ∷ []) b
 took_dropped a b x none editors state passed dropped waiting =
     let no_event : events a.editors (x ∷ []) ≡ [] = rw none refl in
     let one : count_dropped a.editors (x ∷ []) ≡ 1 = rw none refl in
@@ -78,8 +78,8 @@ took_dropped a b x none editors state passed dropped waiting =
     }
 
 -- an item that tells a message is heard
-pub took_heard : (a b : Place) (x : Item) (e : Event) → event_of a.editors x ≡ Some e → b.editors ≡ a.editors → b.state ≡ (react e a.state).0 → b.passed ≡ counted (a.passed + 1) → b.dropped ≡ counted (a.dropped + 0)
-    → b.waiting ≡ a.waiting ++ sent_frames (react e a.state).1 → Took a (x ∷ []) b
+pub took_heard : (a b : RelayPlace) (x : Item) (e : Event) → event_of a.editors x ≡ Some e → b.editors ≡ a.editors → b.state ≡ (react e a.state).0 → b.passed ≡ counted (a.passed + 1) → b.dropped ≡ counted (a.dropped + 0)
+    → b.waiting ≡ a.waiting ++ sent_frames (react e a.state).1 → TookItems a (x ∷ []) b
 took_heard a b x e some editors state passed dropped waiting =
     let event : events a.editors (x ∷ []) ≡ e ∷ [] = rw some refl in
     let none : count_dropped a.editors (x ∷ []) ≡ 0 = rw some refl in
@@ -93,10 +93,10 @@ took_heard a b x e some editors state passed dropped waiting =
 
 -- ---- what a codec tells
 
-pub told_start : (p : Place) (codec : At) → IsCounted p → TookTold p codec p codec
+pub told_start : (p : RelayPlace) (codec : At) → IsCounted p → TookTold p codec p codec
 told_start p codec fits = record { given = []; decodes = decodes_nothing codec; took = took_none p fits }
 
-pub told_more : (a : Place) (codec0 : At) (b : Place) (codec1 : At) (c : Place) (codec2 : At) → TookTold a codec0 b codec1 → TookTold b codec1 c codec2 → TookTold a codec0 c codec2
+pub told_more : (a : RelayPlace) (codec0 : At) (b : RelayPlace) (codec1 : At) (c : RelayPlace) (codec2 : At) → TookTold a codec0 b codec1 → TookTold b codec1 c codec2 → TookTold a codec0 c codec2
 told_more a codec0 b codec1 c codec2 p q = record {
   given = p.given ++ q.given;
   decodes = decodes_more codec0 codec1 codec2 p.given q.given p.decodes q.decodes;

@@ -19,8 +19,8 @@ editors_in (argument ∷ []) = editors_of argument
 editors_in (argument ∷ more ∷ arguments) = None
 
 -- how many editors the arguments ask for
-abbrev pub asked : List (String Global) → Option ℕ
-asked arguments = editors_in (map string_bytes arguments)
+abbrev pub editors_asked : List (String Global) → Option ℕ
+editors_asked arguments = editors_in (map string_bytes arguments)
 
 -- all bytes were relayed, with some counts
 pub record HasRelayed (editors : ℕ) (call : CallBytes) : Type 0 where
@@ -29,5 +29,5 @@ pub record HasRelayed (editors : ℕ) (call : CallBytes) : Type 0 where
   pub relayed : IsRelayed editors call passed dropped
 
 -- the arguments ask for editors, over a source that tells its bytes: this holds of their number and these bytes
-abbrev pub WhereTold : List (String Global) → Option (List ℕ) → (ℕ → List ℕ → Type 0) → Type 0
-WhereTold arguments left P = IfSome (asked arguments) (λ editors. IfSome left (P editors))
+abbrev pub WhereRelaying : List (String Global) → Option (List ℕ) → (ℕ → List ℕ → Type 0) → Type 0
+WhereRelaying arguments left P = IfSome (editors_asked arguments) (λ editors. IfSome left (P editors))

@@ -58,13 +58,13 @@ event_of editors (fault e) = None
 
 -- ---- what goes
 
-abbrev pub number_of : Side → ℕ
-number_of Server = 0
-number_of (Editor k) = k + 1
+abbrev pub number_of_side : Side → ℕ
+number_of_side Server = 0
+number_of_side (Editor k) = k + 1
 
 abbrev pub note_params : Side → MessageData → Data
 note_params side m =
-    object (put (codes "message") (message_value m) (put (codes "side") (number (unsigned (number_of side))) no_members))
+    object (put (codes "message") (message_value m) (put (codes "side") (number (unsigned (number_of_side side))) no_members))
 
 -- the notification of a message that is sent
 abbrev pub note_of : Side × MessageData → MessageData

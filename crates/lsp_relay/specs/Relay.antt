@@ -9,8 +9,8 @@ use Rattle.lsp_server.specs.SourceSink.{IsFlushed}
 use Rattle.lsp_server.specs.Served.{CallBytes, call_bytes}
 use Rattle.lsp_server.specs.Reads.{Moment}
 use Rattle.lsp_server.specs.Written.{IsPrefixOf}
-use Rattle.lsp_proxy.specs.Proxy.{State, Sent, opening_state}
-use Rattle.lsp_proxy.specs.Law.{Event, react, sent_over, state_after, request_ids, AreDistinct, responses_to, requests_of}
+use Rattle.lsp_proxy.specs.Proxy.{ProxyState, Sent, opening_state}
+use Rattle.lsp_proxy.specs.Law.{Event, react, sent_over, state_after, request_ids, AreDistinct, responses_to, times_requested}
 use Rattle.lsp_proxy.specs.Origin.{HasOrigin}
 use Rattle.lsp_relay.specs.Notes.{event_of, note_of}
 
@@ -45,7 +45,7 @@ latest_first (e ∷ es) history = latest_first es (e ∷ history)
 -- gets at most as many responses under an id as it asked, and each of them has its origin
 pub record KeepsApart (editors : ℕ) (es : List Event) : Type 0 where
   pub ids : AreDistinct (request_ids (sent_over es (opening_state editors)))
-  pub asked : (k : ℕ) (i : IdData) → responses_to k i (sent_over es (opening_state editors)) ≤ requests_of k i es
+  pub asked : (k : ℕ) (i : IdData) → responses_to k i (sent_over es (opening_state editors)) ≤ times_requested k i es
   pub origins : (earlier later : List Event) (event : Event) → es ≡ earlier ++ event ∷ later
       → AllByRecursion (HasOrigin editors (latest_first earlier []) event) (react event (state_after earlier (opening_state editors))).1
 
@@ -61,7 +61,7 @@ pub record IsRelayed (editors : ℕ) (call : CallBytes) (passed dropped : ℕ) :
   pub apart : KeepsApart editors (events editors (items default_limits call.bytes))
 
 -- what was written is the frames for the items that the bytes read tell
-pub record WroteTold (editors : ℕ) (call : CallBytes) : Type 0 where
+pub record RelayWroteTold (editors : ℕ) (call : CallBytes) : Type 0 where
   pub read : List ℕ
   pub gives : Consumes (Some call.bytes) call.left read
   pub writes : Appends call.taken call.taken_after (relay_frames editors (told default_limits read))
@@ -69,12 +69,12 @@ pub record WroteTold (editors : ℕ) (call : CallBytes) : Type 0 where
 -- as a read was made, what was written was the frames for the items told by the bytes read until then, and all of
 -- it was flushed, if all was at the start
 pub record AllPassed (editors : ℕ) (bytes : List ℕ) (start : Moment) (m : Moment) : Type 0 where
-  pub wrote : WroteTold editors (call_bytes bytes m.left start.taken m.taken)
+  pub wrote : RelayWroteTold editors (call_bytes bytes m.left start.taken m.taken)
   pub flushed : IsFlushed start.taken start.flushed → IsFlushed m.taken m.flushed
 
 -- what was written begins the frames for all items, and holds them whole for those that are told by the bytes
 -- read but for a last piece of at most so many bytes
-pub record WrotePart (editors : ℕ) (call : CallBytes) (size : ℕ) : Type 0 where
+pub record RelayWrotePart (editors : ℕ) (call : CallBytes) (size : ℕ) : Type 0 where
   pub early : List ℕ
   pub piece : List ℕ
   pub gives : Consumes (Some call.bytes) call.left (early ++ piece)
@@ -86,20 +86,20 @@ pub record WrotePart (editors : ℕ) (call : CallBytes) (size : ℕ) : Type 0 wh
 
 -- ---- for private clauses: where a relay stands
 
-pub record Place : Type 0 where
+pub record RelayPlace : Type 0 where
   pub editors : ℕ
-  pub state : State
+  pub state : ProxyState
   pub passed : ℕ
   pub dropped : ℕ
   -- what is still to be written
   pub waiting : List ℕ
 
 -- nothing was taken
-abbrev pub opening_place : ℕ → Place
+abbrev pub opening_place : ℕ → RelayPlace
 opening_place editors = record { editors = editors; state = opening_state editors; passed = 0; dropped = 0; waiting = [] }
 
 -- the items were taken: the proxy heard the messages, and the frames of what it sends wait to be written
-pub record Took (old : Place) (given : List Item) (new : Place) : Type 0 where
+pub record TookItems (old : RelayPlace) (given : List Item) (new : RelayPlace) : Type 0 where
   pub editors : new.editors ≡ old.editors
   pub state : new.state ≡ state_after (events old.editors given) old.state
   pub passed : new.passed ≡ counted (old.passed + length (events old.editors given))
@@ -107,7 +107,7 @@ pub record Took (old : Place) (given : List Item) (new : Place) : Type 0 where
   pub waiting : new.waiting ≡ old.waiting ++ sent_frames (sent_over (events old.editors given) old.state)
 
 -- the items that decoding gave on its way from one codec to another were taken
-pub record TookTold (old : Place) (old_codec : At) (new : Place) (new_codec : At) : Type 0 where
+pub record TookTold (old : RelayPlace) (old_codec : At) (new : RelayPlace) (new_codec : At) : Type 0 where
   pub given : List Item
   pub decodes : Decodes old_codec given new_codec
-  pub took : Took old given new
+  pub took : TookItems old given new

@@ -4,13 +4,13 @@ use Rattle.lsp_frame.specs.Codec.{Item, At, more, items_at, told_at}
 use Rattle.lsp_server.specs.Items.{Decodes}
 use Rattle.lsp_server.specs.Errors.{ComesOfSink}
 use Rattle.lsp_server.specs.Written.{IsPrefixOf}
-use Rattle.lsp_server.specs.Consuming.{Given, piece, end, Outcome, goes_on, done, stops, Consuming}
+use Rattle.lsp_server.specs.Consuming.{Given, piece, end, ConsumerOutcome, goes_on, done, stops, Consuming}
 use Rattle.lsp_proxy.specs.Law.{sent_over}
-use Rattle.lsp_relay.specs.Relay.{Place, Took, events, sent_frames}
+use Rattle.lsp_relay.specs.Relay.{RelayPlace, TookItems, events, sent_frames}
 
 -- where a relay stands, with what its codec holds
 pub record Stand : Type 0 where
-  pub place : Place
+  pub place : RelayPlace
   pub codec : At
 
 -- nothing waits to be written, all that the codec tells was taken, and the counts fit 64 bits
@@ -24,21 +24,21 @@ pub record IsOpen (a : Stand) : Type 0 where
 pub record RelaysTold (a : Stand) (bytes written : List ℕ) (b : Stand) : Type 0 where
   pub given : List Item
   pub decodes : Decodes (more a.codec bytes) given b.codec
-  pub took : Took a.place given (record b.place { waiting = written })
+  pub took : TookItems a.place given (record b.place { waiting = written })
   pub before : a.place.waiting ≡ []
   pub opened : IsOpen b
 
 -- what ends the input was taken, for which the proxy sends nothing
 pub record RelaysEnd (a : Stand) (written : List ℕ) (b : Stand) : Type 0 where
-  pub took : Took a.place (items_at a.codec) b.place
+  pub took : TookItems a.place (items_at a.codec) b.place
   pub silent : events a.place.editors (items_at a.codec) ≡ []
   pub none : written ≡ []
 
 -- the frames of what the proxy sends for these items
-abbrev pub frames_from : Place → List Item → List ℕ
+abbrev pub frames_from : RelayPlace → List Item → List ℕ
 frames_from place found = sent_frames (sent_over (events place.editors found) place.state)
 
-abbrev pub Relays : Stand → Given → Outcome → List ℕ → Stand → Type 0
+abbrev pub Relays : Stand → Given → ConsumerOutcome → List ℕ → Stand → Type 0
 Relays a (piece bytes) goes_on written b = RelaysTold a bytes written b
 Relays a (piece bytes) done written b = ⊥
 Relays a (piece bytes) (stops e) written b = ComesOfSink e × ((c : List ℕ) → IsPrefixOf written (frames_from a.place (items_at (more (more a.codec bytes) c))))

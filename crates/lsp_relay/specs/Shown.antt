@@ -2,10 +2,10 @@
 use Rattle.lsp_proxy.specs.Shown.{show_proxy}
 use Rattle.lsp_relay.specs.declared.carrier.Carrier.{Carrier}
 use Rattle.lsp_relay.specs.declared.reads.Relaying.{Relaying}
-use Rattle.lsp_relay.specs.Relay.{Place}
+use Rattle.lsp_relay.specs.Relay.{RelayPlace}
 use Rattle.lsp_relay.specs.Relaying.{Stand}
 
-abbrev pub show_carrier : Carrier → Place
+abbrev pub show_carrier : Carrier → RelayPlace
 show_carrier r = record {
   editors = r.editors;
   state = show_proxy r.proxy;

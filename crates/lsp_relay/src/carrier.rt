@@ -13,7 +13,7 @@ ghost use Rattle.lsp_proxy.specs.Outgoing.{expanded};
 ghost use Rattle.lsp_proxy.specs.Sent.{all_sent};
 ghost use Rattle.lsp_proxy.specs.Shown.{show_proxy};
 ghost use Rattle.lsp_relay.specs.Floats.{AreFloatFree, opening_has_float};
-ghost use Rattle.lsp_relay.specs.Relay.{opening_place, Took, TookTold, sent_frames, events};
+ghost use Rattle.lsp_relay.specs.Relay.{opening_place, TookItems, TookTold, sent_frames, events};
 
 use crate::broadcast::push_broadcast;
 use crate::notes::{event, note};
@@ -103,7 +103,7 @@ impl Carrier {
     // Takes the item that is this message.
     fn take(&mut self, message: Message) -> Result<(), NoMemory>
         requires { message_has_float (show_message message) ≡ false }
-        ensures { OnOk result (Took (show_carrier self.old)
+        ensures { OnOk result (TookItems (show_carrier self.old)
             (message_item (show_message message) ∷ []) (show_carrier self.new)) }
     {
         match event(self.alloc, self.editors, message) {
@@ -155,7 +155,7 @@ impl Carrier {
     pub(crate) fn take_end(&mut self, codec: &mut LanguageServerCodec) -> Result<(), NoMemory>
         requires { told_at codec.old ≡ [] }
         ensures took { OnOk result
-            (Took (show_carrier self.old) (items_at codec.old) (show_carrier self.new)) }
+            (TookItems (show_carrier self.old) (items_at codec.old) (show_carrier self.new)) }
         ensures silent { OnOk result (events self.old.editors (items_at codec.old) ≡ []) }
     {
         match codec.finish()? {

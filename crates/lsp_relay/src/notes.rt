@@ -5,7 +5,7 @@ ghost use Rattle.serde_json.specs.Find.{get_member};
 ghost use Rattle.serde_json.specs.View.{view, members_view};
 ghost use Rattle.lsp_rpc.specs.Message.{clean_message};
 ghost use Rattle.lsp_rpc.specs.Shown.{show_request, show_message};
-ghost use Rattle.lsp_relay.specs.Notes.{side_of, side_in, event_with, event_in_members, event_in, event_of_call, event_of_message, number_of, note_params, note_of};
+ghost use Rattle.lsp_relay.specs.Notes.{side_of, side_in, event_with, event_in_members, event_in, event_of_call, event_of_message, number_of_side, note_params, note_of};
 ghost use Rattle.lsp_proxy.specs.Sent.{show_sent};
 
 use crate::value::to_value;
@@ -133,7 +133,7 @@ pub(crate) fn event(alloc: Global, editors: u32, message: Message) -> Option<(Si
 }
 
 fn side_number(side: Side) -> u64
-    ensures { result ≡ number_of side }
+    ensures { result ≡ number_of_side side }
 {
     match side {
         Side::Server => 0,

@@ -6,7 +6,7 @@ ghost use Rattle.lsp_server.specs.Leaves.{StaysFlushed, TellsFaults, WithinReads
 ghost use Rattle.lsp_server.specs.SourceSink.{CountRose};
 ghost use Rattle.lsp_server.specs.Served.{call_bytes};
 ghost use Rattle.lsp_server.specs.Reads.{moment, Made, InOrder};
-ghost use Rattle.lsp_relay.specs.Relay.{IsRelayed, WroteTold, AllPassed, WrotePart};
+ghost use Rattle.lsp_relay.specs.Relay.{IsRelayed, RelayWroteTold, AllPassed, RelayWrotePart};
 
 use crate::carrier::Carrier;
 use lsp_frame::LanguageServerCodec;
@@ -97,9 +97,9 @@ pub fn relay<I: Source, O: Sink>(
 
     // What was written by then.
     ensures exact { IfErr result (λ e. IsBetweenReads e → IfSome (I.left source.old) (λ bytes.
-        WroteTold editors
+        RelayWroteTold editors
         (call_bytes bytes (I.left source.new) (O.taken sink.old) (O.taken sink.new)))) }
-    ensures part { OnErr result (IfSome (I.left source.old) (λ bytes. WrotePart editors
+    ensures part { OnErr result (IfSome (I.left source.old) (λ bytes. RelayWrotePart editors
         (call_bytes bytes (I.left source.new) (O.taken sink.old) (O.taken sink.new)) 4096)) }
 {
     let mut ends = Ends { source, sink };
@@ -139,9 +139,9 @@ pub fn relay_over<T: Transport>(
 
     // What was written by then.
     ensures exact { IfErr result (λ e. IsBetweenReads e → IfSome (T.left io.old) (λ bytes.
-        WroteTold editors
+        RelayWroteTold editors
         (call_bytes bytes (T.left io.new) (T.taken io.old) (T.taken io.new)))) }
-    ensures part { IfSome (T.left io.old) (λ bytes. WrotePart editors
+    ensures part { IfSome (T.left io.old) (λ bytes. RelayWrotePart editors
         (call_bytes bytes (T.left io.new) (T.taken io.old) (T.taken io.new)) 4096) }
 
     // As each read was made, what was written was exactly the frames of what the proxy sends for

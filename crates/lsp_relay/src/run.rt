@@ -2,8 +2,8 @@
 ghost use Rattle.std.specs.Prelude.{◌≡◌, ◌≢◌, ℕ, ◌≤◌, ◌<◌, ◌⊎◌, ◌↔◌, ◌+◌, ◌-◌, ◌^◌, None, length, IfSome};
 ghost use Rattle.lsp_server.specs.SourceSink.{CountRose, IsFlushed};
 ghost use Rattle.lsp_server.specs.Served.{call_bytes};
-ghost use Rattle.lsp_relay.specs.Relay.{WroteTold, WrotePart};
-ghost use Rattle.lsp_relay.specs.Arguments.{asked, editors_of, HasRelayed, WhereTold};
+ghost use Rattle.lsp_relay.specs.Relay.{RelayWroteTold, RelayWrotePart};
+ghost use Rattle.lsp_relay.specs.Arguments.{editors_asked, editors_of, HasRelayed, WhereRelaying};
 
 use crate::reads::relay;
 use lsp_program::{Status, number, status_of};
@@ -23,13 +23,13 @@ pub fn run_proxy<I: Source, O: Sink>(
     ensures known { (result ≤ 6) × (result ≢ 1) }
 
     // The arguments.
-    ensures usage { (result ≡ 2) ↔ (asked arguments.now.items ≡ None) }
-    ensures untouched { asked arguments.now.items ≡ None
+    ensures usage { (result ≡ 2) ↔ (editors_asked arguments.now.items ≡ None) }
+    ensures untouched { editors_asked arguments.now.items ≡ None
         → (source.new ≡ source.old) × (sink.new ≡ sink.old) }
 
     // All the source's bytes were read, and what is written is what the proxy sends for their
     // items.
-    ensures done { result ≡ 0 → WhereTold arguments.now.items (I.left source.old) (λ editors bytes.
+    ensures done { result ≡ 0 → WhereRelaying arguments.now.items (I.left source.old) (λ editors bytes.
         HasRelayed editors
         (call_bytes bytes (I.left source.new) (O.taken sink.old) (O.taken sink.new))) }
 
@@ -47,17 +47,17 @@ pub fn run_proxy<I: Source, O: Sink>(
     ensures write_told { O.faults sink.old < O.faults sink.new → result ≡ 4 }
 
     // So with no failure, and with fewer bytes than reads, only `NoMemory` may come.
-    ensures complete { WhereTold arguments.now.items (I.left source.old) (λ _ bytes.
+    ensures complete { WhereRelaying arguments.now.items (I.left source.old) (λ _ bytes.
         length bytes < 2 ^ 64 - 1
         → ¬ CountRose (I.faults source.old) (I.faults source.new)
         → ¬ CountRose (O.faults sink.old) (O.faults sink.new) → (result ≡ 0) ⊎ (result ≡ 6)) }
 
     // What was written by then.
     ensures exact { (result ≡ 3) ⊎ (result ≡ 5)
-        → WhereTold arguments.now.items (I.left source.old) (λ editors bytes. WroteTold editors
+        → WhereRelaying arguments.now.items (I.left source.old) (λ editors bytes. RelayWroteTold editors
         (call_bytes bytes (I.left source.new) (O.taken sink.old) (O.taken sink.new))) }
     ensures part { 3 ≤ result
-        → WhereTold arguments.now.items (I.left source.old) (λ editors bytes. WrotePart editors
+        → WhereRelaying arguments.now.items (I.left source.old) (λ editors bytes. RelayWrotePart editors
         (call_bytes bytes (I.left source.new) (O.taken sink.old) (O.taken sink.new)) 4096) }
 {
     match read_arguments(arguments) {
@@ -87,9 +87,9 @@ fn relay_all<I: Source, O: Sink>(alloc: Global, editors: u32, source: &mut I, si
         → ¬ CountRose (I.faults source.old) (I.faults source.new)
         → ¬ CountRose (O.faults sink.old) (O.faults sink.new) → (result ≡ 0) ⊎ (result ≡ 6)) }
     ensures exact { (result ≡ 3) ⊎ (result ≡ 5)
-        → IfSome (I.left source.old) (λ bytes. WroteTold editors
+        → IfSome (I.left source.old) (λ bytes. RelayWroteTold editors
         (call_bytes bytes (I.left source.new) (O.taken sink.old) (O.taken sink.new))) }
-    ensures part { 3 ≤ result → IfSome (I.left source.old) (λ bytes. WrotePart editors
+    ensures part { 3 ≤ result → IfSome (I.left source.old) (λ bytes. RelayWrotePart editors
         (call_bytes bytes (I.left source.new) (O.taken sink.old) (O.taken sink.new)) 4096) }
 {
     match relay(alloc, editors, source, sink, u64::MAX) {
@@ -100,7 +100,7 @@ fn relay_all<I: Source, O: Sink>(alloc: Global, editors: u32, source: &mut I, si
 
 // How many editors the arguments ask for: one argument.
 fn read_arguments(arguments: &Vec<String>) -> Option<u32>
-    ensures value { result ≡ asked arguments.now.items }
+    ensures value { result ≡ editors_asked arguments.now.items }
     ensures some { IfSome result (λ editors. 1 ≤ editors) }
 {
     match arguments.as_slice() {

@@ -9,7 +9,7 @@ abbrev pub text_of_not_message : NotMessage → List ℕ
 text_of_not_message refusals.NotMessage = codes "not a message"
 text_of_not_message refusals.NoMemory = codes "out of memory"
 
-abbrev pub text_of_fault : TextFault → List ℕ
-text_of_fault faults.Json = codes "not JSON"
-text_of_fault faults.Message = codes "not a message of this form"
-text_of_fault faults.NoMemory = codes "out of memory"
+abbrev pub text_of_text_fault : TextFault → List ℕ
+text_of_text_fault faults.Json = codes "not JSON"
+text_of_text_fault faults.Message = codes "not a message of this form"
+text_of_text_fault faults.NoMemory = codes "out of memory"

@@ -28,16 +28,16 @@ kept (Some e) d = Some e
 kept None d = Some d
 
 -- the first value of that name, kept already or still among the rest
-abbrev pub first_of : List ℕ → Option Data → Members → Option Data
-first_of key (Some d) rest = Some d
-first_of key None rest = get_member key rest
+abbrev pub first_member : List ℕ → Option Data → Members → Option Data
+first_member key (Some d) rest = Some d
+first_member key None rest = get_member key rest
 
 -- what is kept under the key takes the place of this member
-abbrev pub Keeps : List ℕ → List ℕ → Data → Option Data → Option Data → Type 0
-Keeps key name d old new = (rest : Members) → first_of key new rest ≡ first_of key old (member name d rest)
+abbrev pub KeepsMember : List ℕ → List ℕ → Data → Option Data → Option Data → Type 0
+KeepsMember key name d old new = (rest : Members) → first_member key new rest ≡ first_member key old (member name d rest)
 
 abbrev pub KeepsValue : List ℕ → List ℕ → Value → Option Value → Option Value → Type 0
-KeepsValue key name v old new = Keeps key name (view v) (option_map view old) (option_map view new)
+KeepsValue key name v old new = KeepsMember key name (view v) (option_map view old) (option_map view new)
 
 -- ---- texts written piece by piece
 

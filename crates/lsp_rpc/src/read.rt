@@ -5,7 +5,7 @@ ghost use Rattle.serde_json.specs.Errors.{IsMemory};
 ghost use Rattle.serde_json.specs.Find.{get_member, as_i64, as_number, as_str};
 ghost use Rattle.serde_json.specs.Read.{read};
 ghost use Rattle.serde_json.specs.View.{view};
-ghost use Rattle.lsp_rpc.specs.Faults.{text_of_not_message, text_of_fault};
+ghost use Rattle.lsp_rpc.specs.Faults.{text_of_not_message, text_of_text_fault};
 ghost use Rattle.lsp_rpc.specs.Message.{is_text, is_error_name, has_error_names, id_of, unless_null, error_of, body_with, method_of, has_version, request_id_of, request_with, plain_request, plain_response, response, request, message, clean_message, message_has_float};
 ghost use Rattle.lsp_rpc.specs.Pieces.{members_shown, SameOthers};
 ghost use Rattle.lsp_rpc.specs.Shown.{show_id, show_error, show_body, show_request, show_response, show_message};
@@ -320,7 +320,7 @@ impl fmt::Display for NotMessage {
 impl std::error::Error for NotMessage {}
 
 impl fmt::Display for TextFault {
-    ghost output = { λ e. Some (text_of_fault e) };
+    ghost output = { λ e. Some (text_of_text_fault e) };
 
     fn fmt<W: fmt::Write>(&self, f: &mut fmt::Formatter<W>) -> fmt::Result {
         f.write_str(match self {

@@ -11,7 +11,7 @@ use Rattle.lsp_session.specs.declared.table.Kind.{Kind}
 use Rattle.lsp_session.specs.declared.table.Kind.TheVariants.{Request, Notification}
 use Rattle.lsp_session.specs.declared.table.Layer.{Layer}
 use Rattle.lsp_session.specs.declared.table.Layer.TheVariants as layers
-use Rattle.lsp_session.specs.Semantics.{Reading, call, missing, unexpected, unfit, Progress, Pending, Done, Phase, Fresh, Held, Polls, call_in, AreClient, IsLawful}
+use Rattle.lsp_session.specs.Semantics.{Reading, call, missing, unexpected, unfit, Progress, Pending, Done, Phase, Fresh, Held, Polls, call_in, AreClient, IsLawfulHandlers}
 use Rattle.lsp_sample.specs.declared.sample.Sample.{Sample}
 use Rattle.lsp_sample.specs.declared.command.Waiting.{Waiting}
 use Rattle.lsp_sample.specs.Calls.{CommandData, Echo, Wait, Unknown, CallData, Initialize, Initialized, Shutdown, Execute, outcome_of, is_sound}
@@ -147,7 +147,7 @@ clean_outcome (Execute (Echo value)) h = unless_true (has_float value) h
 clean_outcome (Execute (Wait polls)) h = refl
 clean_outcome (Execute Unknown) h = refl
 
-pub sample_laws : IsLawful sample_semantics
+pub sample_laws : IsLawfulHandlers sample_semantics
 sample_laws = record {
   reads_sound = λ entry params c clean reads. subst IsSoundReading reads (sound_reading entry.layer entry.kind params clean);
   keeps_table = λ s phase asked s2 progress polls name. refl;

@@ -1,26 +1,26 @@
 -- Which errors a server may stop with.
 use Rattle.std.proofs.Common.{◌≡◌, inl, inr, ℕ, ◌+◌, ◌<◌, ◌≤◌, List, length, refl, sym, ◌∙◌, subst, arith, Bool, true, false, true≢false}
 use Rattle.std.specs.Prelude.{◌⊎◌, Option, Some, None, IfSome}
-use Rattle.lsp_desk.specs.Meaning.{Meaning, IsLawful, Grown}
+use Rattle.lsp_desk.specs.Meaning.{Meaning, IsLawfulDesk, Grown}
 use Rattle.lsp_server.specs.declared.step.ServeError.{ServeError}
 use Rattle.lsp_server.specs.declared.step.ServeError.TheVariants.{ReadFault, WriteFault, ReadsSpent, DeskSpent, NoMemory}
 use Rattle.lsp_server.specs.Errors.{IsInStep, SaysSpent, ComesUnfailed, ComesOfSink}
 
 -- a desk that others don't use is never spent
-pub unspent_alone : {D : Type 0} (m : Meaning D) → IsLawful m → (old new : D) → Grown m old new → m.alone old ≡ true → m.spent new ≡ false
+pub unspent_alone : {D : Type 0} (m : Meaning D) → IsLawfulDesk m → (old new : D) → Grown m old new → m.alone old ≡ true → m.spent new ≡ false
 unspent_alone m laws old new grown alone = laws.alone_unspent new (grown.grows.alone ∙ alone)
 
-pub never_alone : {D : Type 0} (m : Meaning D) → IsLawful m → (old new : D) → Grown m old new → (error : ServeError) → SaysSpent m new error
+pub never_alone : {D : Type 0} (m : Meaning D) → IsLawfulDesk m → (old new : D) → Grown m old new → (error : ServeError) → SaysSpent m new error
     → m.alone old ≡ true → (n : ℕ) → error ≡ DeskSpent n → ⊥
 never_alone m laws old new grown (DeskSpent k) says alone n e = true≢false (sym says.1 ∙ unspent_alone m laws old new grown alone)
 never_alone m laws old new grown error says alone n e = cc
 
-shared_where_spent : {D : Type 0} (m : Meaning D) → IsLawful m → (old new : D) → Grown m old new → m.spent new ≡ true → (b : Bool) → m.alone old ≡ b → b ≡ false
+shared_where_spent : {D : Type 0} (m : Meaning D) → IsLawfulDesk m → (old new : D) → Grown m old new → m.spent new ≡ true → (b : Bool) → m.alone old ≡ b → b ≡ false
 shared_where_spent m laws old new grown spent true is = absurd (true≢false (sym spent ∙ unspent_alone m laws old new grown is))
 shared_where_spent m laws old new grown spent false is = refl
 
 -- what may come without a failure, and with reads left
-pub unfailed : {D : Type 0} (m : Meaning D) → IsLawful m → (old new : D) → Grown m old new → (error : ServeError) → SaysSpent m new error
+pub unfailed : {D : Type 0} (m : Meaning D) → IsLawfulDesk m → (old new : D) → Grown m old new → (error : ServeError) → SaysSpent m new error
     → (read wrote : Type 0) (reads : ℕ) (bytes : List ℕ) (left : Option (List ℕ)) (told : (left ≡ None → ⊥))
     → (error ≡ ReadFault → read) → (error ≡ WriteFault → wrote) → (error ≡ ReadsSpent → IfSome left (λ rest. reads + length rest ≤ length bytes))
     → length bytes < reads → (read → ⊥) → (wrote → ⊥) → ComesUnfailed (m.alone old) error

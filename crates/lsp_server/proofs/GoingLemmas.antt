@@ -7,7 +7,7 @@ use Rattle.lsp_desk.specs.Meaning.{Meaning}
 use Rattle.lsp_frame.specs.Codec.{Item, At, more, items_at, told_at, frames}
 use Rattle.lsp_session.specs.declared.table.Entry.{Entry}
 use Rattle.lsp_session.specs.Item.{ItemData}
-use Rattle.lsp_session.specs.Semantics.{Semantics, IsLawful}
+use Rattle.lsp_session.specs.Semantics.{Semantics, IsLawfulHandlers}
 use Rattle.lsp_session.specs.Run.{Order, Step, is_exit, has_exit, served}
 use Rattle.lsp_server.specs.Items.{admitted, all_admitted, Decodes, GivesNext}
 use Rattle.lsp_server.specs.Written.{Ran, RanPart}
@@ -57,7 +57,7 @@ module _ {H D C T P : Type 0} {semantics : Semantics H C T} {m : Meaning D} {ord
       ends = (going.none, waits);
     }
 
-    module _ (laws : IsLawful semantics) where
+    module _ (laws : IsLawfulHandlers semantics) where
       same_table : (name : List ℕ) → find_at semantics b name ≡ find_at semantics a name
       same_table name = run_table semantics laws order rounds a.state b.state (all_admitted going.given) going.ran.effect going.ran.run name
 
@@ -146,7 +146,7 @@ module _ {H D C T P : Type 0} {semantics : Semantics H C T} {m : Meaning D} {ord
       writes = going.ran.writes;
     }
 
-    pub told_part_step : IsLawful semantics → (codec2 : At) (item : ItemData) → GivesNext codec1 (Some item) codec2 → (taken : Option (List ℕ)) → RanPart (Step semantics order rounds) b.state b.taken (item ∷ []) taken
+    pub told_part_step : IsLawfulHandlers semantics → (codec2 : At) (item : ItemData) → GivesNext codec1 (Some item) codec2 → (taken : Option (List ℕ)) → RanPart (Step semantics order rounds) b.state b.taken (item ∷ []) taken
         → PartTold (Step semantics order rounds) (find_at semantics a) a.state codec0 a.taken taken
     told_part_step laws codec2 item next taken part =
         let before = frames going.ran.effect.out in

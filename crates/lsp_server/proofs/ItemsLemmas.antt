@@ -7,7 +7,7 @@ use Rattle.lsp_desk.specs.declared.life.Life.TheVariants.{Uninitialized, Initial
 use Rattle.lsp_desk.specs.Lives.{is_exited}
 use Rattle.lsp_session.specs.declared.table.Entry.{Entry}
 use Rattle.lsp_session.specs.Item.{ItemData, message, fault, tick}
-use Rattle.lsp_session.specs.Semantics.{Semantics, IsLawful}
+use Rattle.lsp_session.specs.Semantics.{Semantics, IsLawfulHandlers}
 use Rattle.lsp_session.specs.State.{State, Effect}
 use Rattle.lsp_session.specs.Run.{Order, Picked, Step, Run, is_exit, is_exit_entry, has_exit, served}
 use Rattle.lsp_session.proofs.CountLemmas.{step_table}
@@ -60,7 +60,7 @@ served-closed find xs exit ys none is =
 
 -- ---- a run leaves the method table
 
-module _ {H C T P : Type 0} (semantics : Semantics H C T) (laws : IsLawful semantics) (order : Order P) (rounds : ℕ) where
+module _ {H C T P : Type 0} (semantics : Semantics H C T) (laws : IsLawfulHandlers semantics) (order : Order P) (rounds : ℕ) where
   pub run_table : (s s2 : Picked (State H semantics.Call semantics.Task) P) (items : List ItemData) (e : Effect) → Run (Step semantics order rounds) s items e s2
       → (name : List ℕ) → semantics.find s2.session.service name ≡ semantics.find s.session.service name
   run_table s s2 [] e p name = ap (λ (x : Picked (State H semantics.Call semantics.Task) P). semantics.find x.session.service name) p.1

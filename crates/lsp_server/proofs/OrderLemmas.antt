@@ -3,7 +3,7 @@ use Rattle.std.proofs.Common.{◌≡◌, ◌≤◌, ◌<◌, ◌+◌, ℕ, List,
 use Rattle.std.specs.Prelude.{◌≢◌, Option, Some, None}
 use Rattle.std.specs.List.{AllByRecursion}
 use Rattle.std.proofs.lemmas.List.{append-nil}
-use Rattle.lsp_server.specs.SourceSink.{EndsAt}
+use Rattle.lsp_server.specs.SourceSink.{ReadsEnd}
 use Rattle.lsp_server.specs.Reads.{Moment, Notes, Made, InOrder}
 
 -- ---- what was noted
@@ -27,7 +27,7 @@ made_map (Some before) (Some after) P Q f made = (made.0, made.1, f made.0 made.
 -- ---- in order
 
 -- a read that gave a byte did not find the end of input
-pub not_at_end : (left : Option (List ℕ)) (n : ℕ) → EndsAt left n → (n ≡ 0 → ⊥) → left ≢ Some []
+pub not_at_end : (left : Option (List ℕ)) (n : ℕ) → ReadsEnd left n → (n ≡ 0 → ⊥) → left ≢ Some []
 not_at_end None n ends some is = absurd (cc)
 not_at_end (Some rest) n ends some is = let e : rest ≡ [] = cc in some (ends.1 e)
 

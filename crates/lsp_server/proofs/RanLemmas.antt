@@ -9,7 +9,7 @@ use Rattle.lsp_desk.specs.Meaning.{Meaning, Grown}
 use Rattle.lsp_desk.proofs.TraceLemmas.{grows_none, grows_on}
 use Rattle.lsp_frame.specs.Codec.{frames}
 use Rattle.lsp_session.specs.Item.{ItemData}
-use Rattle.lsp_session.specs.Semantics.{Semantics, IsLawful}
+use Rattle.lsp_session.specs.Semantics.{Semantics, IsLawfulHandlers}
 use Rattle.lsp_session.specs.State.{State, Effect, nothing, both}
 use Rattle.lsp_session.specs.Run.{Order, Step, is_exit}
 use Rattle.lsp_session.specs.Session.{SessionView, Advances}
@@ -163,7 +163,7 @@ module _ {H D C T P : Type 0} (semantics : Semantics H C T) (m : Meaning D) (ord
       }
 
   -- what is no exit leaves the session alive
-  pub stepped_lives : IsLawful semantics → (old mid : View) (p p2 : P) (item : ItemData) → Stepped old p item mid p2 → (old.state.desk.life ≡ Exited → ⊥)
+  pub stepped_lives : IsLawfulHandlers semantics → (old mid : View) (p p2 : P) (item : ItemData) → Stepped old p item mid p2 → (old.state.desk.life ≡ Exited → ⊥)
       → is_exit (semantics.find old.state.service) item ≡ false → mid.state.desk.life ≡ Exited → ⊥
   stepped_lives laws old mid p p2 item steps lives stays =
       alive mid.state.desk.life (step_lives semantics laws order rounds (picked old p) (picked mid p2) item steps.effect stays steps.does ∙ not_exited old.state.desk.life lives)
@@ -174,18 +174,18 @@ module _ {H D C T P : Type 0} (semantics : Semantics H C T) (m : Meaning D) (ord
   only_step : (a b : Point semantics D P) (item : ItemData) → (ran : Ran (Step semantics order rounds) m a (item ∷ []) b) → Step semantics order rounds a.state item ran.run.1 b.state
   only_step a b item ran = subst (λ s. Step semantics order rounds a.state item ran.run.1 s) (sym ran.run.4.1) ran.run.3
 
-  noted : (laws : IsLawful semantics) (b : Bool) (s s2 : State H semantics.Call semantics.Task) → s.exited ≡ None → Notes semantics laws b s s2 → is_some s2.exited ≡ b
+  noted : (laws : IsLawfulHandlers semantics) (b : Bool) (s s2 : State H semantics.Call semantics.Task) → s.exited ≡ None → Notes semantics laws b s s2 → is_some s2.exited ≡ b
   noted laws true s s2 none p = ap is_some p
   noted laws false s s2 none p = ap is_some (p ∙ none)
 
   -- an exit is noted, and nothing else is
-  pub ran_notes : IsLawful semantics → (a b : Point semantics D P) (item : ItemData) → Ran (Step semantics order rounds) m a (item ∷ []) b → a.state.session.exited ≡ None
+  pub ran_notes : IsLawfulHandlers semantics → (a b : Point semantics D P) (item : ItemData) → Ran (Step semantics order rounds) m a (item ∷ []) b → a.state.session.exited ≡ None
       → is_some b.state.session.exited ≡ is_exit (semantics.find a.state.session.service) item
   ran_notes laws a b item ran none =
       noted laws (is_exit (semantics.find a.state.session.service) item) a.state.session b.state.session none (step_notes semantics laws order rounds a.state b.state item ran.run.1 (only_step a b item ran))
 
   -- what is no exit leaves the session alive
-  pub ran_lives : IsLawful semantics → (a b : Point semantics D P) (item : ItemData) → Ran (Step semantics order rounds) m a (item ∷ []) b
+  pub ran_lives : IsLawfulHandlers semantics → (a b : Point semantics D P) (item : ItemData) → Ran (Step semantics order rounds) m a (item ∷ []) b
       → is_exit (semantics.find a.state.session.service) item ≡ false → (a.state.session.desk.life ≡ Exited → ⊥) → b.state.session.desk.life ≡ Exited → ⊥
   ran_lives laws a b item ran stays lives =
       alive b.state.session.desk.life (step_lives semantics laws order rounds a.state b.state item ran.run.1 stays (only_step a b item ran) ∙ not_exited a.state.session.desk.life lives)

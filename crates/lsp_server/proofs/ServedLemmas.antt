@@ -6,7 +6,7 @@ use Rattle.std.specs.Io.KnownBytes.{Consumes, Appends}
 use Rattle.lsp_desk.specs.Meaning.{Meaning, Grown}
 use Rattle.lsp_frame.specs.Codec.{start as start_codec, more, items_at}
 use Rattle.lsp_frame.specs.declared.limits.Limits.{Limits}
-use Rattle.lsp_session.specs.Semantics.{Semantics, IsLawful}
+use Rattle.lsp_session.specs.Semantics.{Semantics, IsLawfulHandlers}
 use Rattle.lsp_session.specs.State.{State}
 use Rattle.lsp_session.specs.Run.{Order, Picked, Step, served}
 use Rattle.lsp_server.specs.declared.step.ServeError.{ServeError}
@@ -17,7 +17,7 @@ use Rattle.lsp_server.specs.Course.{Course}
 use Rattle.lsp_server.specs.Written.{Ran, IsPartOf}
 use Rattle.lsp_server.specs.Served.{ServedTold, call_bytes, RanFrom, ReadEnough, RanTold, AllAnswered, WrotePart, ServesOver}
 use Rattle.lsp_server.specs.Reads.{Moment, Made, InOrder}
-use Rattle.lsp_server.specs.Consuming.{Given, piece, end, Outcome, goes_on, done, stops, last_outcome, Did, Took, AllTook, bytes_of, IsTimely, TookLast}
+use Rattle.lsp_server.specs.Consuming.{Given, piece, end, ConsumerOutcome, goes_on, done, stops, last_outcome, Did, Took, AllTook, bytes_of, IsTimely, TookLast}
 use Rattle.lsp_server.specs.Serving.{after_taking, IsIdle, Here, find_here, Serves, serves}
 use Rattle.lsp_server.proofs.KnownLemmas.{consumes_none, end_before}
 use Rattle.lsp_server.proofs.OrderLemmas.{made_in_order}
@@ -43,7 +43,7 @@ module _ {H D C T P : Type 0} (semantics : Semantics H C T) (m : Meaning D) (ord
   stops_spent a b (piece bytes) e written d = d.spent
   stops_spent a b end e written d = d.spent
 
-  step_grown : (a b : Here semantics m order) (given : Given) (outcome : Outcome) (written : List ℕ) → Serves semantics m order a given outcome written b → Grown m a.desk b.desk
+  step_grown : (a b : Here semantics m order) (given : Given) (outcome : ConsumerOutcome) (written : List ℕ) → Serves semantics m order a given outcome written b → Grown m a.desk b.desk
   step_grown a b (piece bytes) goes_on written d = ran_grown (after_taking (Some []) a) (after_taking (Some written) b) (all_admitted d.0.told.given) d.0.told.ran
   step_grown a b (piece bytes) done written d = ran_grown (after_taking (Some []) a) (after_taking (Some written) b) (all_admitted d.told.given) d.told.ran
   step_grown a b (piece bytes) (stops e) written d = d.grown
@@ -52,7 +52,7 @@ module _ {H D C T P : Type 0} (semantics : Semantics H C T) (m : Meaning D) (ord
   step_grown a b end (stops e) written d = d.grown
 
   module _ (a b : Here semantics m order) (start now : Moment) (size : ℕ) where
-    last_grown : (outcome : Outcome) → TookLast (serves semantics m order) a start now size outcome b → Grown m a.desk b.desk
+    last_grown : (outcome : ConsumerOutcome) → TookLast (serves semantics m order) a start now size outcome b → Grown m a.desk b.desk
     last_grown outcome t =
         grown_after (after_taking (Some []) a) (after_taking (Some t.took.did.written) t.mid) b.desk (all_admitted t.took.did.does.0.told.given) t.took.did.does.0.told.ran
         (step_grown t.mid b t.last outcome t.did.written t.did.does)
@@ -88,7 +88,7 @@ module _ {H D C T P : Type 0} (semantics : Semantics H C T) (m : Meaning D) (ord
 
 -- ---- where the bytes are told
 
-module _ {H D C T P : Type 0} (semantics : Semantics H C T) (laws : IsLawful semantics) (m : Meaning D) (order : Order P) (limits : Limits)
+module _ {H D C T P : Type 0} (semantics : Semantics H C T) (laws : IsLawfulHandlers semantics) (m : Meaning D) (order : Order P) (limits : Limits)
     (a : Here semantics m order) (fresh : a.codec ≡ start_codec limits) (bytes : List ℕ) where
   abbrev way : Course (Picked (State H semantics.Call semantics.Task) P) D
   way = way_from semantics m order a.rounds limits (after_taking (Some []) a)
@@ -181,7 +181,7 @@ module _ {H D C T P : Type 0} (semantics : Semantics H C T) (laws : IsLawful sem
       done_enough t = enough_at t.mid t.middle t.took b now size t.last t.gives t.short t.timely t.did
 
       -- whatever came of the last step, a part was written
-      last_part : (outcome : Outcome) → TookLast (serves semantics m order) a start now size outcome b → WrotePart way (call_bytes bytes now.left start.taken now.taken) size
+      last_part : (outcome : ConsumerOutcome) → TookLast (serves semantics m order) a start now size outcome b → WrotePart way (call_bytes bytes now.left start.taken now.taken) size
       last_part outcome t =
           part_at t.mid t.middle t.took b now size t.last NoMemory t.gives t.short t.timely t.did.written
           ((serves_lawful semantics laws m order).refused t.mid b t.last outcome t.did.written NoMemory t.did.does tt) t.did.writes

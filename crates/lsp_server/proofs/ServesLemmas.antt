@@ -18,7 +18,7 @@ use Rattle.lsp_server.specs.Errors.{SaysSpent, ComesOfSink}
 use Rattle.lsp_server.specs.Items.{admitted, all_admitted, Decodes}
 use Rattle.lsp_server.specs.Written.{Ran, RanPart}
 use Rattle.lsp_server.specs.Served.{ServedTold}
-use Rattle.lsp_server.specs.Consuming.{Given, piece, end, Outcome, goes_on, done, stops, outcome_of, last_outcome, IsLawful, Did}
+use Rattle.lsp_server.specs.Consuming.{Given, piece, end, ConsumerOutcome, goes_on, done, stops, consumer_outcome, last_outcome, IsLawfulConsumer, Did}
 use Rattle.lsp_server.specs.Serving.{Spot, after_taking, IsIdle, PartTold, Here, find_here, StepHere, IsOpen, ServesTold, Serves, serves}
 use Rattle.lsp_server.proofs.KnownLemmas.{appends_none}
 use Rattle.lsp_server.proofs.PointLemmas.{Point, find_at}
@@ -54,7 +54,7 @@ module _ {S D : Type 0} {step : S → ItemData → Effect → S → Type 0} {m :
     ends = t.ends;
   }
 
-module _ {H D C T P : Type 0} (semantics : Semantics H C T) (laws : sessions.IsLawful semantics) (m : Meaning D) (order : Order P) where
+module _ {H D C T P : Type 0} (semantics : Semantics H C T) (laws : sessions.IsLawfulHandlers semantics) (m : Meaning D) (order : Order P) where
   told_more : (rounds : ℕ) (a b c : Point semantics D P) (codec0 codec1 codec2 : At) (ys : List ℕ)
       → ServedTold (Step semantics order rounds) m (find_at semantics a) a codec0 false b codec1 → ServedTold (Step semantics order rounds) m (find_at semantics b) b (more codec1 ys) false c codec2
       → ServedTold (Step semantics order rounds) m (find_at semantics a) a (more codec0 ys) false c codec2
@@ -108,7 +108,7 @@ module _ {H D C T P : Type 0} (semantics : Semantics H C T) (laws : sessions.IsL
     spent = spent_of_sink m b.desk e sink;
   }
 
-  serves_refused : (a b : Here semantics m order) (given : Given) (outcome : Outcome) (written : List ℕ) (e : ServeError) → Serves semantics m order a given outcome written b → ComesOfSink e
+  serves_refused : (a b : Here semantics m order) (given : Given) (outcome : ConsumerOutcome) (written : List ℕ) (e : ServeError) → Serves semantics m order a given outcome written b → ComesOfSink e
       → Serves semantics m order a given (stops e) written b
   serves_refused a b (piece bytes) goes_on written e p sink = told_refused a b bytes false written e p.0 sink
   serves_refused a b (piece bytes) done written e p sink = told_refused a b bytes true written e p sink
@@ -125,7 +125,7 @@ module _ {H D C T P : Type 0} (semantics : Semantics H C T) (laws : sessions.IsL
   serves_opens a b (piece bytes) written p = p.1
   serves_opens a b end written p = absurd p
 
-  pub serves_lawful : IsLawful (serves semantics m order)
+  pub serves_lawful : IsLawfulConsumer (serves semantics m order)
   serves_lawful = record { opens = serves_opens; none = serves_none; more = serves_more; refused = serves_refused }
 
   -- ---- what the steps come to, by their answer
@@ -147,7 +147,7 @@ module _ {H D C T P : Type 0} (semantics : Semantics H C T) (laws : sessions.IsL
         → IfOk r (λ exits. ServedTold (StepHere semantics m order a) m (find_here semantics m order a) (after_taking taken0 a) (more a.codec bytes) exits (after_taking taken1 b) b.codec)
         → OnOk r (IsIdle b) → IfOk r (λ exits. exits ≡ false → (b.state.session.exited ≡ None) × (b.state.session.desk.life ≢ Exited))
         → OnErr r (PartTold (StepHere semantics m order a) (find_here semantics m order a) a.state (more a.codec bytes) taken0 taken1) → IfErr r (SaysSpent m b.desk)
-        → Did (serves semantics m order) a (piece bytes) (outcome_of r) taken0 taken1 b
+        → Did (serves semantics m order) a (piece bytes) (consumer_outcome r) taken0 taken1 b
     did_told bytes (Ok false) same told idle goes part spent = record {
       written = frames told.ran.effect.out;
       does = (

@@ -8,7 +8,7 @@ use Rattle.lsp_frame.specs.Codec.{Item, At, start, more, items_at, told_at, fram
 use Rattle.lsp_frame.specs.declared.limits.Limits.{Limits}
 use Rattle.lsp_session.specs.declared.table.Entry.{Entry}
 use Rattle.lsp_session.specs.Item.{ItemData}
-use Rattle.lsp_session.specs.Semantics.{Semantics, IsLawful}
+use Rattle.lsp_session.specs.Semantics.{Semantics, IsLawfulHandlers}
 use Rattle.lsp_session.specs.State.{State}
 use Rattle.lsp_session.specs.Run.{Order, Picked, Step, Run, is_exit, has_exit, served}
 use Rattle.lsp_server.specs.SourceSink.{IsFlushed}
@@ -38,7 +38,7 @@ module _ {H D C T P : Type 0} (semantics : Semantics H C T) (m : Meaning D) (ord
 
 module _ {H D C T P : Type 0} {semantics : Semantics H C T} {m : Meaning D} {order : Order P} {rounds : ℕ} {limits : Limits} where
   module _ (a : Point semantics D P) (left0 : Option (List ℕ)) (b : Point semantics D P) (left1 : Option (List ℕ)) (codec1 : At) (serving : Serving semantics m order rounds limits a left0 b left1 codec1) where
-    module _ (laws : IsLawful semantics) where
+    module _ (laws : IsLawfulHandlers semantics) where
       abbrev so_far : List ItemData
       so_far = all_admitted serving.going.given
 
@@ -69,7 +69,7 @@ module _ {H D C T P : Type 0} {semantics : Semantics H C T} {m : Meaning D} {ord
 
 -- ---- what it comes to, where the bytes are told
 
-module _ {H D C T P : Type 0} {semantics : Semantics H C T} (laws : IsLawful semantics) {m : Meaning D} {order : Order P} {rounds : ℕ} {limits : Limits}
+module _ {H D C T P : Type 0} {semantics : Semantics H C T} (laws : IsLawfulHandlers semantics) {m : Meaning D} {order : Order P} {rounds : ℕ} {limits : Limits}
     (a : Point semantics D P) (bytes : List ℕ) (b : Point semantics D P) (left1 : Option (List ℕ)) (codec1 : At) (serving : Serving semantics m order rounds limits a (Some bytes) b left1 codec1) where
   abbrev taken0 : Option (List ℕ)
   taken0 = a.taken

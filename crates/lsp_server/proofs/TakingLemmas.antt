@@ -5,16 +5,16 @@ use Rattle.std.specs.Result.{result_err}
 use Rattle.std.specs.Io.KnownBytes.{Consumes, Keeps}
 use Rattle.lsp_server.specs.declared.step.ServeError.{ServeError}
 use Rattle.lsp_server.specs.declared.step.ServeError.TheVariants.{ReadFault, WriteFault, ReadsSpent, DeskSpent, NoMemory}
-use Rattle.lsp_server.specs.SourceSink.{CountRose, EndsAt, IsFlushed}
+use Rattle.lsp_server.specs.SourceSink.{CountRose, ReadsEnd, IsFlushed}
 use Rattle.lsp_server.specs.Errors.{IsInStep, LeavesSink}
 use Rattle.lsp_server.specs.Reads.{Moment}
 use Rattle.lsp_server.specs.Leaves.{LeavesFaults, StaysFlushed, TellsFaults}
-use Rattle.lsp_server.specs.Consuming.{Given, piece, end, Outcome, goes_on, Consuming, IsLawful, through, Did, Took, AllTook, bytes_of, IsTimely, TookLast}
+use Rattle.lsp_server.specs.Consuming.{Given, piece, end, ConsumerOutcome, goes_on, Consuming, IsLawfulConsumer, through, Did, Took, AllTook, bytes_of, IsTimely, TookLast}
 use Rattle.lsp_server.proofs.KnownLemmas.{appends_none, appends_more, consumes_none, consumes_more, consumes_kept, read_enough, few_read, at_zero, if_told}
 
 -- ---- one call after another
 
-module _ {C : Type 0} (m : Consuming C) (laws : IsLawful m) where
+module _ {C : Type 0} (m : Consuming C) (laws : IsLawfulConsumer m) where
   pub did_none : (a : C) (taken : Option (List ℕ)) → m.is_open a → Did m a (piece []) goes_on taken taken a
   did_none a taken is = record { written = []; does = laws.none a is; writes = appends_none taken }
 
@@ -37,7 +37,7 @@ module _ {C : Type 0} (m : Consuming C) where
     pub most : length took.read ≤ count * 4096
 
 module _ {C : Type 0} {m : Consuming C} where
-  pub reading_start : IsLawful m → (a : C) (start : Moment) → m.is_open a → Reading m a start start a 0
+  pub reading_start : IsLawfulConsumer m → (a : C) (start : Moment) → m.is_open a → Reading m a start start a 0
   reading_start laws a start is = record { took = record { read = []; gives = consumes_none start.left; did = did_none m laws a start.taken is }; each = omega arith; most = omega arith }
 
   module _ (old : C) (start now : Moment) (mid : C) (count : ℕ) (reading : Reading m old start now mid count) where
@@ -49,7 +49,7 @@ module _ {C : Type 0} {m : Consuming C} where
       did = subst (λ t. Did m old (piece reading.took.read) goes_on start.taken t mid) (sym same) reading.took.did;
     }
 
-    pub reading_more : IsLawful m → (later : Moment) (bytes : List ℕ) (new : C) → Consumes now.left later.left bytes → Did m mid (piece bytes) goes_on now.taken later.taken new
+    pub reading_more : IsLawfulConsumer m → (later : Moment) (bytes : List ℕ) (new : C) → Consumes now.left later.left bytes → Did m mid (piece bytes) goes_on now.taken later.taken new
         → 0 < length bytes → length bytes ≤ 4096 → Reading m old start later new (count + 1)
     reading_more laws later bytes new gives did some few = record {
       took = record {
@@ -61,12 +61,12 @@ module _ {C : Type 0} {m : Consuming C} where
       most = omega (arith, length-append reading.took.read bytes, reading.most, few);
     }
 
-    pub took_last : (later : Moment) (last : Given) (outcome : Outcome) (new : C) → Consumes now.left later.left (bytes_of last) → length (bytes_of last) ≤ 4096 → IsTimely last start.left later.left
+    pub took_last : (later : Moment) (last : Given) (outcome : ConsumerOutcome) (new : C) → Consumes now.left later.left (bytes_of last) → length (bytes_of last) ≤ 4096 → IsTimely last start.left later.left
         → Did m mid last outcome now.taken later.taken new → TookLast m old start later 4096 outcome new
     took_last later last outcome new gives short timely did = record { mid = mid; middle = now; took = reading.took; last = last; gives = gives; short = short; timely = timely; did = did }
 
     -- a read of nothing is the end of input
-    pub end_timely : (buffer : List ℕ) (left : Option (List ℕ)) (n : ℕ) → EndsAt now.left n → Consumes now.left left (take n buffer) → n ≡ 0 → IsTimely end start.left left
+    pub end_timely : (buffer : List ℕ) (left : Option (List ℕ)) (n : ℕ) → ReadsEnd now.left n → Consumes now.left left (take n buffer) → n ≡ 0 → IsTimely end start.left left
     end_timely buffer left n ends gives zero =
         if_told start.left _ (λ bytes is. (at_zero bytes reading.took.read buffer now.left left n (subst (λ l. Consumes l now.left reading.took.read) is reading.took.gives) ends gives zero).1)
 
@@ -87,7 +87,7 @@ module _ {C : Type 0} {m : Consuming C} where
 
 -- ---- what another sees of it
 
-pub through_lawful : {A B : Type 0} (show : A → B) {m : Consuming B} → IsLawful m → IsLawful (through show m)
+pub through_lawful : {A B : Type 0} (show : A → B) {m : Consuming B} → IsLawfulConsumer m → IsLawfulConsumer (through show m)
 through_lawful show laws = record {
   opens = λ a b. laws.opens (show a) (show b);
   none = λ a. laws.none (show a);
@@ -96,10 +96,10 @@ through_lawful show laws = record {
 }
 
 module _ {A B : Type 0} (show : A → B) {m : Consuming B} where
-  pub seen_did : (old new : A) (given : Given) (outcome : Outcome) (taken0 taken1 : Option (List ℕ)) → Did (through show m) old given outcome taken0 taken1 new → Did m (show old) given outcome taken0 taken1 (show new)
+  pub seen_did : (old new : A) (given : Given) (outcome : ConsumerOutcome) (taken0 taken1 : Option (List ℕ)) → Did (through show m) old given outcome taken0 taken1 new → Did m (show old) given outcome taken0 taken1 (show new)
   seen_did old new given outcome taken0 taken1 d = record { written = d.written; does = d.does; writes = d.writes }
 
-  pub shown_did : (old new : A) (given : Given) (outcome : Outcome) (taken0 taken1 : Option (List ℕ)) → Did m (show old) given outcome taken0 taken1 (show new) → Did (through show m) old given outcome taken0 taken1 new
+  pub shown_did : (old new : A) (given : Given) (outcome : ConsumerOutcome) (taken0 taken1 : Option (List ℕ)) → Did m (show old) given outcome taken0 taken1 (show new) → Did (through show m) old given outcome taken0 taken1 new
   shown_did old new given outcome taken0 taken1 d = record { written = d.written; does = d.does; writes = d.writes }
 
   pub seen_took : (old new : A) (start now : Moment) → Took (through show m) old start now new → Took m (show old) start now (show new)
@@ -108,7 +108,7 @@ module _ {A B : Type 0} (show : A → B) {m : Consuming B} where
   pub seen_all_took : (old : A) (start now : Moment) → AllTook (through show m) old start now → AllTook m (show old) start now
   seen_all_took old start now t = record { consumer = show t.consumer; took = seen_took old t.consumer start now t.took; flushed = t.flushed }
 
-  pub seen_last : (old new : A) (start now : Moment) (size : ℕ) (outcome : Outcome) → TookLast (through show m) old start now size outcome new → TookLast m (show old) start now size outcome (show new)
+  pub seen_last : (old new : A) (start now : Moment) (size : ℕ) (outcome : ConsumerOutcome) → TookLast (through show m) old start now size outcome new → TookLast m (show old) start now size outcome (show new)
   seen_last old new start now size outcome t = record {
     mid = show t.mid;
     middle = t.middle;

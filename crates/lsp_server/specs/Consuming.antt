@@ -12,19 +12,19 @@ pub data Given : Type 0 where
   end : Given
 
 -- what comes of it: the consumer goes on, it is done, or an error stops it
-pub data Outcome : Type 0 where
-  goes_on : Outcome
-  done : Outcome
-  stops : ServeError → Outcome
+pub data ConsumerOutcome : Type 0 where
+  goes_on : ConsumerOutcome
+  done : ConsumerOutcome
+  stops : ServeError → ConsumerOutcome
 
 pub record Consuming (C : Type 0) : Type 1 where
   -- it may be given something
   pub is_open : C → Type 0
   -- it was given this, this came of it, and it wrote these bytes
-  pub does : C → Given → Outcome → List ℕ → C → Type 0
+  pub does : C → Given → ConsumerOutcome → List ℕ → C → Type 0
 
 -- what holds of every consumer
-pub record IsLawful {C : Type 0} (m : Consuming C) : Type 0 where
+pub record IsLawfulConsumer {C : Type 0} (m : Consuming C) : Type 0 where
   -- one that goes on may be given more
   pub opens : (a b : C) (given : Given) (written : List ℕ) → m.does a given goes_on written b → m.is_open b
   -- no bytes change nothing
@@ -32,27 +32,27 @@ pub record IsLawful {C : Type 0} (m : Consuming C) : Type 0 where
   -- bytes after bytes are as all of them at once
   pub more : (a b c : C) (xs ys ws vs : List ℕ) → m.does a (piece xs) goes_on ws b → m.does b (piece ys) goes_on vs c → m.does a (piece (xs ++ ys)) goes_on (ws ++ vs) c
   -- a sink that then refuses to flush stops it, whatever came of it
-  pub refused : (a b : C) (given : Given) (outcome : Outcome) (written : List ℕ) (e : ServeError) → m.does a given outcome written b → ComesOfSink e → m.does a given (stops e) written b
+  pub refused : (a b : C) (given : Given) (outcome : ConsumerOutcome) (written : List ℕ) (e : ServeError) → m.does a given outcome written b → ComesOfSink e → m.does a given (stops e) written b
 
 -- what holds of a consumer where one sees of it what another is
 abbrev pub through : {A B : Type 0} → (A → B) → Consuming B → Consuming A
 through show m = record { is_open = λ a. m.is_open (show a); does = λ a given outcome written b. m.does (show a) given outcome written (show b) }
 
 -- what came of a piece, by the answer: whether it was the last
-abbrev pub outcome_of : Result Bool ServeError → Outcome
-outcome_of (Ok false) = goes_on
-outcome_of (Ok true) = done
-outcome_of (Err e) = stops e
+abbrev pub consumer_outcome : Result Bool ServeError → ConsumerOutcome
+consumer_outcome (Ok false) = goes_on
+consumer_outcome (Ok true) = done
+consumer_outcome (Err e) = stops e
 
 -- what came of the last thing that was given
-abbrev pub last_outcome : {A : Type 0} → Result A ServeError → Outcome
+abbrev pub last_outcome : {A : Type 0} → Result A ServeError → ConsumerOutcome
 last_outcome (Ok x) = done
 last_outcome (Err e) = stops e
 
 -- ---- one call
 
 -- the consumer did this, and the sink took what it wrote
-pub record Did {C : Type 0} (m : Consuming C) (old : C) (given : Given) (outcome : Outcome) (taken taken_after : Option (List ℕ)) (new : C) : Type 0 where
+pub record Did {C : Type 0} (m : Consuming C) (old : C) (given : Given) (outcome : ConsumerOutcome) (taken taken_after : Option (List ℕ)) (new : C) : Type 0 where
   pub written : List ℕ
   pub does : m.does old given outcome written new
   pub writes : Appends taken taken_after written
@@ -82,7 +82,7 @@ IsTimely end left left_after = IfSome left (λ bytes. left_after ≡ Some [])
 
 -- all bytes read but for the last piece, of at most so many bytes, were given, and the consumer went on; then it was
 -- given that piece, or the end, and this came of it
-pub record TookLast {C : Type 0} (m : Consuming C) (old : C) (start now : Moment) (size : ℕ) (outcome : Outcome) (new : C) : Type 0 where
+pub record TookLast {C : Type 0} (m : Consuming C) (old : C) (start now : Moment) (size : ℕ) (outcome : ConsumerOutcome) (new : C) : Type 0 where
   pub mid : C
   pub middle : Moment
   pub took : Took m old start middle mid

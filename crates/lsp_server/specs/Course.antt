@@ -5,7 +5,7 @@ use Rattle.lsp_frame.specs.declared.limits.Limits.{Limits}
 use Rattle.lsp_session.specs.declared.table.Entry.{Entry}
 use Rattle.lsp_session.specs.Item.{ItemData}
 use Rattle.lsp_session.specs.Semantics.{Semantics}
-use Rattle.lsp_session.specs.State.{State, Effect, opening}
+use Rattle.lsp_session.specs.State.{State, Effect, session_opening}
 use Rattle.lsp_session.specs.Run.{Order, Picked, Step}
 use Rattle.lsp_session.specs.Session.{SessionView}
 
@@ -36,7 +36,7 @@ pub record Setting (H D P : Type 0) : Type 0 where
 
 -- a session that has admitted nothing
 abbrev pub opening_view : {H D C T P : Type 0} → Setting H D P → SessionView H D C T
-opening_view setting = record { desk = setting.desk; state = opening setting.service setting.max setting.wait; out = [] }
+opening_view setting = record { desk = setting.desk; state = session_opening setting.service setting.max setting.wait; out = [] }
 
 -- a session with the state of its pick
 abbrev pub picked : {H D C T P : Type 0} → SessionView H D C T → P → Picked (State H C T) P

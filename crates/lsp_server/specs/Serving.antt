@@ -15,7 +15,7 @@ use Rattle.lsp_server.specs.Errors.{SaysSpent}
 use Rattle.lsp_server.specs.Items.{all_admitted}
 use Rattle.lsp_server.specs.Written.{Place, Ran, IsPartOf}
 use Rattle.lsp_server.specs.Served.{ServedTold}
-use Rattle.lsp_server.specs.Consuming.{Given, piece, end, Outcome, goes_on, done, stops, Consuming}
+use Rattle.lsp_server.specs.Consuming.{Given, piece, end, ConsumerOutcome, goes_on, done, stops, Consuming}
 
 -- where serving stands: the session's state, its desk, what it put out, whether a call of it failed, what the codec
 -- holds, and how many rounds each step makes
@@ -77,7 +77,7 @@ module _ {H D C T P : Type 0} (semantics : Semantics H C T) (m : Meaning D) (ord
     pub grown : Grown m a.desk b.desk
     pub spent : SaysSpent m b.desk e
 
-  abbrev pub Serves : Here → Given → Outcome → List ℕ → Here → Type 0
+  abbrev pub Serves : Here → Given → ConsumerOutcome → List ℕ → Here → Type 0
   Serves a (piece bytes) goes_on written b = ServesTold a bytes false written b × IsOpen b
   Serves a (piece bytes) done written b = ServesTold a bytes true written b
   Serves a (piece bytes) (stops e) written b = StopsWith a e ((c : List ℕ) → IsPartOf (StepHere a) a.state (served (find_here a) (all_admitted (items_at (more (more a.codec bytes) c)))) written) b

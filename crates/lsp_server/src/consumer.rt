@@ -1,7 +1,7 @@
 // What is done with the bytes that reads give.
 ghost use Rattle.std.specs.Prelude.{◌≡◌, ⊤, IfErr};
 ghost use Rattle.std.specs.Result.{result_err};
-ghost use Rattle.lsp_server.specs.Consuming.{Consuming, Did, piece as a_piece, end as the_end, outcome_of, last_outcome};
+ghost use Rattle.lsp_server.specs.Consuming.{Consuming, Did, piece as a_piece, end as the_end, consumer_outcome, last_outcome};
 ghost use Rattle.lsp_server.specs.Leaves.{LeavesFaults};
 ghost use Rattle.lsp_server.specs.Errors.{IsInStep};
 
@@ -26,7 +26,7 @@ pub trait Consumer<S> {
         sink: &mut O,
     ) -> Result<bool, ServeError>
         requires { meaning.is_open (self.old, state.old) }
-        ensures did { Did meaning (self.old, state.old) (a_piece piece.now) (outcome_of result)
+        ensures did { Did meaning (self.old, state.old) (a_piece piece.now) (consumer_outcome result)
             (O.taken sink.old) (O.taken sink.new) (self.new, state.new) }
         ensures flushed { O.flushed sink.new ≡ O.flushed sink.old }
         ensures sink { LeavesFaults O.faults O.beside sink.old sink.new (result_err result) }

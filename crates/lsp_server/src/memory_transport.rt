@@ -3,7 +3,7 @@ ghost use Rattle.std.specs.Prelude.{◌≡◌, ◌<◌, ◌≤◌, ℕ, List, Op
 ghost use Rattle.std.specs.List.{list_all};
 ghost use Rattle.std.proofs.Common.{ap};
 ghost use Rattle.std.specs.Io.KnownBytes.{Consumes, Appends, Keeps};
-ghost use Rattle.lsp_server.specs.SourceSink.{CountRose, EndsAt, Flushes};
+ghost use Rattle.lsp_server.specs.SourceSink.{CountRose, ReadsEnd, Flushes};
 ghost use Rattle.lsp_server.specs.Memory.{Fills};
 ghost use Rattle.lsp_server.specs.Reads.{Moment, moment, Notes};
 ghost use Rattle.lsp_server.specs.ReadAt.{is_within, moment_at};
@@ -147,7 +147,7 @@ impl Transport for MemoryTransport {
         ensures within { IfOk result (λ n. n ≤ length piece.new) }
         ensures gives { IfOk result (λ n. Consumes (bytes_left self.old) (bytes_left self.new)
             (take n piece.new)) }
-        ensures ends { IfOk result (λ n. EndsAt (bytes_left self.old) n) }
+        ensures ends { IfOk result (λ n. ReadsEnd (bytes_left self.old) n) }
         ensures kept { OnErr result (Keeps (bytes_left self.old) (bytes_left self.new)) }
         ensures notes { OnOk result (Notes (Some (reads_made self.old))
             (moment (bytes_left self.old) (Some (bytes_taken self.old))

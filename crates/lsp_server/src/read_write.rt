@@ -1,7 +1,7 @@
 // A reader and a writer of std as a source and a sink: the edge of what is proved.
 ghost use Rattle.std.specs.Prelude.{◌≡◌, ◌≤◌, ◌<◌, length, take, IfOk, OnOk, OnErr, IsErrOf};
 ghost use Rattle.std.specs.Io.KnownBytes.{Consumes, Appends, Keeps};
-ghost use Rattle.lsp_server.specs.SourceSink.{CountRose, EndsAt, Flushes};
+ghost use Rattle.lsp_server.specs.SourceSink.{CountRose, ReadsEnd, Flushes};
 ghost use Rattle.lsp_server.specs.Memory.{next_number};
 
 use crate::{Failed, Refused, Sink, Source};
@@ -38,7 +38,7 @@ impl<R: Read> Source for ReadSource<R> {
         ensures within { IfOk result (λ n. n ≤ length piece.new) }
         ensures gives { IfOk result (λ n. Consumes (R.remaining (reader_of self.old))
             (R.remaining (reader_of self.new)) (take n piece.new)) }
-        ensures ends { IfOk result (λ n. EndsAt (R.remaining (reader_of self.old)) n) }
+        ensures ends { IfOk result (λ n. ReadsEnd (R.remaining (reader_of self.old)) n) }
         ensures kept { OnErr result (Keeps (R.remaining (reader_of self.old))
             (R.remaining (reader_of self.new))) }
         ensures count { failed_reads self.old ≤ failed_reads self.new }

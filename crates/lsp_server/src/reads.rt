@@ -1,7 +1,7 @@
 // The loop over the reads, whatever is done with their bytes.
 ghost use Rattle.std.specs.Prelude.{◌≡◌, ◌≤◌, IfErr};
 ghost use Rattle.std.specs.Result.{result_err};
-ghost use Rattle.lsp_server.specs.Consuming.{IsLawful, Did, Took, TookLast, AllTook, piece as a_piece, end as the_end, outcome_of, last_outcome};
+ghost use Rattle.lsp_server.specs.Consuming.{IsLawfulConsumer, Did, Took, TookLast, AllTook, piece as a_piece, end as the_end, consumer_outcome, last_outcome};
 ghost use Rattle.lsp_server.specs.Leaves.{LeavesFaults, StaysFlushed, TellsFaults, WithinReads};
 ghost use Rattle.lsp_server.specs.Reads.{moment, Made, InOrder};
 ghost use Rattle.lsp_server.specs.Errors.{IsBetweenReads, IsInStep, EndsInStep};
@@ -23,7 +23,7 @@ pub fn over_reads<T: Transport, S, C: Consumer<S>>(
     state: &mut S,
     reads: u64,
 ) -> Result<(), ServeError>
-    requires lawful { IsLawful C.meaning }
+    requires lawful { IsLawfulConsumer C.meaning }
     requires opened { C.meaning.is_open (consumer.old, state.old) }
 
     // The bytes read were given, in order. Ok comes only at the end of input or where the consumer
@@ -74,9 +74,9 @@ fn take_flushed<O: Sink, S, C: Consumer<S>>(
     piece: &[u8],
     sink: &mut O,
 ) -> Result<bool, ServeError>
-    requires lawful { IsLawful C.meaning }
+    requires lawful { IsLawfulConsumer C.meaning }
     requires opened { C.meaning.is_open (consumer.old, state.old) }
-    ensures did { Did C.meaning (consumer.old, state.old) (a_piece piece.now) (outcome_of result)
+    ensures did { Did C.meaning (consumer.old, state.old) (a_piece piece.now) (consumer_outcome result)
         (O.taken sink.old) (O.taken sink.new) (consumer.new, state.new) }
     ensures flushed { StaysFlushed (O.taken sink.old) (O.flushed sink.old)
         (O.taken sink.new) (O.flushed sink.new) (result_err result) }
@@ -99,7 +99,7 @@ fn end_flushed<O: Sink, S, C: Consumer<S>>(
     state: &mut S,
     sink: &mut O,
 ) -> Result<(), ServeError>
-    requires lawful { IsLawful C.meaning }
+    requires lawful { IsLawfulConsumer C.meaning }
     requires opened { C.meaning.is_open (consumer.old, state.old) }
     ensures did { Did C.meaning (consumer.old, state.old) the_end (last_outcome result)
         (O.taken sink.old) (O.taken sink.new) (consumer.new, state.new) }

@@ -1,7 +1,7 @@
 // What bytes come from.
 ghost use Rattle.std.specs.Prelude.{◌≡◌, ◌≤◌, ◌<◌, ℕ, List, Option, length, take, IfOk, OnOk, OnErr};
 ghost use Rattle.std.specs.Io.KnownBytes.{Consumes, Keeps};
-ghost use Rattle.lsp_server.specs.SourceSink.{CountRose, EndsAt};
+ghost use Rattle.lsp_server.specs.SourceSink.{CountRose, ReadsEnd};
 
 /// A read failed, and took nothing.
 #[derive(Clone, Copy, Debug, PartialEq, Eq)]
@@ -22,7 +22,7 @@ pub trait Source {
         ensures within { IfOk result (λ n. n ≤ length piece.new) }
         ensures gives { IfOk result (λ n. Consumes (left self.old) (left self.new)
             (take n piece.new)) }
-        ensures ends { IfOk result (λ n. EndsAt (left self.old) n) }
+        ensures ends { IfOk result (λ n. ReadsEnd (left self.old) n) }
         ensures kept { OnErr result (Keeps (left self.old) (left self.new)) }
 
         // The count rises exactly where the read failed.

@@ -2,7 +2,7 @@
 ghost use Rattle.std.specs.Prelude.{◌≡◌, ◌≤◌, ◌<◌, ⊤, ℕ, List, Option, None, length, take, refl, IfOk, OnOk, OnErr};
 ghost use Rattle.std.specs.Io.KnownBytes.{Consumes, Keeps};
 ghost use Rattle.std.proofs.Common.{ap};
-ghost use Rattle.lsp_server.specs.SourceSink.{CountRose, EndsAt};
+ghost use Rattle.lsp_server.specs.SourceSink.{CountRose, ReadsEnd};
 ghost use Rattle.lsp_server.specs.Reads.{Moment, moment, Notes};
 
 use crate::{Failed, Refused, Sink, Source};
@@ -31,7 +31,7 @@ pub trait Transport: Sink {
         ensures within { IfOk result (λ n. n ≤ length piece.new) }
         ensures gives { IfOk result (λ n. Consumes (left self.old) (left self.new)
             (take n piece.new)) }
-        ensures ends { IfOk result (λ n. EndsAt (left self.old) n) }
+        ensures ends { IfOk result (λ n. ReadsEnd (left self.old) n) }
         ensures kept { OnErr result (Keeps (left self.old) (left self.new)) }
 
         // A read that doesn't fail is noted. None takes or flushes anything.

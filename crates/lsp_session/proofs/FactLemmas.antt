@@ -12,9 +12,9 @@ use Rattle.lsp_session.specs.declared.table.Layer.TheVariants.{Shutdown, Normal}
 use Rattle.lsp_session.specs.declared.life_check.LifeChange.{LifeChange}
 use Rattle.lsp_session.specs.declared.life_check.LifeChange.TheVariants.{Stays, Rises}
 use Rattle.lsp_session.specs.Item.{ItemData}
-use Rattle.lsp_session.specs.Semantics.{Semantics, IsLawful, Fresh, Held, Progress, Pending, Done}
+use Rattle.lsp_session.specs.Semantics.{Semantics, IsLawfulHandlers, Fresh, Held, Progress, Pending, Done}
 use Rattle.lsp_session.specs.Admission.{Verdict, Silence, Refuses, Answers, Cancels, Exits, Starts, Admission, cancel_change}
-use Rattle.lsp_session.specs.State.{Work, State, Effect, initializing, initializes, is_initialize, marked, moved_up, entered, WorksFit, FitsLife, opening}
+use Rattle.lsp_session.specs.State.{Work, State, Effect, initializing, initializes, is_initialize, marked, moved_up, entered, WorksFit, FitsLife, session_opening}
 use Rattle.lsp_session.specs.Run.{Applies, Admits, admission_of, occasion, after_poll, Order, Poll, PollsAt, Round, Rounds, Drains, Picked, Step, took, closed, changing, poll_change, end_change, is_initializing}
 use Rattle.lsp_session.proofs.PollLemmas.{client_along}
 use Rattle.lsp_session.proofs.WorkLemmas.{cancelled_state, quit_state, quit_live}
@@ -22,7 +22,7 @@ use Rattle.lsp_session.proofs.SortLemmas.{Sorted, leaves, takes, ends, opens, be
 use Rattle.lsp_session.proofs.FitLemmas.{held_fits, ended_fits, cancelled_fits, opened_fits, begun_fits, marked_fits}
 
 module _ {H C T : Type 0} where
-  pub fits_opening : (service : H) (max wait : ℕ) → 1 ≤ max → FitsLife (opening {C = C} {T = T} service max wait)
+  pub fits_opening : (service : H) (max wait : ℕ) → 1 ≤ max → FitsLife (session_opening {C = C} {T = T} service max wait)
   fits_opening service max wait some = record { has_slots = some; works_fit = (refl, refl) }
 
   -- another desk of the same life
@@ -109,7 +109,7 @@ module _ {H C T : Type 0} (semantics : Semantics H C T) where
         works_fit = subst (λ life. WorksFit life s.slots s.queue) (sym (changed (Rises ShutDown) Initialized l c)) (at_life Initialized l);
       })
 
-  module _ (laws : IsLawful semantics) where
+  module _ (laws : IsLawfulHandlers semantics) where
     -- what a poll makes of the life
     pub poll_life : (s s2 : State H semantics.Call semantics.Task) (place : ℕ) (e : Effect) (p : Poll semantics s place e s2) → p.desk.life ≡ life_along s.desk.life (changing (poll_change s.desk.life p.work.entry.layer p.progress))
     poll_life s s2 place e p =

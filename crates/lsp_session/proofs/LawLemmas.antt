@@ -17,7 +17,7 @@ use Rattle.lsp_session.specs.declared.life_check.LifeCheck.TheVariants.{NotIniti
 use Rattle.lsp_session.specs.declared.life_check.LifeChange.{LifeChange}
 use Rattle.lsp_session.specs.declared.life_check.LifeChange.TheVariants.{Stays, Rises, Falls}
 use Rattle.lsp_session.specs.Item.{ItemData, message}
-use Rattle.lsp_session.specs.Semantics.{Semantics, IsLawful, Progress, Pending, Done}
+use Rattle.lsp_session.specs.Semantics.{Semantics, IsLawfulHandlers, Progress, Pending, Done}
 use Rattle.lsp_session.specs.Admission.{Verdict, Silence, Refuses, Answers, Cancels, Exits, Starts, Admission, Occasion, cancel, check_life, quiet, refuse, passed, initialized, if_of_kind, started, by_layer, by_entry}
 use Rattle.lsp_session.specs.State.{State, Effect, live, initializing, is_crowded}
 use Rattle.lsp_session.specs.Run.{answer, cancelled, Applies, Admits, admission_of, occasion, after_poll, Poll, took, closed, changing, poll_change}
@@ -211,7 +211,7 @@ module _ {H C T : Type 0} (semantics : Semantics H C T) where
       at (inl same) = subst (FallsInTime s.desk.life) (sym (same ∙ mid_is)) (changing_falls s.desk.life a.change)
       at (inr ended) = subst (FallsInTime s.desk.life) (sym ended) (exited_last s.desk.life)
 
-  module _ (laws : IsLawful semantics) where
+  module _ (laws : IsLawfulHandlers semantics) where
     poll_life_falls : (s s2 : State H semantics.Call semantics.Task) (place : ℕ) (e : Effect) → Poll semantics s place e s2 → FallsInTime s.desk.life s2.desk.life
     poll_life_falls s s2 place e p = subst (FallsInTime s.desk.life) (sym (ap (λ (x : State H semantics.Call semantics.Task). x.desk.life) p.leaves ∙ at p.progress ∙ poll_life semantics laws s s2 place e p))
         (changing_falls s.desk.life (poll_change s.desk.life p.work.entry.layer p.progress))

@@ -11,7 +11,7 @@ use Rattle.lsp_desk.specs.Call.{Call, is_client}
 use Rattle.lsp_desk.specs.Call as calls
 use Rattle.lsp_desk.specs.Reply.{Reply}
 use Rattle.lsp_desk.specs.Reply as replies
-use Rattle.lsp_desk.specs.Desk.{DeskState, AwaitedData, KeptData, desk_step, asked, told, sent_with, polled, answered, awaiting, first_of, is_kept_for, is_awaited_by}
+use Rattle.lsp_desk.specs.Desk.{DeskState, AwaitedData, KeptData, desk_step, asked, told_client, sent_with, polled, answered, awaiting, first_of, is_kept_for, is_awaited_by}
 use Rattle.lsp_desk.specs.Desk as desk
 use Rattle.lsp_desk.specs.Flow.{message_of, put_by, put_in, taken_by, taken_out, is_sent, all_put, all_taken}
 use Rattle.lsp_desk.specs.Trace.{DeskEntry, TraceEntry, IsReply, Replays, Makes, after, after_reply, entries_of, owns, OthersAsk, AllOwn}
@@ -21,9 +21,9 @@ use Rattle.lsp_desk.proofs.TraceLemmas.{replays_on, own_fits, all_owns}
 use Rattle.lsp_session.specs.declared.life_check.LifeChange.{LifeChange}
 use Rattle.lsp_session.specs.declared.life_check.LifeChange.TheVariants.{Stays, Rises, Falls}
 use Rattle.lsp_session.specs.Item.{ItemData}
-use Rattle.lsp_session.specs.Semantics.{Semantics, IsLawful, AreClient, Progress, Pending, Done}
+use Rattle.lsp_session.specs.Semantics.{Semantics, IsLawfulHandlers, AreClient, Progress, Pending, Done}
 use Rattle.lsp_session.specs.Admission.{Verdict, Silence, Refuses, Answers, Cancels, Exits, Starts}
-use Rattle.lsp_session.specs.State.{State, Effect, both, live, marked, opening}
+use Rattle.lsp_session.specs.State.{State, Effect, both, live, marked, session_opening}
 use Rattle.lsp_session.specs.Run.{answers_for, cancelled, replied, took, closed, changing, poll_change, Applies, Changes, Admits, admission_of, after_poll, Order, Poll, PollsAt, Round, Rounds, Drains, Picked, Step, Run}
 use Rattle.lsp_session.specs.Own.{requests_of, closes, before_exit, OwnMessagesPass}
 
@@ -73,7 +73,7 @@ polled_none d ticket None = at (list_any (is_awaited_by ticket) d.awaited)
 
 client_takes_none : (d : DeskState) (call : Call) → is_client call ≡ true → taken_out (desk_step d call).0 ≡ []
 client_takes_none d (calls.Ask method params gated) h = refused_none (gated && holds_back d.life) (is_exited d.life) replies.NotInitialized replies.Exited d (asked d (number_id (pos d.next_id)) method params) refl refl refl
-client_takes_none d (calls.Tell method params gated) h = refused_none (gated && holds_back d.life) (is_exited d.life) replies.Suppressed replies.Exited d (told d method params) refl refl refl
+client_takes_none d (calls.Tell method params gated) h = refused_none (gated && holds_back d.life) (is_exited d.life) replies.Suppressed replies.Exited d (told_client d method params) refl refl refl
 client_takes_none d (calls.Raw r) h = refused_none false (is_exited d.life) replies.Exited replies.Exited d (sent_with d r r.id) refl refl (sent_none d r r.id)
 client_takes_none d (calls.Poll ticket) h = polled_none d ticket (find (is_kept_for ticket) d.kept)
 client_takes_none d calls.NextId h = refl
@@ -167,7 +167,7 @@ module _ {H C T : Type 0} (semantics : Semantics H C T) where
   admits_flow : (s s2 : State H semantics.Call semantics.Task) (item : ItemData) (e : Effect) → Admits semantics s (admission_of semantics s item) e s2 → Flows s e s2
   admits_flow s s2 item e h = flows_both s h.mid s2 e h.first h.rest h.adds (changes_flow s h.mid _ h.first h.changes) (applies_flow h.mid s2 (admission_of semantics s item).verdict h.rest h.applies)
 
-  module _ (laws : IsLawful semantics) where
+  module _ (laws : IsLawfulHandlers semantics) where
     poll_flow : (s s2 : State H semantics.Call semantics.Task) (place : ℕ) (e : Effect) → Poll semantics s place e s2 → Flows s e s2
     poll_flow s s2 place e p = subst (λ x. Flows s x s2) (sym p.adds) (record {
       replays = subst (λ l. Replays s.desk l s2.desk) (sym parts)
@@ -301,10 +301,10 @@ module _ {H C T P : Type 0} (semantics : Semantics H C T) (order : Order P) (rou
       all_left [] b p = tt
       all_left (t ∷ a) b p = (p.0, all_left a b p.1)
 
-pub own_messages : {H C T P : Type 0} (semantics : Semantics H C T) (laws : IsLawful semantics) (order : Order P) → OwnMessagesPass semantics order
+pub own_messages : {H C T P : Type 0} (semantics : Semantics H C T) (laws : IsLawfulHandlers semantics) (order : Order P) → OwnMessagesPass semantics order
 own_messages semantics laws order = record {
   pass = λ rounds service items e last h.
-      let f = run_flow semantics laws order rounds (record { session = opening service h.max h.wait; pick = h.pick }) (record { session = last; pick = h.then }) items e h.runs in
+      let f = run_flow semantics laws order rounds (record { session = session_opening service h.max h.wait; pick = h.pick }) (record { session = last; pick = h.then }) items e h.runs in
       ap (λ l. l ++ last.desk.outbox) (sym f.taken) ∙ sym (messages_pass_lem desk.opening last.desk (entries_of e.trace) f.replays) ∙ put_early desk.opening last.desk (entries_of e.trace) f.replays;
-  alone = λ rounds service items e last h own. run_empties semantics order rounds (record { session = opening service h.max h.wait; pick = h.pick }) (record { session = last; pick = h.then }) items e refl h.runs own;
+  alone = λ rounds service items e last h own. run_empties semantics order rounds (record { session = session_opening service h.max h.wait; pick = h.pick }) (record { session = last; pick = h.then }) items e refl h.runs own;
 }

@@ -13,11 +13,11 @@ use Rattle.lsp_desk.specs.Lives.{is_exited}
 use Rattle.lsp_desk.proofs.TraceLemmas.{makes_life}
 use Rattle.lsp_session.specs.declared.table.Entry.{Entry}
 use Rattle.lsp_session.specs.Item.{ItemData, message, fault, tick}
-use Rattle.lsp_session.specs.Semantics.{Semantics, IsLawful, Held, Progress, Pending, Done}
+use Rattle.lsp_session.specs.Semantics.{Semantics, IsLawfulHandlers, Held, Progress, Pending, Done}
 use Rattle.lsp_session.specs.Admission.{Verdict, Silence, is_live, quiet, cancels, cancel_live, cancel, by_layer, by_entry}
-use Rattle.lsp_session.specs.State.{Work, State, Effect, live, initializing, opening, marked, dues, moved_slots, IsSettled, FitsLife, WorksFit}
+use Rattle.lsp_session.specs.State.{Work, State, Effect, live, initializing, session_opening, marked, dues, moved_slots, IsSettled, FitsLife, WorksFit}
 use Rattle.lsp_session.specs.Run.{Applies, admission_of, occasion, after_poll, Order, Poll, PollsAt, Picked, Step, Run, took, is_exit, is_exit_entry, has_exit}
-use Rattle.lsp_session.specs.Count.{one_if, times, answers_to, faults}
+use Rattle.lsp_session.specs.Count.{one_if, times_id, answers_to, faults}
 use Rattle.lsp_session.specs.Laws.{FactsHold, AnsweredOnce, CancelledOnce, RoundsPollAll, is_fresh, polled_by}
 use Rattle.lsp_session.proofs.FitLemmas.{or_none, none_both, none_out, no_length}
 use Rattle.lsp_session.proofs.FactLemmas.{fits_opening, step_fits}
@@ -31,10 +31,10 @@ use Rattle.lsp_session.proofs.WorkLemmas.{cancelled_live, marked_settled}
 -- ---- facts of runs
 
 module _ {H C T : Type 0} where
-  settled_opening : (service : H) (max wait : ℕ) → IsSettled (opening {C = C} {T = T} service max wait)
+  settled_opening : (service : H) (max wait : ℕ) → IsSettled (session_opening {C = C} {T = T} service max wait)
   settled_opening service max wait = record { ids_differ = tt; slots_few = omega arith; slots_full = λ some. absurd (omega (arith, some)) }
 
-module _ {H C T : Type 0} (semantics : Semantics H C T) (laws : IsLawful semantics) where
+module _ {H C T : Type 0} (semantics : Semantics H C T) (laws : IsLawfulHandlers semantics) where
   module _ {P : Type 0} (order : Order P) (rounds : ℕ) where
     run_settled : (s s2 : Picked (State H semantics.Call semantics.Task) P) (items : List ItemData) (e : Effect) → IsSettled s.session → Run (Step semantics order rounds) s items e s2 → IsSettled s2.session
     run_settled s s2 [] e q h = subst (λ (x : Picked (State H semantics.Call semantics.Task) P). IsSettled x.session) (sym h.1) q
@@ -103,25 +103,25 @@ module _ {H C T : Type 0} (semantics : Semantics H C T) (laws : IsLawful semanti
 
   pub answered : {P : Type 0} (order : Order P) → AnsweredOnce semantics order
   answered order = record {
-    counts = λ rounds service items e last h. run_counts semantics order rounds laws (record { session = opening service h.max h.wait; pick = h.pick }) (record { session = last; pick = h.then }) items e (settled_opening service h.max h.wait) refl h.runs;
+    counts = λ rounds service items e last h. run_counts semantics order rounds laws (record { session = session_opening service h.max h.wait; pick = h.pick }) (record { session = last; pick = h.then }) items e (settled_opening service h.max h.wait) refl h.runs;
     after_exit = λ rounds service items e last h is. ended_none last (run_fits order rounds _ _ items e (fits_opening service h.max h.wait h.some) h.runs) (run_exits order rounds _ _ items e is h.runs);
   }
 
   -- ---- after a cancel
 
-  none_live : (i : IdData) (ids : List IdData) → times i ids ≡ 0 → is_live i ids ≡ false
+  none_live : (i : IdData) (ids : List IdData) → times_id i ids ≡ 0 → is_live i ids ≡ false
   none_live i [] h = refl
   none_live i (j ∷ ids) h = at (same_id i j) h (none_live i ids)
     where
-      at : (b : Bool) → one_if b + times i ids ≡ 0 → (times i ids ≡ 0 → is_live i ids ≡ false) → (b || is_live i ids) ≡ false
+      at : (b : Bool) → one_if b + times_id i ids ≡ 0 → (times_id i ids ≡ 0 → is_live i ids ≡ false) → (b || is_live i ids) ≡ false
       at true k ih = absurd (omega (arith, k))
       at false k ih = ih (omega (arith, k))
 
-  live_none : (i : IdData) (ids : List IdData) → is_live i ids ≡ false → times i ids ≡ 0
+  live_none : (i : IdData) (ids : List IdData) → is_live i ids ≡ false → times_id i ids ≡ 0
   live_none i [] h = refl
   live_none i (j ∷ ids) h = at (same_id i j) h (live_none i ids)
     where
-      at : (b : Bool) → (b || is_live i ids) ≡ false → (is_live i ids ≡ false → times i ids ≡ 0) → one_if b + times i ids ≡ 0
+      at : (b : Bool) → (b || is_live i ids) ≡ false → (is_live i ids ≡ false → times_id i ids ≡ 0) → one_if b + times_id i ids ≡ 0
       at true k ih = absurd (true≢false k)
       at false k ih = omega (arith, ih k)
 
@@ -150,9 +150,9 @@ module _ {H C T : Type 0} (semantics : Semantics H C T) (laws : IsLawful semanti
         ap (λ (x : State H semantics.Call semantics.Task). is_live i (live x)) done.1 ∙ ap (is_live i) (cancelled_live h.mid i) ∙ taken_out i (live h.mid);
     silent = λ rounds s s2 items i e q gone none real h.
         let says = run_says semantics order rounds laws i s s2 items e q h in
-        let before : times i (live s.session) ≡ 0 = live_none i (live s.session) gone in
+        let before : times_id i (live s.session) ≡ 0 = live_none i (live s.session) gone in
         let no_faults : (if same_id i null_id then faults items else 0) ≡ 0 = ap (λ (b : Bool). if b then faults items else 0) real in
-        let all : answers_to i e.out + times i (live s2.session) ≡ 0 = omega (arith, says, before, none, no_faults) in
+        let all : answers_to i e.out + times_id i (live s2.session) ≡ 0 = omega (arith, says, before, none, no_faults) in
         (omega (arith, all), none_live i (live s2.session) (omega (arith, all)));
   }
 

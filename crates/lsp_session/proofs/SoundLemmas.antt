@@ -5,7 +5,7 @@ use Rattle.std.specs.List.{list_any}
 use Rattle.lsp_rpc.specs.Message.{IdData}
 use Rattle.lsp_session.specs.declared.table.Entry.{Entry}
 use Rattle.lsp_session.specs.Item.{ItemData, item_has_float}
-use Rattle.lsp_session.specs.Semantics.{Semantics, IsLawful, Polls, call_in, Fresh, Held, Progress, Pending, Done}
+use Rattle.lsp_session.specs.Semantics.{Semantics, IsLawfulHandlers, Polls, call_in, Fresh, Held, Progress, Pending, Done}
 use Rattle.lsp_session.specs.Admission.{Verdict, Silence, Refuses, Answers, Cancels, Exits, Starts}
 use Rattle.lsp_session.specs.State.{State, Effect, marked}
 use Rattle.lsp_session.specs.Works.{AreSound}
@@ -28,7 +28,7 @@ module _ {H C T : Type 0} (semantics : Semantics H C T) where
   applies_sound s s2 (Starts id entry c) e begun p h =
       subst IsSoundState (sym h.1) (entered_sound semantics s (record { id = id; entry = entry; phase = Fresh c; due = true }) p (begun id entry c refl))
 
-  module _ (laws : IsLawful semantics) where
+  module _ (laws : IsLawfulHandlers semantics) where
     -- a call that an item without a float starts is sound
     started_sound : (s : State H semantics.Call semantics.Task) (item : ItemData) (id : Option IdData) (entry : Entry) (c : semantics.Call) → item_has_float item ≡ false
         → (admission_of semantics s item).verdict ≡ Starts id entry c → semantics.is_sound c ≡ true

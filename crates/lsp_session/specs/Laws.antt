@@ -13,10 +13,10 @@ use Rattle.lsp_session.specs.declared.table.Layer.TheVariants.{Initialize, Exit,
 use Rattle.lsp_session.specs.Item.{ItemData, message, item_has_float}
 use Rattle.lsp_session.specs.Semantics.{Semantics, Phase, Fresh, Held}
 use Rattle.lsp_session.specs.Admission.{Cancels, Starts, is_live, cancelled_id}
-use Rattle.lsp_session.specs.State.{Work, State, Effect, IsSettled, FitsLife, live, opening, marked, dues}
+use Rattle.lsp_session.specs.State.{Work, State, Effect, IsSettled, FitsLife, live, session_opening, marked, dues}
 use Rattle.lsp_session.specs.Works.{AreSound}
 use Rattle.lsp_session.specs.Run.{answer, cancelled, Admits, admission_of, Order, Poll, PollsAt, Round, Drains, Picked, Step, Run, is_exit, has_exit}
-use Rattle.lsp_session.specs.Count.{times, answers_to, owed, Counts}
+use Rattle.lsp_session.specs.Count.{times_id, answers_to, owed, Counts}
 
 -- ---- the life cycle of LSP 3.17
 
@@ -97,7 +97,7 @@ pub record Serves {H C T P : Type 0} (semantics : Semantics H C T) (order : Orde
   pub some : 1 ≤ max
   pub pick : P
   pub then : P
-  pub runs : Run (Step semantics order rounds) (record { session = opening service max wait; pick = pick }) items e (record { session = last; pick = then })
+  pub runs : Run (Step semantics order rounds) (record { session = session_opening service max wait; pick = pick }) items e (record { session = last; pick = then })
 
 -- in every state that a run comes to the live ids differ, no call waits while a slot is free, the calls fit the life, and
 -- where no item holds a float each call is sound
@@ -135,7 +135,7 @@ pub record CancelledOnce {H C T P : Type 0} (semantics : Semantics H C T) (order
       → Admits semantics s (admission_of semantics s item) e s2 → is_live i (live s2) ≡ false
   -- and what is gone is not answered
   pub silent : (rounds : ℕ) (s s2 : Picked (State H semantics.Call semantics.Task) P) (items : List ItemData) (i : IdData) (e : Effect) → IsSettled s.session
-      → is_live i (live s.session) ≡ false → times i (owed (semantics.find s.session.service) items) ≡ 0 → same_id i null_id ≡ false
+      → is_live i (live s.session) ≡ false → times_id i (owed (semantics.find s.session.service) items) ≡ 0 → same_id i null_id ≡ false
       → Run (Step semantics order rounds) s items e s2 → (answers_to i e.out ≡ 0) × (is_live i (live s2.session) ≡ false)
 
 -- ---- rounds

@@ -20,7 +20,7 @@ use Rattle.lsp_shared.specs.Phases.{is_idle}
 use Rattle.lsp_shared.specs.Rule.{run, IsLegal, AllClient, now_of, entry_of, call_of, reply_of}
 use Rattle.lsp_shared.specs.Steps.{reading, Turned, Answered, HasTurn, item_for}
 use Rattle.lsp_shared.specs.Desks.{rested_desk, rested_view, rested_spent}
-use Rattle.lsp_shared.specs.Seats.{meaning_by, kin_of, entries_seen, TicketsAddUp}
+use Rattle.lsp_shared.specs.Seats.{meaning_by, kin_of, entries_seen, SeenTicketsAddUp}
 use Rattle.lsp_shared.proofs.Totals.{run_append}
 
 -- what others did, and then one's own entry
@@ -130,10 +130,10 @@ spent_stays (Err faults.NoMemory) old new stays spent is = stays ∙ is
 spent_stays (Err (faults.Spent n)) old new stays spent is = spent n refl
 
 -- in a legal history the tickets add up
-tickets_of : (v : View) → IsLegal opening v.seen → TicketsAddUp v
+tickets_of : (v : View) → IsLegal opening v.seen → SeenTicketsAddUp v
 tickets_of v legal n = let sum = tickets_add_up_lem opening (now_of v.seen) (entries_seen v) (replays_of opening v.seen legal) n in omega (arith, sum)
 
-pub turn_tickets : {R : Type 0} (wrap : R → Replied) (note : Asked) (v w : View) (result : Result R DeskFault) → Answered wrap note v result w → HasTurn result (TicketsAddUp w)
+pub turn_tickets : {R : Type 0} (wrap : R → Replied) (note : Asked) (v w : View) (result : Result R DeskFault) → Answered wrap note v result w → HasTurn result (SeenTicketsAddUp w)
 turn_tickets wrap note v w (Ok reply) t = tickets_of w t.legal
 turn_tickets wrap note v w (Err faults.NoMemory) t = tickets_of w t.legal
 turn_tickets wrap note v w (Err (faults.Spent n)) t = tt

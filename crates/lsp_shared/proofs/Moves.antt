@@ -18,7 +18,7 @@ use Rattle.lsp_shared.specs.declared.view.Phase.{Phase}
 use Rattle.lsp_shared.specs.declared.view.Phase.TheVariants.{Idle, Drawn, Holding}
 use Rattle.lsp_shared.specs.declared.view.View.{View}
 use Rattle.lsp_shared.specs.Rule.{Kept, Sits, Stands, turns, held, once_below, one_at, IsLegal, AreClean, now_of, entry_of}
-use Rattle.lsp_shared.specs.Steps.{Mine, reading, drawing, holding, passing, Read, Drew, Took, Passed, GotTurn, Ready}
+use Rattle.lsp_shared.specs.Steps.{Mine, reading, drawing, holding, passing_turn, Read, Drew, TookTurn, Passed, GotTurn, Ready}
 use Rattle.lsp_shared.proofs.Totals.{total_set, total_at, total_two, total_only, one_other, once_yes, once_suc, once_le, once_some, one_same, times_append, below_mono, below_append, run_append, legal_append, clean_append, client_append}
 
 -- one view changes, and the rest of the state as is said
@@ -239,7 +239,7 @@ has_all s k id t v at is here all x less =
     let o = one_other x t (λ e. absurd (omega arith)) in
     omega arith
 
-pub takes_turn : (slots id t : ℕ) (me : Mine) → me.0.phase ≡ Drawn t → me.1 ≡ [] → 0 < me.0.share → Allows Kept slots id me 1 (λ n. n) (Took (step slots 1 0 0 none) me)
+pub takes_turn : (slots id t : ℕ) (me : Mine) → me.0.phase ≡ Drawn t → me.1 ≡ [] → 0 < me.0.share → Allows Kept slots id me 1 (λ n. n) (TookTurn (step slots 1 0 0 none) me)
 takes_turn slots id t me is empty share s k len at fits = go (ℕ_discrete found t)
   where
     found : ℕ
@@ -251,10 +251,10 @@ takes_turn slots id t me is empty share s k len at fits = go (ℕ_discrete found
     words : set s.words 1 found ≡ k.ticket ∷ length k.log ∷ []
     words = ap (λ ws. set ws 1 (slice_index ws 1)) k.words
 
-    told : (me2 : Mine) → (found ≡ t → GotTurn me.0 t me2) × ((found ≡ t → ⊥) → me2 ≡ me) → Took (step slots 1 0 0 none) me found me2
+    told : (me2 : Mine) → (found ≡ t → GotTurn me.0 t me2) × ((found ≡ t → ⊥) → me2 ≡ me) → TookTurn (step slots 1 0 0 none) me found me2
     told me2 p u q = subst (λ (z : ℕ). (found ≡ z → GotTurn me.0 z me2) × ((found ≡ z → ⊥) → me2 ≡ me)) (drawn_same me.0.phase t u is q) p
 
-    go : Dec (found ≡ t) → (w : View) × (a : Act PlainDesk) × Valid s.homes me.1 a × Kept (stepped s 1 found id me.1 w a) × Took (step slots 1 0 0 none) me found (w, carried_after me.1 a)
+    go : Dec (found ≡ t) → (w : View) × (a : Act PlainDesk) × Valid s.homes me.1 a × Kept (stepped s 1 found id me.1 w a) × TookTurn (step slots 1 0 0 none) me found (w, carried_after me.1 a)
     go (no ne) = (me.0, keeps, tt, stays s k id me.0 me.0 at _ words refl refl refl refl (k.sits id me.0 at), told me ((λ e. absurd (ne e)), (λ _. refl)))
     go (yes e) =
         let here : t ≡ length k.log = sym e ∙ serving in
@@ -281,11 +281,11 @@ takes_turn slots id t me is empty share s k len at fits = go (ℕ_discrete found
 -- the turn of a seat that holds the desk is the next one, and it has seen the whole history
 pub passes_kept : (s : State PlainDesk View) (k : Kept s) (id t : ℕ) (me : Mine) (item : Item) (ready : Ready item t me) → get_elem? s.views id ≡ some me.0 → 0 < me.0.share
     → (words : List ℕ) → words ≡ k.ticket ∷ (length k.log + 1) ∷ []
-    → Kept record { words = words; homes = set s.homes 0 (some ready.desk); views = set s.views id (passing me.0 t item) }
+    → Kept record { words = words; homes = set s.homes 0 (some ready.desk); views = set s.views id (passing_turn me.0 t item) }
 passes_kept s k id t me item ready at share words are =
     let v = me.0 in
     let m = k.sits id v at in
-    let w = passing v t item in
+    let w = passing_turn v t item in
     let log = k.log ++ item ∷ [] in
     let st : Stands (length k.log) m.rest (Holding t) = subst (Stands (length k.log) m.rest) ready.phase m.stands in
     let whole : k.log ≡ v.seen = m.begins ∙ ap (λ r. v.seen ++ r) st.1 ∙ append-nil v.seen in
@@ -357,12 +357,12 @@ passes slots id t me item ready share s k len at fits =
     let next : (slice_index s.words 1 + 1) % 2 ^ 64 ≡ length k.log + 1 = mod-eq_of_lt (let q = st.0 in let r = k.small in omega arith) ∙ ap (λ (n : ℕ). n + 1) serving in
     let words : set s.words 1 ((slice_index s.words 1 + 1) % 2 ^ 64) ≡ k.ticket ∷ (length k.log + 1) ∷ [] = ap (λ (n : ℕ). set s.words 1 n) next ∙ ap (λ ws. set ws 1 (length k.log + 1)) k.words in
     let kept = passes_kept s k id t me item ready at share (set s.words 1 ((slice_index s.words 1 + 1) % 2 ^ 64)) words in (
-      passing me.0 t item,
+      passing_turn me.0 t item,
       gives,
       tt,
-      subst (λ c. Kept (stepped s 1 ((slice_index s.words 1 + 1) % 2 ^ 64) id c (passing me.0 t item) gives)) (sym ready.carried) kept,
+      subst (λ c. Kept (stepped s 1 ((slice_index s.words 1 + 1) % 2 ^ 64) id c (passing_turn me.0 t item) gives)) (sym ready.carried) kept,
       (λ u q. gone u q ready.carried),
     )
   where
-    gone : (u : ℕ) → me.0.phase ≡ Holding u → me.1 ≡ (0, ready.desk) ∷ [] → Is (passing me.0 t item, carried_after me.1 gives) (passing me.0 u item, [])
-    gone u q c = let same : t ≡ u = holding_same me.0.phase t u ready.phase q in λ i. (passing me.0 (same i) item, carried_after (c i) gives)
+    gone : (u : ℕ) → me.0.phase ≡ Holding u → me.1 ≡ (0, ready.desk) ∷ [] → Is (passing_turn me.0 t item, carried_after me.1 gives) (passing_turn me.0 u item, [])
+    gone u q c = let same : t ≡ u = holding_same me.0.phase t u ready.phase q in λ i. (passing_turn me.0 (same i) item, carried_after (c i) gives)

@@ -15,7 +15,7 @@ use Rattle.lsp_shared.specs.declared.view.Item.{Item}
 use Rattle.lsp_shared.specs.declared.view.Phase.TheVariants.{Idle}
 use Rattle.lsp_shared.specs.declared.view.View.{View}
 use Rattle.lsp_shared.specs.Rule.{Kept, Sits, Stands, turns, held, IsLegal, AreClean, AllClient, entry_of, newcomer}
-use Rattle.lsp_shared.specs.Steps.{Mine, half, rest_of, joined, empty, longer, learned, Learned, Heard, Begins, AddsClients, IsSound}
+use Rattle.lsp_shared.specs.Steps.{Mine, half, rest_of, joined, empty, longer, learned, Learned, Heard, Begins, AddsClients, IsSoundView}
 use Rattle.lsp_shared.proofs.Totals.{total_set, total_at, total_snoc, times_append, once_le, below_mono, below_append, clean_take}
 use Rattle.lsp_shared.proofs.Moves.{stays, found_stays, away_on, out_on, idle_holds}
 
@@ -220,13 +220,13 @@ longest a b = go (ltb (length a) (length b)) refl
 
 -- what is true of a seat that took another in
 pub takes_in : (v w u : View) → u ≡ learned (joined v w) → Heard (joined v w) → AllBelow (length v.seen) v.made → AllBelow (length w.seen) w.made
-    → Begins v.seen u.seen × Begins w.seen u.seen × (v.owner ≡ true → AddsClients v.seen u.seen) × IsSound u
-takes_in v w u is h a b = subst (λ (x : View). Begins v.seen x.seen × Begins w.seen x.seen × (v.owner ≡ true → AddsClients v.seen x.seen) × IsSound x) (sym is) (h.seen, h.told, h.clients, sound)
+    → Begins v.seen u.seen × Begins w.seen u.seen × (v.owner ≡ true → AddsClients v.seen u.seen) × IsSoundView u
+takes_in v w u is h a b = subst (λ (x : View). Begins v.seen x.seen × Begins w.seen x.seen × (v.owner ≡ true → AddsClients v.seen x.seen) × IsSoundView x) (sym is) (h.seen, h.told, h.clients, sound)
   where
     most : length (longer v.seen w.seen) ≡ max (length v.seen) (length w.seen)
     most = longest v.seen w.seen
 
-    sound : IsSound (learned (joined v w))
+    sound : IsSoundView (learned (joined v w))
     sound = record {
       legal = h.legal;
       clean = h.clean;

@@ -15,7 +15,7 @@ use Rattle.lsp_shared.specs.declared.view.Replied.{Replied}
 use Rattle.lsp_shared.specs.declared.view.Item.{Item}
 use Rattle.lsp_shared.specs.declared.view.View.{View}
 use Rattle.lsp_shared.specs.Rule.{IsLegal, IsClean, IsCleanReply, AreClean, now_of, entry_of, call_of, reply_of, one_at}
-use Rattle.lsp_shared.specs.Steps.{Mine, reading, drawing, passing, GotTurn, Ready, HasDrawn, Turned, Answered, item_for}
+use Rattle.lsp_shared.specs.Steps.{Mine, reading, drawing, passing_turn, GotTurn, Ready, HasDrawn, Turned, Answered, item_for}
 use native.Mathlib.Decide.{ℕ_discrete}
 use Rattle.std.proofs.lemmas.Bool.Decides.{nat_tests}
 use Rattle.lsp_shared.proofs.Totals.{legal_append, clean_append, times_append, one_other, one_same, below_append, below_mono}
@@ -86,7 +86,7 @@ module _ {R : Type 0} (view : R → Reply) (wrap : R → Replied) (same : (r : R
   answered_of v w d d2 (Err (faults.Spent n)) m t = absurd m.steps
 
 pub turned_of : (v0 : View) (n : ℕ) (me me2 : Mine) (item : Item) (carried : List (ℕ × PlainDesk)) → n + 1 < 2 ^ 64 → v0.read ≤ n → GotTurn (drawing (reading v0 n) n) n me
-    → Ready item n (me.0, carried) → me2.0 ≡ passing me.0 n item → Turned v0 item me2.0
+    → Ready item n (me.0, carried) → me2.0 ≡ passing_turn me.0 n item → Turned v0 item me2.0
 turned_of v0 n me me2 item carried small later got ready is = record {
   between = got.rest;
   turn = n;
@@ -156,13 +156,13 @@ module _ {R : Type 0} (view : R → Reply) (wrap : R → Replied) (same : (r : R
   pub share_by : me.0.share ≡ me0.0.share
   share_by = ap (λ (z : View). z.share) got_by.view
 
-  pub turned_by : (me2 : Mine) → me2 ≡ (passing me.0 t (item_for wrap note result), []) → Turned me0.0 (item_for wrap note result) me2.0
+  pub turned_by : (me2 : Mine) → me2 ≡ (passing_turn me.0 t (item_for wrap note result), []) → Turned me0.0 (item_for wrap note result) me2.0
   turned_by me2 passed = turned_of me0.0 t me me2 _ _ drawn.0 drawn.1 got_by ready_by (ap (λ (m : Mine). m.0) passed)
 
-  pub answered_by : (me2 : Mine) → me2 ≡ (passing me.0 t (item_for wrap note result), []) → Answered wrap note me0.0 result me2.0
+  pub answered_by : (me2 : Mine) → me2 ≡ (passing_turn me.0 t (item_for wrap note result), []) → Answered wrap note me0.0 result me2.0
   answered_by me2 passed = answered_of view wrap same note me0.0 me2.0 d d2 result makes_by (turned_by me2 passed)
 
-  pub seen_by : (me2 : Mine) → me2 ≡ (passing me.0 t (item_for wrap note result), []) → length me2.0.seen ≡ t + 1
+  pub seen_by : (me2 : Mine) → me2 ≡ (passing_turn me.0 t (item_for wrap note result), []) → length me2.0.seen ≡ t + 1
   seen_by me2 passed =
       let a = got_by.turn in
       let b : length me.0.seen ≡ length (me0.0.seen ++ got_by.rest) = ap (λ (z : View). length z.seen) got_by.view in

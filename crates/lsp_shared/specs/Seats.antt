@@ -4,7 +4,7 @@ use mathlib.Core.Path.{refl, sym, ap, subst}
 use Rattle.lsp_desk.specs.Desk.{opening}
 use Rattle.lsp_desk.specs.Flow.{all_given, all_answered, open_tickets}
 use Rattle.lsp_desk.specs.Trace.{DeskEntry, after_all, AllBelow, times}
-use Rattle.lsp_desk.specs.Meaning.{Meaning, IsLawful}
+use Rattle.lsp_desk.specs.Meaning.{Meaning, IsLawfulDesk}
 use Rattle.atomic_table.specs.Seated.{TableId}
 use Rattle.lsp_shared.specs.declared.rested.Rested.{Rested}
 use Rattle.lsp_shared.specs.declared.role.Role.{Ghosts}
@@ -23,8 +23,8 @@ abbrev pub entries_seen : View → List DeskEntry
 entries_seen v = map entry_of v.seen
 
 -- the tickets given in what a seat has seen are, each as often, those whose answers were taken, are kept, or are awaited
-abbrev pub TicketsAddUp : View → Type 0
-TicketsAddUp v = (n : ℕ) → times n (all_given (entries_seen v)) ≡ times n (all_answered (entries_seen v)) + times n (open_tickets (now_of v.seen))
+abbrev pub SeenTicketsAddUp : View → Type 0
+SeenTicketsAddUp v = (n : ℕ) → times n (all_given (entries_seen v)) ≡ times n (all_answered (entries_seen v)) + times n (open_tickets (now_of v.seen))
 
 -- ---- a value that holds a seat at rest
 
@@ -52,7 +52,7 @@ not_alone {P} same = subst (λ b. MatchBool b P (Unit {0})) same tt
 abbrev pub of_told : (P : List DeskEntry → Type 0) {seen h : List DeskEntry} → Some seen ≡ Some h → P seen → P h
 of_told P same p = subst (λ told. MatchOption told (Unit {0}) P) same p
 
-abbrev pub laws_by : {D : Type 0} (rested : D → Rested) → IsLawful (meaning_by rested)
+abbrev pub laws_by : {D : Type 0} (rested : D → Rested) → IsLawfulDesk (meaning_by rested)
 laws_by rested = record {
   alone_unspent = λ d alone. not_alone alone;
   now_told = λ d h told. of_told (λ l. now_of (rested_view (rested d)).seen ≡ after_all opening l) told refl;
@@ -69,7 +69,7 @@ module _ {R K : Type 0} {g : Ghosts K} where
   abbrev pub seat_meaning : Meaning (DeskSeat R K g)
   seat_meaning = meaning_by at_rest
 
-  abbrev pub seat_laws : IsLawful seat_meaning
+  abbrev pub seat_laws : IsLawfulDesk seat_meaning
   seat_laws = laws_by at_rest
 
   -- what a seat knows, and which desk is its

@@ -32,8 +32,8 @@ drawing v n = record { seen = v.seen; told = v.told; made = v.made; read = v.rea
 abbrev pub holding : View → ℕ → List Item → View
 holding v t seen = record { seen = seen; told = v.told; made = v.made; read = v.read; share = v.share; owner = v.owner; phase = Holding t }
 
-abbrev pub passing : View → ℕ → Item → View
-passing v t item = record { seen = v.seen ++ item ∷ []; told = v.told; made = v.made ++ t ∷ []; read = v.read; share = v.share; owner = v.owner; phase = Idle }
+abbrev pub passing_turn : View → ℕ → Item → View
+passing_turn v t item = record { seen = v.seen ++ item ∷ []; told = v.told; made = v.made ++ t ∷ []; read = v.read; share = v.share; owner = v.owner; phase = Idle }
 
 abbrev pub Read : Step PlainDesk → Mine → ℕ → Mine → Type 0
 Read st me n me2 = (me.0.read ≤ n) × (me2 ≡ (reading me.0 n, me.1))
@@ -62,11 +62,11 @@ pub record GotTurn (v : View) (t : ℕ) (me2 : Mine) : Type 0 where
   pub inside : AllBelow (length (v.seen ++ rest)) v.made
   pub whole : v.share ≡ 2 ^ 63 → (x : ℕ) → x < length (v.seen ++ rest) → times x v.made ≡ 1
 
-abbrev pub Took : Step PlainDesk → Mine → ℕ → Mine → Type 0
-Took st me n me2 = (t : ℕ) → me.0.phase ≡ Drawn t → (n ≡ t → GotTurn me.0 t me2) × ((n ≡ t → ⊥) → me2 ≡ me)
+abbrev pub TookTurn : Step PlainDesk → Mine → ℕ → Mine → Type 0
+TookTurn st me n me2 = (t : ℕ) → me.0.phase ≡ Drawn t → (n ≡ t → GotTurn me.0 t me2) × ((n ≡ t → ⊥) → me2 ≡ me)
 
 abbrev pub Passed : Item → Step PlainDesk → Mine → ℕ → Mine → Type 0
-Passed item st me n me2 = (t : ℕ) → me.0.phase ≡ Holding t → me2 ≡ (passing me.0 t item, [])
+Passed item st me n me2 = (t : ℕ) → me.0.phase ≡ Holding t → me2 ≡ (passing_turn me.0 t item, [])
 
 -- a seat that may pass with this entry
 pub record Ready (item : Item) (t : ℕ) (me : Mine) : Type 0 where
@@ -124,7 +124,7 @@ pub record IsNew (v : View) : Type 0 where
   pub owner : v.owner ≡ true
 
 -- what is told of a view that took in another: its history is legal and has no float, and its calls stand in it, each once
-pub record IsSound (v : View) : Type 0 where
+pub record IsSoundView (v : View) : Type 0 where
   pub legal : IsLegal opening v.seen
   pub clean : AreClean v.seen
   pub inside : AllBelow (length v.seen) v.made

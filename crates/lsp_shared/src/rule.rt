@@ -59,9 +59,9 @@ impl Play<PlainDesk, View> for Draws {
 pub struct Takes;
 
 impl Play<PlainDesk, View> for Takes {
-    ghost use Rattle.lsp_shared.specs.Steps.{Took};
+    ghost use Rattle.lsp_shared.specs.Steps.{TookTurn};
 
-    ghost then = { Took };
+    ghost then = { TookTurn };
 }
 
 pub struct Passes<N> {

@@ -62,7 +62,7 @@ impl<'a, R: Wait + Sync, K: Role> Caller for DeskSeat<'a, R, K> {
     ghost use Rattle.lsp_desk.specs.Meaning.{Calls};
     ghost use Rattle.lsp_shared.specs.declared.view.Asked.TheVariants as asked;
     ghost use Rattle.lsp_shared.specs.Steps.{by_client, Answered, HasTurn};
-    ghost use Rattle.lsp_shared.specs.Seats.{seat_meaning, seat_laws, seat_view, seat_desk, TicketsAddUp};
+    ghost use Rattle.lsp_shared.specs.Seats.{seat_meaning, seat_laws, seat_view, seat_desk, SeenTicketsAddUp};
 
     ghost meaning = { seat_meaning };
 
@@ -70,7 +70,7 @@ impl<'a, R: Wait + Sync, K: Role> Caller for DeskSeat<'a, R, K> {
         requires { call_has_float (show_client_call call) ≡ false }
         ensures turned { Answered by_client (asked.Client call) (seat_view self.old) result
             (seat_view self.new) }
-        ensures tickets { HasTurn result (TicketsAddUp (seat_view self.new)) }
+        ensures tickets { HasTurn result (SeenTicketsAddUp (seat_view self.new)) }
         ensures same { seat_desk self.new ≡ seat_desk self.old }
         ensures calls { Calls seat_meaning show_client_reply self.old
             (show_client_call call) result self.new }
@@ -95,13 +95,13 @@ impl<'a, R: Wait + Sync> Desk for DeskOwner<'a, R> {
     ghost use Rattle.lsp_desk.specs.Meaning.{Calls};
     ghost use Rattle.lsp_shared.specs.declared.view.Asked.TheVariants as asked;
     ghost use Rattle.lsp_shared.specs.Steps.{by_server, Answered, HasTurn};
-    ghost use Rattle.lsp_shared.specs.Seats.{seat_meaning, seat_view, seat_desk, TicketsAddUp};
+    ghost use Rattle.lsp_shared.specs.Seats.{seat_meaning, seat_view, seat_desk, SeenTicketsAddUp};
 
     fn server(&mut self, call: ServerCall) -> Result<ServerReply, DeskFault>
         requires { call_has_float (show_server_call call) ≡ false }
         ensures turned { Answered by_server (asked.Server call) (seat_view self.old) result
             (seat_view self.new) }
-        ensures tickets { HasTurn result (TicketsAddUp (seat_view self.new)) }
+        ensures tickets { HasTurn result (SeenTicketsAddUp (seat_view self.new)) }
         ensures same { seat_desk self.new ≡ seat_desk self.old }
         ensures calls { Calls seat_meaning show_server_reply self.old
             (show_server_call call) result self.new }
@@ -122,7 +122,7 @@ impl<'a, R: Wait + Sync, K: Role> DeskSeat<'a, R, K> {
     ghost use Rattle.std.specs.Prelude.{◌≤◌, ◌||◌, true, false, length, IsOk, IfOk};
     ghost use Rattle.lsp_shared.specs.Desks.{rested_spent};
     ghost use Rattle.lsp_shared.specs.Seats.{seat_meaning, seat_view, seat_desk};
-    ghost use Rattle.lsp_shared.specs.Steps.{half, rest_of, joined, learned, Begins, AddsClients, IsSound};
+    ghost use Rattle.lsp_shared.specs.Steps.{half, rest_of, joined, learned, Begins, AddsClients, IsSoundView};
 
     /// The seat at its desk again.
     pub fn sit(rt: &'a R, desk: &'a SharedDesk, rested: Rested) -> DeskSeat<'a, R, K>
@@ -200,7 +200,7 @@ impl<'a, R: Wait + Sync, K: Role> DeskSeat<'a, R, K> {
             × Begins (seat_view other.entry).seen (seat_view self.new).seen }
         ensures clients { K.owns ≡ true
             → AddsClients (seat_view self.old).seen (seat_view self.new).seen }
-        ensures sound { IsSound (seat_view self.new) }
+        ensures sound { IsSoundView (seat_view self.new) }
         ensures same { seat_desk self.new ≡ seat_desk self.old }
         ensures spent { seat_meaning.spent self.new
             ≡ (seat_meaning.spent self.old || seat_meaning.spent other.entry) }

@@ -2,7 +2,7 @@
 ghost use Rattle.std.specs.Prelude.{◌≡◌, ◌<◌, []};
 ghost use Rattle.lsp_shared.specs.declared.view.Phase.TheVariants.{Idle, Drawn};
 ghost use Rattle.lsp_shared.specs.Desks.{desk_id};
-ghost use Rattle.lsp_shared.specs.Steps.{passing, HasDrawn, GotTurn, Ready};
+ghost use Rattle.lsp_shared.specs.Steps.{passing_turn, HasDrawn, GotTurn, Ready};
 
 use crate::desk::SharedDesk;
 use crate::rule::{Draws, Passes, Reads, Said, Takes};
@@ -77,7 +77,7 @@ pub fn pass<T, N: Said>(
     requires here { seat.old.table_id ≡ desk_id desk.now }
     requires ready { Ready N.item t seat.old.me × (0 < seat.old.me.0.share) }
     ensures { (seat.new.table_id ≡ seat.old.table_id)
-        × (seat.new.me ≡ (passing seat.old.me.0 t N.item, [])) }
+        × (seat.new.me ≡ (passing_turn seat.old.me.0 t N.item, [])) }
 {
     let table = &desk.table.shared;
     table.fetch_add::<Passes<N>>(seat, SERVING, 1);

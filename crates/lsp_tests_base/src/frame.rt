@@ -1,5 +1,5 @@
 ghost use Rattle.lsp_frame.specs.Items.{AreLimits};
-ghost use Rattle.lsp_frame.specs.Shown.{IsFloatFree};
+ghost use Rattle.lsp_frame.specs.Shown.{DecodedIsFloatFree};
 
 use bytes::BytesMut;
 use lsp_frame::{BodyFault, Decoded, LanguageServerCodec, Limits, ParseError};
@@ -15,7 +15,7 @@ const EXIT: &str = "{\"jsonrpc\":\"2.0\",\"method\":\"exit\"}";
 
 // A message's text, or a fault's name.
 fn written(alloc: Global, item: &Decoded) -> Result<String, NoMemory>
-    requires { IsFloatFree item.now }
+    requires { DecodedIsFloatFree item.now }
 {
     match item {
         Decoded::Item(message) => message.to_text(alloc),

@@ -5,7 +5,7 @@ use Rattle.std.specs.Io.KnownBytes.{Consumes}
 use Rattle.std.proofs.lemmas.List.Sums.{sum_by-append}
 use Rattle.lsp_server.specs.declared.step.ServeError.{ServeError}
 use Rattle.lsp_server.specs.Reads.{Moment}
-use Rattle.lsp_server.specs.Consuming.{Given, piece, end, Outcome, goes_on, done, stops, IsLawful, bytes_of, IsTimely, TookLast}
+use Rattle.lsp_server.specs.Consuming.{Given, piece, end, ConsumerOutcome, goes_on, done, stops, IsLawfulConsumer, bytes_of, IsTimely, TookLast}
 use Rattle.lsp_server.proofs.KnownLemmas.{all_read, end_before}
 use Rattle.lsp_tests_session.specs.declared.lines.Lines.{Lines}
 use Rattle.lsp_tests_session.specs.declared.lines.Count.{Count}
@@ -31,11 +31,11 @@ more a b c xs ys ws vs p q = (
   ap (λ l. l ++ vs) p.1 ∙ q.1,
 )
 
-refused : (a b : ℕ) (given : Given) (outcome : Outcome) (written : List ℕ) (e : ServeError) → Counts a given (stops e) written b
+refused : (a b : ℕ) (given : Given) (outcome : ConsumerOutcome) (written : List ℕ) (e : ServeError) → Counts a given (stops e) written b
 refused a b (piece bytes) outcome written e = tt
 refused a b end outcome written e = tt
 
-pub counting_lawful : IsLawful counting
+pub counting_lawful : IsLawfulConsumer counting
 counting_lawful = record {
   opens = opens;
   none = λ a is. (counted_none a.1.lines is, refl);

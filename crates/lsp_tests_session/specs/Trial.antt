@@ -6,7 +6,7 @@ use Rattle.lsp_desk.specs.Trace.{DeskEntry}
 use Rattle.lsp_session.specs.declared.handlers.Progress as code
 use Rattle.lsp_session.specs.declared.handlers.Progress.TheVariants as variants
 use Rattle.lsp_session.specs.declared.table.Entry.{Entry}
-use Rattle.lsp_session.specs.Semantics.{Semantics, IsLawful, AreClient, Phase, Fresh, Held, Progress, Pending, Done, Polls, call}
+use Rattle.lsp_session.specs.Semantics.{Semantics, IsLawfulHandlers, AreClient, Phase, Fresh, Held, Progress, Pending, Done, Polls, call}
 
 -- what ends holds no float
 abbrev pub EndsClean : Progress ⊤ → Type 0
@@ -38,7 +38,7 @@ behaves : {H : Type 0} (C T : Type 0) (find : H → List ℕ → Option Entry) (
 behaves C T find s (Fresh c) asked s2 progress p = p
 behaves C T find s (Held t) asked s2 progress p = p
 
-pub trial_lawful : {H C T : Type 0} (find : H → List ℕ → Option Entry) → IsLawful (trial {C = C} {T = T} find)
+pub trial_lawful : {H C T : Type 0} (find : H → List ℕ → Option Entry) → IsLawfulHandlers (trial {C = C} {T = T} find)
 trial_lawful {H} {C} {T} find = record {
   reads_sound = λ entry params c clean is. refl;
   keeps_table = λ s phase asked s2 progress p name. (behaves C T find s phase asked s2 progress p).table name;

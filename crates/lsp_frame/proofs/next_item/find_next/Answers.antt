@@ -2,7 +2,7 @@ use Rattle.std.proofs.Common.{◌∙◌, ◌+◌, ◌-◌, ◌≤◌, ℕ, subst
 use Rattle.std.specs.Prelude.{OnErr}
 use Rattle.lsp_frame.specs.Transitions.{go}
 use Rattle.lsp_frame.specs.Kept.{IsLooked}
-use Rattle.lsp_frame.specs.Places.{standing}
+use Rattle.lsp_frame.specs.Places.{codec_at}
 use Rattle.lsp_frame.specs.Shown.{show_transition, show_found, IsWithinBytes}
 use Rattle.lsp_frame.proofs.ItemsByTransition.{last_at_unfinished, after_go, after_smaller}
 use Rattle.lsp_frame.proofs.PlacesCome.{one_more_silent, comes_with_item, comes_to_stop, comes_unfinished}
@@ -27,19 +27,19 @@ returns-in_err-transition_from-clause-memory c =
 pub returns-in-Stop-clause-place : goal.returns-in-Stop-clause-place
 returns-in-Stop-clause-place c =
     let is = sym c.in_ok-transition_from.ensures.value ∙ ap show_transition c.in-Stop.is in
-    comes_to_stop c.args.limits (standing c.args.limits c.args.state c.args.bytes.now) c.transitions.at c.args.bytes.now c.transitions.place c.waiting-state.result
+    comes_to_stop c.args.limits (codec_at c.args.limits c.args.state c.args.bytes.now) c.transitions.at c.args.bytes.now c.transitions.place c.waiting-state.result
     c.transitions.invariant.silent is c.waiting-state.ensures
 
 pub returns-in-Unfinished-clause-place : goal.returns-in-Unfinished-clause-place
 returns-in-Unfinished-clause-place c =
     let is = sym c.in_ok-transition_from.ensures.value ∙ ap show_transition c.in-Unfinished.is in
-    comes_unfinished c.args.limits (standing c.args.limits c.args.state c.args.bytes.now) c.transitions.at (drop c.transitions.place c.args.bytes.now)
+    comes_unfinished c.args.limits (codec_at c.args.limits c.args.state c.args.bytes.now) c.transitions.at (drop c.transitions.place c.args.bytes.now)
     c.transitions.invariant.silent is
 
 pub returns-in-Some-clause-place : goal.returns-in-Some-clause-place
 returns-in-Some-clause-place c =
     let is = sym c.in_ok-transition_from.ensures.value ∙ ap show_transition c.in-Go.is in
-    comes_with_item c.args.limits (standing c.args.limits c.args.state c.args.bytes.now) c.transitions.at c.in-Go.to c.args.bytes.now c.transitions.place c.in-Go.n (show_found c.in-Some.found)
+    comes_with_item c.args.limits (codec_at c.args.limits c.args.state c.args.bytes.now) c.transitions.at c.in-Go.to c.args.bytes.now c.transitions.place c.in-Go.n (show_found c.in-Some.found)
     c.transitions.invariant.silent (is ∙ ap (λ o. go (option_map show_found o) c.in-Go.to c.in-Go.n) c.in-Some.is)
 
 pub returns-in-Stop-clause-goes : goal.returns-in-Stop-clause-goes
@@ -102,7 +102,7 @@ transitions-preserved c =
           c.transitions.invariant.same last more
           ∙ (rw c.in_default.is at (after_go c.args.limits c.transitions.at c.in-Go.to c.args.bytes.now c.transitions.place c.in-Go.n (option_map show_found c.in-Go.item) is last more));
       silent =
-          one_more_silent c.args.limits (standing c.args.limits c.args.state c.args.bytes.now) c.transitions.at c.in-Go.to c.args.bytes.now c.transitions.place c.in-Go.n
+          one_more_silent c.args.limits (codec_at c.args.limits c.args.state c.args.bytes.now) c.transitions.at c.in-Go.to c.args.bytes.now c.transitions.place c.in-Go.n
           c.transitions.invariant.silent (is ∙ ap (λ o. go (option_map show_found o) c.in-Go.to c.in-Go.n) c.in_default.is);
       clear = subst (IsLooked (drop (c.transitions.place + c.in-Go.n) c.args.bytes.now)) (sym c.saturating_sub-reached.ensures)
           (looked_further c.args.bytes.now c.transitions.place c.in-Go.n c.transition_from.new.looked c.in_ok-transition_from.ensures.looked);

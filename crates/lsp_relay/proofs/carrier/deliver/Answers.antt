@@ -3,7 +3,7 @@ use Rattle.std.proofs.Common.{◌≡◌, false, sym, subst, ◌∙◌, ap}
 use Rattle.std.specs.Prelude.{Result, Ok, Err, IfOk, OnErr}
 use Rattle.lsp_rpc.specs.Shown.{show_message}
 use Rattle.lsp_proxy.specs.declared.side.Side.TheVariants.{Server, Editor}
-use Rattle.lsp_proxy.specs.Proxy.{State, Sent}
+use Rattle.lsp_proxy.specs.Proxy.{ProxyState, Sent}
 use Rattle.lsp_proxy.specs.Shown.{show_proxy}
 use Rattle.lsp_server.proofs.KnownLemmas.{if_ok}
 use Rattle.lsp_relay.specs.Floats.{AreFloatFree, opening_has_float}
@@ -15,8 +15,8 @@ both_ways : {T E Q R : Type 0} (r : Result T E) {P : T → Type 0} → ((x : T) 
 both_ways (Ok x) f g p q = f x p
 both_ways (Err e) f g p q = g q
 
-kept : (s t : State) → s ≡ t → opening_has_float t.opening ≡ false → opening_has_float s.opening ≡ false
-kept s t is h = ap (λ (x : State). opening_has_float x.opening) is ∙ h
+kept : (s t : ProxyState) → s ≡ t → opening_has_float t.opening ≡ false → opening_has_float s.opening ≡ false
+kept s t is h = ap (λ (x : ProxyState). opening_has_float x.opening) is ∙ h
 
 pub returns-in-Server-clause-float_free : goal.returns-in-Server-clause-float_free
 returns-in-Server-clause-float_free c =

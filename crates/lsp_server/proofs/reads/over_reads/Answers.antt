@@ -2,7 +2,7 @@
 use Rattle.std.proofs.Common.{rules, arith, ◌≡◌, take, length-take, refl, ◌∙◌, true, ◌<◌, []}
 use Rattle.std.specs.Prelude.{Ok}
 use Rattle.std.specs.Result.{result_err}
-use Rattle.lsp_server.specs.Consuming.{piece, end, done, outcome_of, last_outcome}
+use Rattle.lsp_server.specs.Consuming.{piece, end, done, consumer_outcome, last_outcome}
 use Rattle.lsp_server.specs.Reads.{moment}
 use Rattle.lsp_server.proofs.KnownLemmas.{consumes_to, kept_none}
 use Rattle.lsp_server.proofs.OrderLemmas.{few_reads, few_so_far, fewer_so_far, in_order_last_read, in_order_so_far, not_at_end, noted_more, noted_none}
@@ -96,8 +96,8 @@ returns-in_err-take_flushed-clause-last g c _ =
     let start = moment (g.T.Transport.left c.args.io.now) (g.T.Sink.taken c.args.io.now) (g.T.Sink.flushed c.args.io.now) in
     let now = moment (g.T.Transport.left c.loop.io) (g.T.Sink.taken c.loop.io) (g.T.Sink.flushed c.loop.io) in
     let later = moment (g.T.Transport.left c.take_flushed.new.sink) (g.T.Sink.taken c.take_flushed.new.sink) (g.T.Sink.flushed c.take_flushed.new.sink) in
-    let is : last_outcome c.from_residual.result ≡ outcome_of c.take_flushed.result = search rules in
-    rw is (took_last (c.args.consumer.now, c.args.state.now) start now (c.loop.consumer, c.loop.state) c.loop.counter c.loop.invariant.reading later (piece (take c.in-Ok.n c.read.new.piece)) (outcome_of c.take_flushed.result) (c.take_flushed.new.consumer, c.take_flushed.new.state) gives
+    let is : last_outcome c.from_residual.result ≡ consumer_outcome c.take_flushed.result = search rules in
+    rw is (took_last (c.args.consumer.now, c.args.state.now) start now (c.loop.consumer, c.loop.state) c.loop.counter c.loop.invariant.reading later (piece (take c.in-Ok.n c.read.new.piece)) (consumer_outcome c.take_flushed.result) (c.take_flushed.new.consumer, c.take_flushed.new.state) gives
     (omega (arith, c.in-Ok.ensures.within, length-take c.in-Ok.n c.read.new.piece)) tt (rw c.in-Ok.ensures.taken at c.take_flushed.ensures.did))
 
 pub returns-in_err-take_flushed-clause-in_order : goal.returns-in_err-take_flushed-clause-in_order

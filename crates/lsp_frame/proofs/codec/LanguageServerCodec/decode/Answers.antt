@@ -2,7 +2,7 @@ use Rattle.std.specs.Prelude.{◌↔◌}
 use Rattle.std.proofs.Common.{◌≡◌, ◌≤◌, length, drop, Option, None, subst, sym, ap, ◌∙◌}
 use Rattle.lsp_frame.specs.Transitions.{Item}
 use Rattle.lsp_frame.specs.Items.{At, most_held}
-use Rattle.lsp_frame.specs.Places.{standing, ComesTo}
+use Rattle.lsp_frame.specs.Places.{codec_at, ComesTo}
 use Rattle.lsp_frame.proofs.PlacesCome.{comes_to_end, comes_to_state_after}
 use Rattle.lsp_frame.proofs.ItemsLeft.{none_told, none_found}
 use Rattle.lsp_frame.proofs.HeldBytes.{held_at_most}
@@ -18,7 +18,7 @@ returns-clause-more c =
     let limits = c.self.inside.limits in
     alike _ _ _ c.answer_of.ensures.value
     (none_told limits c.args.self.now c.self.inside.state next.state c.as_slice.result.now _ next.item next.unfinished
-    (ap (standing limits c.self.inside.state) c.as_slice.ensures ∙ c.self.view_is) e.goes e.ends)
+    (ap (codec_at limits c.self.inside.state) c.as_slice.ensures ∙ c.self.view_is) e.goes e.ends)
 
 pub returns-clause-held : goal.returns-clause-held
 returns-clause-held c = λ none.
@@ -37,8 +37,8 @@ pub returns-clause-place : goal.returns-clause-place
 returns-clause-place c =
     let next = c.in_ok-next.next in
     let limits = c.self.inside.limits in
-    alike_places _ _ _ _ _ _ (ap (standing limits c.self.inside.state) c.as_slice.ensures ∙ c.self.view_is) (sym c.answer_of.ensures.value)
-    (ap (standing limits next.state) (sym (c.advance.ensures.items ∙ ap (drop next.consumed) (sym c.as_slice.ensures))))
+    alike_places _ _ _ _ _ _ (ap (codec_at limits c.self.inside.state) c.as_slice.ensures ∙ c.self.view_is) (sym c.answer_of.ensures.value)
+    (ap (codec_at limits next.state) (sym (c.advance.ensures.items ∙ ap (drop next.consumed) (sym c.as_slice.ensures))))
     c.in_ok-next.ensures.place
 
 pub returns-clause-rest : goal.returns-clause-rest

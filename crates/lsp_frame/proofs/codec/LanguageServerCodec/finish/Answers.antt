@@ -1,7 +1,7 @@
 use Rattle.std.proofs.Common.{[], ◌∷◌, cond, ap, ◌∙◌}
 use Rattle.lsp_frame.specs.Transitions.{fault}
 use Rattle.lsp_frame.specs.declared.parse_error.ParseError.TheVariants.{Rest}
-use Rattle.lsp_frame.specs.Places.{standing}
+use Rattle.lsp_frame.specs.Places.{codec_at}
 use Rattle.lsp_frame.proofs.ItemsLeft.{items_left}
 use Rattle.lsp_frame.proofs.codec.LanguageServerCodec.finish.Goals as goal
 
@@ -11,7 +11,7 @@ returns-then-next-clause-items c =
     let next = c.in_ok-next.next in
     let limits = c.self.inside.limits in
     items_left limits c.args.self.now c.self.inside.state next.state c.as_slice.result.now _ next.item next.unfinished
-    (ap (standing limits c.self.inside.state) c.as_slice.ensures ∙ c.self.view_is) e.goes e.ends c.requires
+    (ap (codec_at limits c.self.inside.state) c.as_slice.ensures ∙ c.self.view_is) e.goes e.ends c.requires
     ∙ ap (λ b. cond b (fault Rest ∷ []) []) c.if-next.true
 
 pub returns-clause-items : goal.returns-clause-items
@@ -20,5 +20,5 @@ returns-clause-items c =
     let next = c.in_ok-next.next in
     let limits = c.self.inside.limits in
     items_left limits c.args.self.now c.self.inside.state next.state c.as_slice.result.now _ next.item next.unfinished
-    (ap (standing limits c.self.inside.state) c.as_slice.ensures ∙ c.self.view_is) e.goes e.ends c.requires
+    (ap (codec_at limits c.self.inside.state) c.as_slice.ensures ∙ c.self.view_is) e.goes e.ends c.requires
     ∙ ap (λ b. cond b (fault Rest ∷ []) []) c.if-next.false

@@ -3,13 +3,13 @@ use Rattle.std.proofs.Common.{sym, subst, not}
 use Rattle.lsp_proxy.specs.declared.side.Presence.TheVariants.{Gone}
 use Rattle.std.specs.Prelude.{slice_set}
 use Rattle.lsp_proxy.specs.Entries.{AreBelow}
-use Rattle.lsp_proxy.specs.Proxy.{lowest, is_of, AreOf}
+use Rattle.lsp_proxy.specs.Proxy.{lowest, is_asked_by, AreOf}
 use Rattle.lsp_proxy.proofs.ProxyLemmas.{below-filter, of_left, few_set}
 use Rattle.lsp_proxy.proofs.proxy.Proxy.mark_gone.Goals as goal
 
 pub invariant_of-self-clause-requested_below : goal.invariant_of-self-clause-requested_below
 invariant_of-self-clause-requested_below c =
-    subst (AreBelow c.args.self.now.next) (sym c.drop_requests.ensures) (below-filter c.args.self.now.next (λ e. not (is_of c.args.k e)) c.args.self.now.requested c.args.self.now.requested_below)
+    subst (AreBelow c.args.self.now.next) (sym c.drop_requests.ensures) (below-filter c.args.self.now.next (λ e. not (is_asked_by c.args.k e)) c.args.self.now.requested c.args.self.now.requested_below)
 
 pub invariant_of-self-clause-of_lowest : goal.invariant_of-self-clause-of_lowest
 invariant_of-self-clause-of_lowest c =

@@ -2,7 +2,7 @@
 use Rattle.std.proofs.Common.{◌∙◌}
 use Rattle.std.specs.Prelude.{Result, Ok, Err, IfOk}
 use Rattle.lsp_rpc.specs.Shown.{show_message}
-use Rattle.lsp_proxy.specs.Outgoing.{Gives}
+use Rattle.lsp_proxy.specs.Outgoing.{GivesOutgoing}
 use Rattle.lsp_proxy.specs.Proxy.{from_server}
 use Rattle.lsp_proxy.proofs.proxy.Proxy.server.Goals as goal
 
@@ -12,6 +12,6 @@ if_ok (Err e) f p = p
 
 pub returns-in-Broadcast-clause-ok : goal.returns-in-Broadcast-clause-ok
 returns-in-Broadcast-clause-ok c =
-    let gives : Gives c.args.self.now c.server_outgoing.new.self (from_server (show_message c.args.message)) c.in_ok-sent.field-0 = c.in_ok-sent.ensures.ok in
+    let gives : GivesOutgoing c.args.self.now c.server_outgoing.new.self (from_server (show_message c.args.message)) c.in_ok-sent.field-0 = c.in_ok-sent.ensures.ok in
     let broadcast = rw c.in-Broadcast.is at gives.1 in
     if_ok c.to_each.result (λ sent each. (gives.0, each ∙ rw c.deref.ensures.value broadcast)) c.to_each.ensures

@@ -2,14 +2,14 @@ use Rattle.std.proofs.Common.{rules, ◌≡◌, ℕ, List, ◌∷◌, string_byt
 use Rattle.serde_json.specs.Data.{Data, Members, member}
 use Rattle.serde_json.specs.View.{view, members_view}
 use Rattle.serde_json.proofs.Views.{Entry}
-use Rattle.lsp_rpc.specs.Pieces.{first_of}
+use Rattle.lsp_rpc.specs.Pieces.{first_member}
 use Rattle.lsp_rpc.proofs.members.Members.of.Goals as goal
 
-next : (key : List ℕ) (old new : Option Data) (all : Option Data) (es left : List Entry) (e : Entry) (name : List ℕ) → es ≡ e ∷ left → name ≡ string_bytes e.0 → ((rest : Members) → first_of key new rest ≡ first_of key old (member name (view e.1) rest))
-    → first_of key old (members_view es) ≡ all → first_of key new (members_view left) ≡ all
+next : (key : List ℕ) (old new : Option Data) (all : Option Data) (es left : List Entry) (e : Entry) (name : List ℕ) → es ≡ e ∷ left → name ≡ string_bytes e.0 → ((rest : Members) → first_member key new rest ≡ first_member key old (member name (view e.1) rest))
+    → first_member key old (members_view es) ≡ all → first_member key new (members_view left) ≡ all
 next key old new all es left e name steps same keeps before =
-    keeps (members_view left) ∙ ap (λ n. first_of key old (member n (view e.1) (members_view left))) same
-    ∙ ap (λ es. first_of key old (members_view es)) (sym steps) ∙ before
+    keeps (members_view left) ∙ ap (λ n. first_member key old (member n (view e.1) (members_view left))) same
+    ∙ ap (λ es. first_member key old (members_view es)) (sym steps) ∙ before
 
 pub loop-name-preserved : goal.loop-name-preserved
 loop-name-preserved c =

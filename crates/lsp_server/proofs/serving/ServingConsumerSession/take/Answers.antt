@@ -2,7 +2,7 @@
 use Rattle.std.proofs.Common.{rules, ◌≡◌, refl}
 use Rattle.lsp_session.specs.Run.{Order}
 use Rattle.lsp_server.specs.declared.step.ServeError.TheVariants.{NoMemory}
-use Rattle.lsp_server.specs.Consuming.{stops, outcome_of}
+use Rattle.lsp_server.specs.Consuming.{stops, consumer_outcome}
 use Rattle.lsp_server.specs.ServerView.{spot, see_serving}
 use Rattle.lsp_server.proofs.KnownLemmas.{on_ok}
 use Rattle.lsp_server.proofs.ServesLemmas.{did_no_step, did_told}
@@ -14,7 +14,7 @@ returns-in_err-feed-clause-did g c =
     let sem = g.H.Handlers.semantics in
     let m = g.D.Caller.meaning in
     let order : Order g.P.Pick.State = record { gives = g.P.Pick.gives; later = g.P.Pick.later } in
-    let is : outcome_of c.from_residual.result ≡ stops NoMemory = search rules in
+    let is : consumer_outcome c.from_residual.result ≡ stops NoMemory = search rules in
     rw is (shown_did (see_serving sem m g.P.Pick.state) _ _ _ _ _ _ (did_no_step sem g.met.H.Handlers.laws m order _ _ c.args.piece.now (g.O.Sink.taken c.args.sink.now) refl))
 
 pub returns-clause-did : goal.returns-clause-did
