@@ -10,7 +10,7 @@ use Rattle.lsp_session.specs.declared.handlers.Progress.TheVariants.{Pending, Do
 use Rattle.lsp_session.specs.declared.table.Entry.{Entry}
 use Rattle.lsp_session.specs.Fails.{PollFails}
 use Rattle.lsp_session.specs.Progress.{show_progress}
-use Rattle.lsp_tests_session.specs.Trial.{Behaves, trial, EndsWithout}
+use Rattle.tests_session.specs.Trial.{Behaves, trial, EndsWithout}
 use Rattle.lsp_session.proofs.FailLemmas.{poll_fails_still}
 
 module _ {H T D : Type 0} (m : Meaning D) (find : H → List ℕ → Option Entry) (s : H) (d : D) where

@@ -1,6 +1,6 @@
 //! Lines that are counted over reads: another consumer than a session and a relay.
 ghost use Rattle.std.specs.Prelude.{◌≡◌, ◌<◌, ◌^◌, ◌+◌, ⊤, IfOk, IfSome};
-ghost use Rattle.lsp_tests_session.specs.Lines.{lines_in, counted};
+ghost use Rattle.tests_session.specs.Lines.{lines_in, counted};
 
 #[cfg(test)]
 use lsp_rows::Trial;
@@ -34,7 +34,7 @@ impl Count {
 }
 
 impl Consumer<Count> for Lines {
-    ghost use Rattle.lsp_tests_session.specs.LinesCounted.{counting};
+    ghost use Rattle.tests_session.specs.LinesCounted.{counting};
 
     ghost meaning = { counting };
 

@@ -1,8 +1,8 @@
 -- The poll makes no call on the desk.
 use Rattle.lsp_session.specs.Table.{find_in}
 use Rattle.lsp_session.specs.TableView.{methods_of}
-use Rattle.lsp_tests_session.proofs.TrialLemmas.{trial_polls, trial_fails}
-use Rattle.lsp_tests_session.proofs.small.SmallHandlers.begin.Goals as goal
+use Rattle.tests_session.proofs.TrialLemmas.{trial_polls, trial_fails}
+use Rattle.tests_session.proofs.small.SmallHandlers.begin.Goals as goal
 
 pub returns-clause-begun : goal.returns-clause-begun
 returns-clause-begun g c = trial_polls g.D.Caller.meaning (λ small name. find_in 0 (methods_of small.table) name) c.args.self.now c.args._desk.now c.poll.result c.poll.ensures.clean

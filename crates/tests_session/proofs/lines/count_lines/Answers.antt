@@ -2,8 +2,8 @@
 use Rattle.std.proofs.Common.{refl}
 use Rattle.lsp_server.specs.Reads.{moment}
 use Rattle.lsp_server.proofs.KnownLemmas.{if_told}
-use Rattle.lsp_tests_session.proofs.LinesLemmas.{counting_lawful, lines_counted}
-use Rattle.lsp_tests_session.proofs.lines.count_lines.Goals as goal
+use Rattle.tests_session.proofs.LinesLemmas.{counting_lawful, lines_counted}
+use Rattle.tests_session.proofs.lines.count_lines.Goals as goal
 
 pub over_reads-requires-clause-lawful : goal.over_reads-requires-clause-lawful
 over_reads-requires-clause-lawful g c = counting_lawful

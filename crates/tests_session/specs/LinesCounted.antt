@@ -1,9 +1,9 @@
 -- What counting lines does with the bytes that it is given.
 use Rattle.std.specs.Prelude.{◌≡◌, ◌<◌, ◌+◌, ◌^◌, ℕ, List, []}
 use Rattle.lsp_server.specs.Consuming.{Given, piece, end, ConsumerOutcome, goes_on, done, stops, Consuming}
-use Rattle.lsp_tests_session.specs.declared.lines.Lines.{Lines}
-use Rattle.lsp_tests_session.specs.declared.lines.Count.{Count}
-use Rattle.lsp_tests_session.specs.Lines.{lines_in, counted}
+use Rattle.tests_session.specs.declared.lines.Lines.{Lines}
+use Rattle.tests_session.specs.declared.lines.Count.{Count}
+use Rattle.tests_session.specs.Lines.{lines_in, counted}
 
 abbrev pub Counts : ℕ → Given → ConsumerOutcome → List ℕ → ℕ → Type 0
 Counts old (piece bytes) goes_on written new = (new ≡ counted (old + lines_in bytes)) × (written ≡ [])

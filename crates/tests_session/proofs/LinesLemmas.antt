@@ -7,10 +7,10 @@ use Rattle.lsp_server.specs.declared.step.ServeError.{ServeError}
 use Rattle.lsp_server.specs.Reads.{Moment}
 use Rattle.lsp_server.specs.Consuming.{Given, piece, end, ConsumerOutcome, goes_on, done, stops, IsLawfulConsumer, bytes_of, IsTimely, TookLast}
 use Rattle.lsp_server.proofs.KnownLemmas.{all_read, end_before}
-use Rattle.lsp_tests_session.specs.declared.lines.Lines.{Lines}
-use Rattle.lsp_tests_session.specs.declared.lines.Count.{Count}
-use Rattle.lsp_tests_session.specs.Lines.{lines_in, counted}
-use Rattle.lsp_tests_session.specs.LinesCounted.{Counts, counting}
+use Rattle.tests_session.specs.declared.lines.Lines.{Lines}
+use Rattle.tests_session.specs.declared.lines.Count.{Count}
+use Rattle.tests_session.specs.Lines.{lines_in, counted}
+use Rattle.tests_session.specs.LinesCounted.{Counts, counting}
 
 counted_more : (n a b m k : ℕ) → m ≡ counted (n + a) → k ≡ counted (m + b) → k ≡ counted (n + (a + b))
 counted_more n a b m k p q = omega (arith, p, q)

@@ -2,7 +2,7 @@
 ghost use Rattle.std.specs.Prelude.{◌≡◌, IfOk, IfErr};
 ghost use Rattle.lsp_session.specs.Table.{find_in};
 ghost use Rattle.lsp_session.specs.TableView.{methods_of};
-ghost use Rattle.lsp_tests_session.specs.Trial.{trial, trial_lawful, EndsWithout};
+ghost use Rattle.tests_session.specs.Trial.{trial, trial_lawful, EndsWithout};
 
 use lsp_desk::{Caller, DeskFault};
 use lsp_rpc::Error;
