@@ -1,6 +1,6 @@
 # Starts a program of this repository over standard input and output. It is read by a script that is
-# named as the program is, lsp_sample or lsp_proxy, and that sets $name, and $root, the path of this
-# folder with a slash at its end. The crate is the one of that name, or where there is one, that with
+# named as the program is, lsp_sample, lsp_hello, lsp_docs, lsp_proxy or lsp_index, and that sets $name, and $root,
+# the path of this folder with a slash at its end. The crate is the one of that name, or where there is one, that with
 # _main after its name.
 #
 # Before the program's arguments may stand, in any order and once each: --stdio, which is dropped;
@@ -48,6 +48,7 @@ is_of_form() {
   for part in $parts; do
     [ $# -gt 0 ] || return
     case $part in
+      _) ;;
       *..*) is_between "$1" "${part%..*}" "${part#*..}" || return ;;
       *) [ "$1" = "$part" ] || return ;;
     esac
@@ -57,7 +58,7 @@ is_of_form() {
 }
 
 # Whether the arguments are one of the forms in the crate's file of that name: one a line, an empty one
-# for none, with LOW..HIGH for a number. The program itself tells its forms only by its status, once it
+# for none, with LOW..HIGH for a number and _ for any argument. The program itself tells its forms only by its status, once it
 # has ended; a row of .ci/start tries on it that the file says the same.
 are_a_form() {
   [ -r "$crate/forms" ] || return 0

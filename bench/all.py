@@ -13,6 +13,7 @@ that no row has tells all names.
 import sys
 
 import bulk
+import docs
 import flood
 import frame
 import growth
@@ -26,7 +27,7 @@ import refused
 import shared_desk
 import start
 
-SCRIPTS = (instructions, flood, bulk, growth, mixed, refused, proxy, frame, large_values, lsif, shared_desk, start)
+SCRIPTS = (instructions, flood, bulk, growth, mixed, refused, proxy, frame, docs, large_values, lsif, shared_desk, start)
 
 
 def rows(sizes):

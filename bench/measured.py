@@ -29,6 +29,7 @@ BUILT_BY = {
     "lsp_proxy_main": "./lsp_proxy --build, or rt ci",
     "lsp_turns": "rt run -- alone 1 in crates/lsp_turns",
     "frame_bench": "bench/frame.py --build",
+    "docs_bench": "bench/docs.py --build",
     "types_bench": "bench/large_values.py --build",
     ".built/lsp_sample": "./lsp_sample --build",
 }

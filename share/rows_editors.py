@@ -16,6 +16,8 @@ def editor_asks_and_never_reads(room: Room) -> None:
     trips = []
     for id in range(24):
         second.put(id=id, method="test/big", params=MB)
+        # once the first answer begins to come, it isn't read any more
+        until(second.is_sent_to, "an answer begins to come")
         begun = time.monotonic()
         first.ask(id, "test/echo", [id])
         trips.append(time.monotonic() - begun)

@@ -106,6 +106,10 @@ class Editor:
         self._came += [json.loads(body) for body in self._reader.items()]
         return not piece
 
+    def is_sent_to(self) -> bool:
+        """Whether something has come that wasn't read."""
+        return bool(select.select([self._out], [], [], 0)[0])
+
     def take(self, is_wanted: Any, words: str, limit: float = LIMIT) -> Any:
         """The first message that is wanted, which is taken out."""
         end = time.monotonic() + limit
@@ -190,7 +194,7 @@ class Editor:
 class Share:
     """A started lsp_share, in a folder of its own."""
 
-    def __init__(self, folder: str, proxy: str, server: list[str], editors: Any = 4, wait: float = 0.5, path: Optional[str] = None) -> None:
+    def __init__(self, folder: str, proxy: str, server: list[str], editors: Any = 4, wait: float = 3.0, path: Optional[str] = None) -> None:
         self.path = path or os.path.join(folder, "socket")
         self.errors = os.path.join(folder, "errors")
         self._mark = "%s %d" % (folder, next(_numbers))

@@ -2,7 +2,8 @@
 use Rattle.std.proofs.Common.{◌≡◌, ℕ, List, Option, Some, None, option_and_then, sym, ap, ◌∙◌}
 use Rattle.std.specs.Prelude.{IfSome}
 use Rattle.serde_json.specs.Data.{Data}
-use Rattle.lsp_rpc.specs.Back.{ReadsAs}
+use Rattle.lsp_text.specs.declared.floats.Floats.{Floats}
+use Rattle.lsp_frame.specs.Laws.{ReadsBy}
 use Rattle.lsp_rpc.specs.Message.{MessageData, clean_message}
 use Rattle.lsp_rpc.specs.Shown.{show_message}
 use Rattle.lsp_rpc.specs.declared.message.Message.{Message}
@@ -22,9 +23,9 @@ pub found_message : (o : Option Data) (m : MessageData) → message m ≡ of_val
 found_message None m e = absurd (cc)
 found_message (Some d) m e = of_found (clean_message d) m e
 
-pub one_message : (text : List ℕ) (x y : Option Message) → IfSome x (λ m. ReadsAs text (show_message m)) → IfSome y (λ m. ReadsAs text (show_message m))
+pub one_message : (floats : Floats) (text : List ℕ) (x y : Option Message) → IfSome x (λ m. ReadsBy floats text (show_message m)) → IfSome y (λ m. ReadsBy floats text (show_message m))
     → (a b : Message) → x ≡ Some a → y ≡ Some b → show_message a ≡ show_message b
-one_message text None y h g a b e f = absurd (cc)
-one_message text (Some m) None h g a b e f = absurd (cc)
-one_message text (Some m) (Some k) h g a b e f =
+one_message floats text None y h g a b e f = absurd (cc)
+one_message floats text (Some m) None h g a b e f = absurd (cc)
+one_message floats text (Some m) (Some k) h g a b e f =
     ap show_message (sym (same_inside m a e)) ∙ same_inside (show_message m) (show_message k) (sym h ∙ g) ∙ ap show_message (same_inside k b f)

@@ -1,7 +1,7 @@
 -- A frame that was written is read as one item, and decoding goes on after it.
-use Rattle.std.proofs.Common.{◌≡◌, ℕ, suc, ◌+◌, ◌-◌, ◌^◌, ◌<◌, ◌≤◌, List, [], ◌∷◌, ◌++◌, length, take, drop, false, ◌==◌, nat_lt, cond, Option, Some, None, Ok, codes, decimal, refl, sym, ap, ◌∙◌, arith, append_assoc, append-nil, length-append}
-use Rattle.std.specs.Option.{option_and_then}
-use Rattle.std.specs.Str.{IsUtf8}
+use Rattle.std.proofs.Common.{◌≡◌, ℕ, suc, ◌+◌, ◌-◌, ◌^◌, ◌<◌, ◌≤◌, List, [], ◌∷◌, ◌++◌, length, take, drop, Bool, true, false, ◌==◌, nat_lt, cond, Option, Some, None, Ok, codes, decimal, refl, sym, ap, ◌∙◌, arith, append_assoc, append-nil, length-append}
+use Rattle.std.specs.Option.{option_map, option_and_then}
+use Rattle.std.specs.Str.{IsUtf8, is_utf8}
 use Rattle.std.proofs.lemmas.Str.{is_utf8-from_IsUtf8}
 use Rattle.std.proofs.lemmas.Grind.{common_steps}
 use Rattle.std.proofs.lemmas.List.Elements.{All-nil, All-cons}
@@ -11,15 +11,21 @@ use Rattle.lsp_frame.specs.Blocks.{Header, block_len, place_after, headers_in}
 use Rattle.lsp_frame.specs.Headers.{content_length}
 use Rattle.serde_json.specs.Data.{Data}
 use Rattle.serde_json.specs.Read.{read}
-use Rattle.lsp_rpc.specs.Message.{MessageData, response, request, message_text, clean_message}
+use Rattle.serde_json.specs.Written.{has_float}
+use Rattle.lsp_text.specs.Floats.{without_floats}
+use Rattle.lsp_text.specs.declared.floats.Floats.{Floats}
+use Rattle.lsp_text.specs.declared.floats.Floats.TheVariants.{Refused, Read}
+use Rattle.lsp_text.proofs.LetIn.{unchanged}
+use Rattle.lsp_rpc.specs.Message.{MessageData, response, request, message_text, message as message_of, clean_message}
 use Rattle.lsp_rpc.specs.Back.{ReadsAs}
 use Rattle.lsp_frame.specs.Frames.{head_text, framed, frame_text, frames, IsBodyWithin, IsWithin, IsReadBack}
-use Rattle.lsp_frame.specs.Laws.{FramesRead, MessagesRead}
-use Rattle.lsp_frame.specs.Transitions.{Item, message, fault, go, transition, at_block, at_head, at_headers, body_item, of_value, of_message}
-use Rattle.lsp_frame.specs.Items.{items_after, all_from, items}
+use Rattle.lsp_frame.specs.Laws.{FramesRead, MessagesRead, SameMessages}
+use Rattle.lsp_frame.specs.Transitions.{Item, message, fault, go, transition, at_frame, at_block, at_head, at_headers, at_length, body_item, body_item_by, of_value, of_message}
+use Rattle.lsp_frame.specs.Items.{strict, items_after, all_from, items, items_by}
 use Rattle.lsp_frame.specs.declared.parse_error.ParseError.TheVariants.{Utf8, Rest, BodyTooLong}
 use Rattle.lsp_frame.specs.declared.decode_state.DecodeState.TheVariants.{Frame, Body, Skip}
 use Rattle.lsp_frame.specs.declared.limits.Limits.{Limits}
+use Rattle.lsp_frame.specs.declared.settings.CodecSettings.{CodecSettings}
 use Rattle.lsp_frame.proofs.TransitionSteady.{front_more}
 use Rattle.lsp_frame.proofs.Sections.{headers_of_section}
 use Rattle.lsp_frame.proofs.ItemsByTransition.{all_from-transition}
@@ -88,73 +94,106 @@ within_front m xs ys fits = front_more m xs ys ∙ ap (λ t. t ++ take (m - leng
 not_less : (a b : ℕ) → b ≤ a → nat_lt a b ≡ false
 not_less a b le = grind arith
 
-module _ (limits : Limits) where
-  transition_of_head : (head rest : List ℕ) (hs : List Header) (n : ℕ) → 0 < length head → length head ≤ limits.head → n ≤ limits.body
+-- the head of a body of this length is followed by it, or by its skip
+pub plain_transition : (limits : Limits) (n : ℕ) (rest : List ℕ) → n < 2 ^ 64 → length (head_text n) ≤ limits.head
+    → at_frame limits (head_text n ++ rest) ≡ at_length limits (length (head_text n)) n
+plain_transition limits n rest fits short =
+    let head = head_text n in
+    let some : 0 < length head = omega arith in
+    let begun : (length (head ++ rest) == 0) ≡ false = not_zero (length (head ++ rest)) (omega (arith, length-append head rest)) in
+    rw begun
+    (ap (λ t. at_block limits (head ++ rest) (block_len t)) (within_front limits.head head rest short)
+    ∙ ap (at_block limits (head ++ rest)) (block_of_head n (take (limits.head - length head) rest) fits)
+    ∙ ap (λ h. at_head limits (length head) (headers_in 2 h)) (front head rest)
+    ∙ ap (at_head limits (length head)) (headers_of_head n fits)
+    ∙ ap (at_headers limits (length head)) (length_of_head n fits))
+
+module _ (settings : CodecSettings) where
+  transition_of_head : (head rest : List ℕ) (hs : List Header) (n : ℕ) → 0 < length head → length head ≤ settings.limits.head → n ≤ settings.limits.body
       → ((r : List ℕ) → block_len (head ++ r) ≡ Some (length head)) → headers_in 2 head ≡ Some hs → content_length None hs ≡ Ok (Some n)
-      → transition limits Frame (head ++ rest) ≡ go None (Body n) (length head)
+      → transition settings Frame (head ++ rest) ≡ go None (Body n) (length head)
   transition_of_head head rest hs n some short small block headers len =
       let begun : (length (head ++ rest) == 0) ≡ false = not_zero (length (head ++ rest)) (omega (arith, length-append head rest)) in
-      let allowed : nat_lt limits.body n ≡ false = not_less limits.body n small in
+      let allowed : nat_lt settings.limits.body n ≡ false = not_less settings.limits.body n small in
       rw begun
-      (ap (λ t. at_block limits (head ++ rest) (block_len t)) (within_front limits.head head rest short)
-      ∙ ap (at_block limits (head ++ rest)) (block (take (limits.head - length head) rest))
-      ∙ ap (λ h. at_head limits (length head) (headers_in 2 h)) (front head rest)
-      ∙ ap (at_head limits (length head)) headers
-      ∙ ap (at_headers limits (length head)) len
+      (ap (λ t. at_block settings.limits (head ++ rest) (block_len t)) (within_front settings.limits.head head rest short)
+      ∙ ap (at_block settings.limits (head ++ rest)) (block (take (settings.limits.head - length head) rest))
+      ∙ ap (λ h. at_head settings.limits (length head) (headers_in 2 h)) (front head rest)
+      ∙ ap (at_head settings.limits (length head)) headers
+      ∙ ap (at_headers settings.limits (length head)) len
       ∙ ap (λ b. cond b (go (Some (fault BodyTooLong)) (Skip n) (length head)) (go None (Body n) (length head))) allowed)
 
-  transition_of_body : (body rest : List ℕ) → 0 < length body → transition limits (Body (length body)) (body ++ rest) ≡ go (Some (body_item body)) Frame (length body)
+  transition_of_body : (body rest : List ℕ) → 0 < length body → transition settings (Body (length body)) (body ++ rest) ≡ go (Some (body_item_by settings.floats body)) Frame (length body)
   transition_of_body body rest some =
       let there : nat_lt (length (body ++ rest)) (length body) ≡ false = grind (arith, length-append body rest) in
-      rw (there, not_zero (length body) some) (ap (λ b. go (Some (body_item b)) Frame (length body)) (front body rest))
+      rw (there, not_zero (length body) some) (ap (λ b. go (Some (body_item_by settings.floats b)) Frame (length body)) (front body rest))
 
-  head_transitions : (last : List Item) (head rest : List ℕ) (n : ℕ) → transition limits Frame (head ++ rest) ≡ go None (Body n) (length head)
-      → all_from limits last Frame (head ++ rest) ≡ all_from limits last (Body n) rest
+  head_transitions : (last : List Item) (head rest : List ℕ) (n : ℕ) → transition settings Frame (head ++ rest) ≡ go None (Body n) (length head)
+      → all_from settings last Frame (head ++ rest) ≡ all_from settings last (Body n) rest
   head_transitions last head rest n is =
-      all_from-transition limits last Frame (head ++ rest)
-      ∙ ap (items_after (λ j d. all_from limits last j (drop d (head ++ rest))) last) is
-      ∙ ap (all_from limits last (Body n)) (after head rest)
+      all_from-transition settings last Frame (head ++ rest)
+      ∙ ap (items_after (λ j d. all_from settings last j (drop d (head ++ rest))) last) is
+      ∙ ap (all_from settings last (Body n)) (after head rest)
 
   body_transitions : (last : List Item) (body rest : List ℕ) → 0 < length body
-      → all_from limits last (Body (length body)) (body ++ rest) ≡ body_item body ∷ all_from limits last Frame rest
+      → all_from settings last (Body (length body)) (body ++ rest) ≡ body_item_by settings.floats body ∷ all_from settings last Frame rest
   body_transitions last body rest some =
-      all_from-transition limits last (Body (length body)) (body ++ rest)
-      ∙ ap (items_after (λ j d. all_from limits last j (drop d (body ++ rest))) last) (transition_of_body body rest some)
-      ∙ ap (λ t. body_item body ∷ all_from limits last Frame t) (after body rest)
+      all_from-transition settings last (Body (length body)) (body ++ rest)
+      ∙ ap (items_after (λ j d. all_from settings last j (drop d (body ++ rest))) last) (transition_of_body body rest some)
+      ∙ ap (λ t. body_item_by settings.floats body ∷ all_from settings last Frame t) (after body rest)
 
-  frame_transitions : (last : List Item) (body rest : List ℕ) → IsBodyWithin limits body → length body < 2 ^ 64
-      → all_from limits last Frame (framed body ++ rest) ≡ body_item body ∷ all_from limits last Frame rest
+  frame_transitions : (last : List Item) (body rest : List ℕ) → IsBodyWithin settings.limits body → length body < 2 ^ 64
+      → all_from settings last Frame (framed body ++ rest) ≡ body_item_by settings.floats body ∷ all_from settings last Frame rest
   frame_transitions last body rest within fits =
       let n = length body in
       let head = head_text n in
       let begun : 0 < length head = omega arith in
-      ap (all_from limits last Frame) (append_assoc head body rest)
+      ap (all_from settings last Frame) (append_assoc head body rest)
       ∙ head_transitions last head (body ++ rest) n
       (transition_of_head head (body ++ rest) ((codes "Content-Length", decimal n) ∷ []) n begun within.2 within.1 (λ r. block_of_head n r fits) (headers_of_head n fits) (length_of_head n fits))
       ∙ body_transitions last body rest within.0
 
 pub frames_read_lem : FramesRead
-frames_read_lem limits body rest within fits = (frame_transitions limits (fault Rest ∷ []) body rest within fits, frame_transitions limits [] body rest within fits)
+frames_read_lem settings body rest within fits = (frame_transitions settings (fault Rest ∷ []) body rest within fits, frame_transitions settings [] body rest within fits)
 
 -- ---- the frames of messages that are read back
+
+-- a message without floats is the same message where they are let in
+let_in_same : (d : Data) (h : Bool) (m : MessageData) → has_float d ≡ h → of_message (clean_message d) ≡ message m → of_message (clean_message (without_floats d)) ≡ message m
+let_in_same d true m is e =
+    let none : of_message None ≡ message m = sym (ap (λ b. of_message (cond b None (message_of d))) is) ∙ e in
+    absurd (cc)
+let_in_same d false m is e = ap (λ x. of_message (clean_message x)) (unchanged d is) ∙ e
+
+let_in_body : (b : Bool) (o : Option Data) (m : MessageData) → cond b (of_value o) (fault Utf8) ≡ message m → cond b (of_value (option_map without_floats o)) (fault Utf8) ≡ message m
+let_in_body true None m e = e
+let_in_body true (Some d) m e = let_in_same d (has_float d) m refl e
+let_in_body false o m e = e
+
+pub same_messages_lem : SameMessages
+same_messages_lem Refused body m e = e
+same_messages_lem Read body m e = let_in_body (is_utf8 body) (read body) m e
+
+read_back_by : (floats : Floats) (m : MessageData) → IsReadBack m → body_item_by floats (message_text m) ≡ message m
+read_back_by floats m back = same_messages_lem floats (message_text m) m back.0
 
 text_some : (m : MessageData) → 0 < length (message_text m)
 text_some (response r) = omega arith
 text_some (request r) = omega arith
 
 pub messages_read_lem : MessagesRead
-messages_read_lem limits [] c back = refl
-messages_read_lem limits (m ∷ ms) c back =
-    ap (items limits) (append_assoc (frame_text m) (frames ms) c)
-    ∙ (frames_read_lem limits (message_text m) (frames ms ++ c) (text_some m, back.0.1.0, back.0.1.1) back.0.0.1).0
-    ∙ ap (λ x. x ∷ items limits (frames ms ++ c)) back.0.0.0
-    ∙ ap (λ xs. message m ∷ xs) (messages_read_lem limits ms c back.1)
+messages_read_lem settings [] c back = refl
+messages_read_lem settings (m ∷ ms) c back =
+    ap (items_by settings) (append_assoc (frame_text m) (frames ms) c)
+    ∙ (frames_read_lem settings (message_text m) (frames ms ++ c) (text_some m, back.0.1.0, back.0.1.1) back.0.0.1).0
+    ∙ ap (λ x. x ∷ items_by settings (frames ms ++ c)) (read_back_by settings.floats m back.0.0)
+    ∙ ap (λ xs. message m ∷ xs) (messages_read_lem settings ms c back.1)
 
 -- a message that is read back stands alone in its frame
 pub frame_read_alone : (m : MessageData) → IsReadBack m → (limits : Limits) → IsWithin limits m → items limits (frame_text m) ≡ message m ∷ []
 frame_read_alone m back limits within =
     ap (items limits) (sym (append-nil (frame_text m)))
-    ∙ (frames_read_lem limits (message_text m) [] (text_some m, within.0, within.1) back.1).0
+    ∙ (frames_read_lem (strict limits) (message_text m) [] (text_some m, within.0, within.1) back.1).0
     ∙ ap (λ x. x ∷ []) back.0
 
 -- ---- the text of a message that can be read back

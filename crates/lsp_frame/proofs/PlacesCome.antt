@@ -9,7 +9,7 @@ use Rattle.lsp_frame.specs.Places.{codec_at, further, GoesOn, SilentBy, GoesSile
 use Rattle.lsp_frame.specs.Laws.{OnePlace}
 use Rattle.lsp_frame.proofs.WaitingItems.{search_not_unfinished, skip_not_unfinished, waits_unfinished}
 use Rattle.lsp_frame.proofs.StatesAfter.{state_after}
-use Rattle.lsp_frame.specs.declared.limits.Limits.{Limits}
+use Rattle.lsp_frame.specs.declared.settings.CodecSettings.{CodecSettings}
 use Rattle.lsp_frame.specs.declared.decode_state.DecodeState.{DecodeState}
 use Rattle.lsp_frame.specs.declared.decode_state.DecodeState.TheVariants.{Frame, Search, Body, Skip}
 
@@ -75,12 +75,12 @@ comes_to_end a b x p = end_of_end a p.0 b (silent_end p.1.0 a p.0 p.1.1) (last_e
 
 -- ---- the state after an item
 
-comes_to_state : (a b : At) (x : Item) → ComesTo a (Some x) b → IsStateAfter b.limits x b.state
+comes_to_state : (a b : At) (x : Item) → ComesTo a (Some x) b → IsStateAfter b.settings.limits x b.state
 comes_to_state a b x p =
     let last = p.2 in
-    subst (λ t. IsStateAfter t.limits x t.state) last.3 (state_after p.0.limits p.0.state p.0.held x last.0 last.1 last.2)
+    subst (λ t. IsStateAfter t.settings.limits x t.state) last.3 (state_after p.0.settings p.0.state p.0.held x last.0 last.1 last.2)
 
-pub comes_to_state_after : (a b : At) (x : Option Item) → ComesTo a x b → IfSome x (λ y. IsStateAfter b.limits y b.state)
+pub comes_to_state_after : (a b : At) (x : Option Item) → ComesTo a x b → IfSome x (λ y. IsStateAfter b.settings.limits y b.state)
 comes_to_state_after a b None p = tt
 comes_to_state_after a b (Some x) p = comes_to_state a b x p
 
@@ -93,45 +93,45 @@ silent_more (suc k) a m b p on = (p.0, p.1, silent_more k p.0 m b p.2 on)
 beyond : (n m : ℕ) (xs : List ℕ) → drop m (drop n xs) ≡ drop (n + m) xs
 beyond n m xs = grind (arith, common_steps)
 
-module _ (limits : Limits) where
-  goes_from : (s j : DecodeState) (bs : List ℕ) (place n : ℕ) (x : Option Item) → transition limits s (drop place bs) ≡ go x j n
-      → GoesOn (codec_at limits s (drop place bs)) x (codec_at limits j (drop (place + n) bs))
-  goes_from s j bs place n x e = (j, n, e, ap (codec_at limits j) (beyond place n bs))
+module _ (settings : CodecSettings) where
+  goes_from : (s j : DecodeState) (bs : List ℕ) (place n : ℕ) (x : Option Item) → transition settings s (drop place bs) ≡ go x j n
+      → GoesOn (codec_at settings s (drop place bs)) x (codec_at settings j (drop (place + n) bs))
+  goes_from s j bs place n x e = (j, n, e, ap (codec_at settings j) (beyond place n bs))
 
   -- a transition that tells nothing is one more of them
-  pub one_more_silent : (a : At) (s j : DecodeState) (bs : List ℕ) (place n : ℕ) → GoesSilently a (codec_at limits s (drop place bs)) → transition limits s (drop place bs) ≡ go None j n
-      → GoesSilently a (codec_at limits j (drop (place + n) bs))
+  pub one_more_silent : (a : At) (s j : DecodeState) (bs : List ℕ) (place n : ℕ) → GoesSilently a (codec_at settings s (drop place bs)) → transition settings s (drop place bs) ≡ go None j n
+      → GoesSilently a (codec_at settings j (drop (place + n) bs))
   one_more_silent a s j bs place n silent e =
-      (suc silent.0, silent_more silent.0 a (codec_at limits s (drop place bs)) (codec_at limits j (drop (place + n) bs)) silent.1 (goes_from s j bs place n None e))
+      (suc silent.0, silent_more silent.0 a (codec_at settings s (drop place bs)) (codec_at settings j (drop (place + n) bs)) silent.1 (goes_from s j bs place n None e))
 
   -- one that tells an item is the last
-  pub comes_with_item : (a : At) (s j : DecodeState) (bs : List ℕ) (place n : ℕ) (x : Item) → GoesSilently a (codec_at limits s (drop place bs)) → transition limits s (drop place bs) ≡ go (Some x) j n
-      → ComesTo a (Some x) (codec_at limits j (drop (place + n) bs))
-  comes_with_item a s j bs place n x silent e = (codec_at limits s (drop place bs), silent, goes_from s j bs place n (Some x) e)
+  pub comes_with_item : (a : At) (s j : DecodeState) (bs : List ℕ) (place n : ℕ) (x : Item) → GoesSilently a (codec_at settings s (drop place bs)) → transition settings s (drop place bs) ≡ go (Some x) j n
+      → ComesTo a (Some x) (codec_at settings j (drop (place + n) bs))
+  comes_with_item a s j bs place n x silent e = (codec_at settings s (drop place bs), silent, goes_from s j bs place n (Some x) e)
 
   -- what is left at a stop
   left_at_stop : (s : DecodeState) (bs : List ℕ) (place : ℕ) (to : DecodeState × ℕ) → to ≡ (without_needed s (length bs - place), unneeded s (length bs - place))
-      → without_unneeded (codec_at limits s (drop place bs)) ≡ codec_at limits to.0 (drop (place + to.1) bs)
+      → without_unneeded (codec_at settings s (drop place bs)) ≡ codec_at settings to.0 (drop (place + to.1) bs)
   left_at_stop s bs place to gives =
       let here = drop place bs in
       let size : length here ≡ length bs - place = length-drop place bs in
       let state : without_needed s (length here) ≡ to.0 = ap (without_needed s) size ∙ sym (ap (λ t. t.0) gives) in
       let count : unneeded s (length here) ≡ to.1 = ap (unneeded s) size ∙ sym (ap (λ t. t.1) gives) in
-      ap (λ i. codec_at limits i (drop (unneeded s (length here)) here)) state
-      ∙ ap (λ n. codec_at limits to.0 (drop n here)) count
-      ∙ ap (codec_at limits to.0) (beyond place to.1 bs)
+      ap (λ i. codec_at settings i (drop (unneeded s (length here)) here)) state
+      ∙ ap (λ n. codec_at settings to.0 (drop n here)) count
+      ∙ ap (codec_at settings to.0) (beyond place to.1 bs)
 
   -- one that stops is the last
-  pub comes_to_stop : (a : At) (s : DecodeState) (bs : List ℕ) (place : ℕ) (to : DecodeState × ℕ) → GoesSilently a (codec_at limits s (drop place bs)) → transition limits s (drop place bs) ≡ stop
-      → to ≡ (without_needed s (length bs - place), unneeded s (length bs - place)) → ComesTo a None (codec_at limits to.0 (drop (place + to.1) bs))
-  comes_to_stop a s bs place to silent e gives = (codec_at limits s (drop place bs), silent, (subst GoesNowhere (sym e) tt, left_at_stop s bs place to gives))
+  pub comes_to_stop : (a : At) (s : DecodeState) (bs : List ℕ) (place : ℕ) (to : DecodeState × ℕ) → GoesSilently a (codec_at settings s (drop place bs)) → transition settings s (drop place bs) ≡ stop
+      → to ≡ (without_needed s (length bs - place), unneeded s (length bs - place)) → ComesTo a None (codec_at settings to.0 (drop (place + to.1) bs))
+  comes_to_stop a s bs place to silent e gives = (codec_at settings s (drop place bs), silent, (subst GoesNowhere (sym e) tt, left_at_stop s bs place to gives))
 
-  nothing_unneeded : (s : DecodeState) (h : List ℕ) → transition limits s h ≡ unfinished → without_unneeded (codec_at limits s h) ≡ codec_at limits s h
+  nothing_unneeded : (s : DecodeState) (h : List ℕ) → transition settings s h ≡ unfinished → without_unneeded (codec_at settings s h) ≡ codec_at settings s h
   nothing_unneeded Frame h e = refl
-  nothing_unneeded Search h e = absurd (search_not_unfinished limits h e)
+  nothing_unneeded Search h e = absurd (search_not_unfinished settings h e)
   nothing_unneeded (Body n) h e = refl
-  nothing_unneeded (Skip n) h e = absurd (skip_not_unfinished limits n h e)
+  nothing_unneeded (Skip n) h e = absurd (skip_not_unfinished settings n h e)
 
   -- so is one that finds the input unfinished
-  pub comes_unfinished : (a : At) (s : DecodeState) (h : List ℕ) → GoesSilently a (codec_at limits s h) → transition limits s h ≡ unfinished → ComesTo a None (codec_at limits s h)
-  comes_unfinished a s h silent e = (codec_at limits s h, silent, ((waits_unfinished limits s h e).0, nothing_unneeded s h e))
+  pub comes_unfinished : (a : At) (s : DecodeState) (h : List ℕ) → GoesSilently a (codec_at settings s h) → transition settings s h ≡ unfinished → ComesTo a None (codec_at settings s h)
+  comes_unfinished a s h silent e = (codec_at settings s h, silent, ((waits_unfinished settings s h e).0, nothing_unneeded s h e))

@@ -1,11 +1,11 @@
 -- A transition moves forward or stops, save a search that finds its text where it begins and an empty body.
 use Rattle.std.proofs.Common.{◌≡◌, ℕ, suc, ◌<◌, ◌≤◌, ◌⊎◌, inl, inr, List, [], ◌∷◌, length, take, drop, Bool, true, false, ◌==◌, nat_eq, nat_lt, cond, Option, Some, None, option_map, codes, refl, ap, ◌∙◌, subst, arith, length-drop}
 use Rattle.std.specs.List.{starts_with}
-use Rattle.lsp_frame.specs.Transitions.{Item, Transition, stop, unfinished, go, transition, at_place, first_place, body_item}
+use Rattle.lsp_frame.specs.Transitions.{Item, Transition, stop, unfinished, go, transition, at_place, first_place, body_item_by}
 use Rattle.lsp_frame.specs.Items.{transitions_left}
 use Rattle.lsp_frame.specs.Laws.{TransitionsMove, MayStay}
 use Rattle.lsp_frame.proofs.TransitionSteady.{IsSteady, steady}
-use Rattle.lsp_frame.specs.declared.limits.Limits.{Limits}
+use Rattle.lsp_frame.specs.declared.settings.CodecSettings.{CodecSettings}
 use Rattle.lsp_frame.specs.declared.decode_state.DecodeState.{DecodeState}
 use Rattle.lsp_frame.specs.declared.decode_state.DecodeState.TheVariants.{Frame, Search, Body, Skip}
 
@@ -50,16 +50,16 @@ search_moves bs x j n (Some r) at e =
     moved (inl h) none frame = inl h
     moved (inr h) none frame = inr (h, none, frame)
 
-body_moves : (m : ℕ) (bs : List ℕ) (x : Option Item) (j : DecodeState) (n : ℕ) (a b : Bool) → (m == 0) ≡ b
-    → Is (cond a unfinished (cond b (go None Frame 0) (go (Some (body_item (take m bs))) Frame m))) x j n → Moves (Body m) bs x j n
-body_moves m bs x j n true b z e = let h : Is unfinished x j n = e in absurd cc
-body_moves m bs x j n false true z e =
+body_moves : (m : ℕ) (bs : List ℕ) (y : Item) (x : Option Item) (j : DecodeState) (n : ℕ) (a b : Bool) → (m == 0) ≡ b
+    → Is (cond a unfinished (cond b (go None Frame 0) (go (Some y) Frame m))) x j n → Moves (Body m) bs x j n
+body_moves m bs y x j n true b z e = let h : Is unfinished x j n = e in absurd cc
+body_moves m bs y x j n false true z e =
     let h : Is (go None Frame 0) x j n = e in
     let none : x ≡ None = cc in
     let frame : j ≡ Frame = cc in
     inr (grind arith, none, frame)
-body_moves m bs x j n false false z e =
-    let h : Is (go (Some (body_item (take m bs))) Frame m) x j n = e in
+body_moves m bs y x j n false false z e =
+    let h : Is (go (Some y) Frame m) x j n = e in
     let size : m ≡ n = cc in
     let some : 0 < m = grind arith in
     inl (omega arith)
@@ -77,13 +77,13 @@ skip_moves m bs x j n false false z e =
     let some : 0 < m = grind arith in
     inl (omega arith)
 
-transition_moves : (limits : Limits) (s : DecodeState) (bs : List ℕ) (x : Option Item) (j : DecodeState) (n : ℕ) → transition limits s bs ≡ go x j n → IsSteady limits s bs (go x j n) → Moves s bs x j n
-transition_moves limits Frame bs x j n e is = inl (frame_moves bs j n is.0 is.1)
-transition_moves limits Search bs x j n e is = search_moves bs x j n (first_place (codes "Content-Length") bs) refl e
-transition_moves limits (Body m) bs x j n e is = body_moves m bs x j n (nat_lt (length bs) m) (m == 0) refl e
-transition_moves limits (Skip m) bs x j n e is = skip_moves m bs x j n (nat_lt (length bs) m) (m == 0) refl e
+transition_moves : (settings : CodecSettings) (s : DecodeState) (bs : List ℕ) (x : Option Item) (j : DecodeState) (n : ℕ) → transition settings s bs ≡ go x j n → IsSteady settings s bs (go x j n) → Moves s bs x j n
+transition_moves settings Frame bs x j n e is = inl (frame_moves bs j n is.0 is.1)
+transition_moves settings Search bs x j n e is = search_moves bs x j n (first_place (codes "Content-Length") bs) refl e
+transition_moves settings (Body m) bs x j n e is = body_moves m bs (body_item_by settings.floats (take m bs)) x j n (nat_lt (length bs) m) (m == 0) refl e
+transition_moves settings (Skip m) bs x j n e is = skip_moves m bs x j n (nat_lt (length bs) m) (m == 0) refl e
 
 pub transitions_move_lem : TransitionsMove
-transitions_move_lem limits s bs x j n e =
-    let is : IsSteady limits s bs (go x j n) = subst (IsSteady limits s bs) e (steady limits s bs) in
-    (is.0, transition_moves limits s bs x j n e is)
+transitions_move_lem settings s bs x j n e =
+    let is : IsSteady settings s bs (go x j n) = subst (IsSteady settings s bs) e (steady settings s bs) in
+    (is.0, transition_moves settings s bs x j n e is)

@@ -8,10 +8,10 @@ use Rattle.std.proofs.lemmas.Slice.Eq.{starts_is}
 use Rattle.std.specs.List.{starts_with}
 use Rattle.lsp_frame.specs.Blocks.{block_len, place_after, or_later, empty_line_if, headers_in, Header}
 use Rattle.lsp_frame.specs.Headers.{content_length}
-use Rattle.lsp_frame.specs.declared.limits.Limits.{Limits}
+use Rattle.lsp_frame.specs.declared.settings.CodecSettings.{CodecSettings}
 use Rattle.lsp_frame.specs.declared.parse_error.ParseError.{ParseError}
 use Rattle.lsp_frame.specs.declared.parse_error.ParseError.TheVariants.{HeadTooLong, BodyTooLong}
-use Rattle.lsp_frame.specs.Transitions.{fault, Transition, stop, unfinished, go, transition, at_frame, at_block, at_head, at_headers, body_item, at_place, first_place}
+use Rattle.lsp_frame.specs.Transitions.{fault, Transition, stop, unfinished, go, transition, at_frame, at_block, at_head, at_headers, body_item_by, at_place, first_place}
 use Rattle.lsp_frame.specs.Items.{transitions_left}
 use Rattle.lsp_frame.specs.declared.decode_state.DecodeState.{DecodeState}
 use Rattle.lsp_frame.specs.declared.decode_state.DecodeState.TheVariants.{Frame, Search, Body, Skip}
@@ -157,26 +157,26 @@ front_at_most m h = grind (arith, common_steps)
 front_of_front : (q m : ℕ) (h : List ℕ) → q ≤ length (take m h) → take q (take m h) ≡ take q h
 front_of_front q m h fits = grind (arith, common_steps)
 
-module _ (limits : Limits) where
+module _ (settings : CodecSettings) where
   abbrev pub IsSteady : DecodeState → List ℕ → Transition → Type 0
   IsSteady s h stop = ⊤
   IsSteady s h unfinished = ⊤
-  IsSteady s h (go x j n) = (n ≤ length h) × (transitions_left j (drop n h) < transitions_left s h) × ((c : List ℕ) → transition limits s (h ++ c) ≡ go x j n)
+  IsSteady s h (go x j n) = (n ≤ length h) × (transitions_left j (drop n h) < transitions_left s h) × ((c : List ℕ) → transition settings s (h ++ c) ≡ go x j n)
 
   limit_goes : (q n : ℕ) (b : Bool) → IsAfterHead q (cond b (go (Some (fault BodyTooLong)) (Skip n) q) (go None (Body n) q))
   limit_goes q n true = inr refl
   limit_goes q n false = inr refl
 
-  headers_go : (q : ℕ) (r : Result (Option ℕ) ParseError) → IsAfterHead q (at_headers limits q r)
+  headers_go : (q : ℕ) (r : Result (Option ℕ) ParseError) → IsAfterHead q (at_headers settings.limits q r)
   headers_go q (Err e) = inr refl
   headers_go q (Ok None) = inl refl
-  headers_go q (Ok (Some n)) = limit_goes q n (nat_lt limits.body n)
+  headers_go q (Ok (Some n)) = limit_goes q n (nat_lt settings.limits.body n)
 
-  head_goes : (q : ℕ) (hs : Option (List Header)) → IsAfterHead q (at_head limits q hs)
+  head_goes : (q : ℕ) (hs : Option (List Header)) → IsAfterHead q (at_head settings.limits q hs)
   head_goes q None = inl refl
   head_goes q (Some hs) = headers_go q (content_length None hs)
 
-  after_head_steady : (q : ℕ) (h : List ℕ) (t : Transition) → IsAfterHead q t → 1 ≤ q → q ≤ length h → ((c : List ℕ) → at_frame limits (h ++ c) ≡ t) → IsSteady Frame h t
+  after_head_steady : (q : ℕ) (h : List ℕ) (t : Transition) → IsAfterHead q t → 1 ≤ q → q ≤ length h → ((c : List ℕ) → at_frame settings.limits (h ++ c) ≡ t) → IsSteady Frame h t
   after_head_steady q h stop is low high stays = tt
   after_head_steady q h unfinished is low high stays = tt
   after_head_steady q h (go x Frame n) is low high stays = absurd is
@@ -190,34 +190,34 @@ module _ (limits : Limits) where
       let at = between q n h is low high in
       (at.1, omega (arith, at.0, at.1, length-drop n h), stays)
 
-  head_stays : (h c : List ℕ) (q : ℕ) → Is (block_len (take limits.head h)) q → at_frame limits (h ++ c) ≡ at_head limits q (headers_in 2 (take q h))
+  head_stays : (h c : List ℕ) (q : ℕ) → Is (block_len (take settings.limits.head h)) q → at_frame settings.limits (h ++ c) ≡ at_head settings.limits q (headers_in 2 (take q h))
   head_stays h c q is =
-      let fits = place_fits 0 true (take limits.head h) q is in
-      let some : (length (h ++ c) == 0) ≡ false = not_zero (length (h ++ c)) (omega (arith, length-append h c, fits.0, fits.1, front_at_most limits.head h)) in
-      rw some (rw (block_stays limits.head h c q is) (rw (take-append-le q h c (omega (arith, fits.1, front_at_most limits.head h))) refl))
+      let fits = place_fits 0 true (take settings.limits.head h) q is in
+      let some : (length (h ++ c) == 0) ≡ false = not_zero (length (h ++ c)) (omega (arith, length-append h c, fits.0, fits.1, front_at_most settings.limits.head h)) in
+      rw some (rw (block_stays settings.limits.head h c q is) (rw (take-append-le q h c (omega (arith, fits.1, front_at_most settings.limits.head h))) refl))
 
   -- a head that is too long stays so
-  too_long_stays : (h c : List ℕ) → (length h == 0) ≡ false → block_len (take limits.head h) ≡ None → nat_lt (length h) limits.head ≡ false
-      → at_frame limits (h ++ c) ≡ go (Some (fault HeadTooLong)) Search 1
+  too_long_stays : (h c : List ℕ) → (length h == 0) ≡ false → block_len (take settings.limits.head h) ≡ None → nat_lt (length h) settings.limits.head ≡ false
+      → at_frame settings.limits (h ++ c) ≡ go (Some (fault HeadTooLong)) Search 1
   too_long_stays h c begun none full =
-      let fits : limits.head ≤ length h = grind arith in
+      let fits : settings.limits.head ≤ length h = grind arith in
       let some : (length (h ++ c) == 0) ≡ false = not_zero (length (h ++ c)) (grind (arith, length-append h c)) in
-      rw (some, take-append-le limits.head h c fits, none, enough_stays limits.head h c full) refl
+      rw (some, take-append-le settings.limits.head h c fits, none, enough_stays settings.limits.head h c full) refl
 
-  no_block_steady : (h : List ℕ) (b : Bool) → nat_lt (length h) limits.head ≡ b → (length h == 0) ≡ false → block_len (take limits.head h) ≡ None
+  no_block_steady : (h : List ℕ) (b : Bool) → nat_lt (length h) settings.limits.head ≡ b → (length h == 0) ≡ false → block_len (take settings.limits.head h) ≡ None
       → IsSteady Frame h (cond b unfinished (go (Some (fault HeadTooLong)) Search 1))
   no_block_steady h true e begun none = tt
   no_block_steady h false e begun none =
       let some : 1 ≤ length h = grind arith in
       (some, omega (arith, some, length-drop 1 h), λ c. too_long_stays h c begun none e)
 
-  frame_steady : (h : List ℕ) (b : Bool) (o : Option ℕ) → (length h == 0) ≡ b → block_len (take limits.head h) ≡ o → IsSteady Frame h (cond b stop (at_block limits h o))
+  frame_steady : (h : List ℕ) (b : Bool) (o : Option ℕ) → (length h == 0) ≡ b → block_len (take settings.limits.head h) ≡ o → IsSteady Frame h (cond b stop (at_block settings.limits h o))
   frame_steady h true o z e = tt
-  frame_steady h false None z e = no_block_steady h (nat_lt (length h) limits.head) refl z e
+  frame_steady h false None z e = no_block_steady h (nat_lt (length h) settings.limits.head) refl z e
   frame_steady h false (Some q) z e =
-      let fits = place_fits 0 true (take limits.head h) q e in
-      after_head_steady q h (at_head limits q (headers_in 2 (take q h))) (head_goes q (headers_in 2 (take q h))) (omega (arith, fits.0))
-      (omega (arith, fits.1, front_at_most limits.head h)) (λ c. head_stays h c q e)
+      let fits = place_fits 0 true (take settings.limits.head h) q e in
+      after_head_steady q h (at_head settings.limits q (headers_in 2 (take q h))) (head_goes q (headers_in 2 (take q h))) (omega (arith, fits.0))
+      (omega (arith, fits.1, front_at_most settings.limits.head h)) (λ c. head_stays h c q e)
 
   search_steady : (h : List ℕ) (o : Option ℕ) → first_place (codes "Content-Length") h ≡ o → IsSteady Search h (at_place o)
   search_steady h None e = tt
@@ -226,7 +226,7 @@ module _ (limits : Limits) where
       (omega (arith, fits), omega (arith, fits, length-drop r h), λ c. rw (found_stays (codes "Content-Length") h c r e) refl)
 
   body_steady : (n : ℕ) (h : List ℕ) (a b : Bool) → nat_lt (length h) n ≡ a → (n == 0) ≡ b
-      → IsSteady (Body n) h (cond a unfinished (cond b (go None Frame 0) (go (Some (body_item (take n h))) Frame n)))
+      → IsSteady (Body n) h (cond a unfinished (cond b (go None Frame 0) (go (Some (body_item_by settings.floats (take n h))) Frame n)))
   body_steady n h true b e f = tt
   body_steady n h false true e f = (omega arith, omega arith, λ c. rw (enough_stays n h c e, f) refl)
   body_steady n h false false e f =
@@ -239,8 +239,8 @@ module _ (limits : Limits) where
       let fits : n ≤ length h = grind arith in
       (fits, omega (arith, fits, length-drop n h), λ c. rw (enough_stays n h c e) refl)
 
-  pub steady : (s : DecodeState) (h : List ℕ) → IsSteady s h (transition limits s h)
-  steady Frame h = frame_steady h (length h == 0) (block_len (take limits.head h)) refl refl
+  pub steady : (s : DecodeState) (h : List ℕ) → IsSteady s h (transition settings s h)
+  steady Frame h = frame_steady h (length h == 0) (block_len (take settings.limits.head h)) refl refl
   steady Search h = search_steady h (first_place (codes "Content-Length") h) refl
   steady (Body n) h = body_steady n h (nat_lt (length h) n) (n == 0) refl refl
   steady (Skip n) h = skip_steady n h (nat_lt (length h) n) refl

@@ -7,7 +7,7 @@ use Rattle.lsp_frame.specs.Items.{all_from, items_after, GoesNowhere, IsTrimmed}
 use Rattle.lsp_frame.specs.Kept.{unneeded, without_needed}
 use Rattle.lsp_frame.proofs.TransitionSteady.{front_decided, found_fits}
 use Rattle.lsp_frame.proofs.ItemsByTransition.{all_from-transition, none_at_stop}
-use Rattle.lsp_frame.specs.declared.limits.Limits.{Limits}
+use Rattle.lsp_frame.specs.declared.settings.CodecSettings.{CodecSettings}
 use Rattle.lsp_frame.specs.declared.decode_state.DecodeState.{DecodeState}
 use Rattle.lsp_frame.specs.declared.decode_state.DecodeState.TheVariants.{Frame, Search, Body, Skip}
 
@@ -79,22 +79,22 @@ stops_from : (o : Option ℕ) → IsNowhere o → Stops (at_place o)
 stops_from None e = refl
 stops_from (Some r) e = let f : IsNowhere (Some r) = e in absurd cc
 
-module _ (limits : Limits) where
+module _ (settings : CodecSettings) where
   search_from : (last : List Item) (k : ℕ) (h c : List ℕ) (o : Option ℕ) → k ≤ length h
-      → items_after (λ j d. all_from limits last j (drop d (h ++ c))) last (at_place (option_map (λ r. k + r) o))
-      ≡ items_after (λ j d. all_from limits last j (drop d (drop k h ++ c))) last (at_place o)
+      → items_after (λ j d. all_from settings last j (drop d (h ++ c))) last (at_place (option_map (λ r. k + r) o))
+      ≡ items_after (λ j d. all_from settings last j (drop d (drop k h ++ c))) last (at_place o)
   search_from last k h c None fits = refl
-  search_from last k h c (Some r) fits = ap (all_from limits last Frame) (dropped k r h c fits)
+  search_from last k h c (Some r) fits = ap (all_from settings last Frame) (dropped k r h c fits)
 
-  search_drop : (last : List Item) (k : ℕ) (h c : List ℕ) → transition limits Search h ≡ stop → (k ≡ 0) ⊎ (k + 13 ≤ length h)
-      → all_from limits last Search (h ++ c) ≡ all_from limits last Search (drop k h ++ c)
+  search_drop : (last : List Item) (k : ℕ) (h c : List ℕ) → transition settings Search h ≡ stop → (k ≡ 0) ⊎ (k + 13 ≤ length h)
+      → all_from settings last Search (h ++ c) ≡ all_from settings last Search (drop k h ++ c)
   search_drop last k h c e (inl none) = rw none refl
   search_drop last k h c e (inr fits) =
       let none = nowhere_at_stop (first_place (codes "Content-Length") h) e in
-      all_from-transition limits last Search (h ++ c)
-      ∙ ap (λ o. items_after (λ j d. all_from limits last j (drop d (h ++ c))) last (at_place o)) (first_place-drop (codes "Content-Length") (omega arith) k h c (omega arith) none)
+      all_from-transition settings last Search (h ++ c)
+      ∙ ap (λ o. items_after (λ j d. all_from settings last j (drop d (h ++ c))) last (at_place o)) (first_place-drop (codes "Content-Length") (omega arith) k h c (omega arith) none)
       ∙ search_from last k h c (first_place (codes "Content-Length") (drop k h ++ c)) (omega arith)
-      ∙ sym (all_from-transition limits last Search (drop k h ++ c))
+      ∙ sym (all_from-transition settings last Search (drop k h ++ c))
 
   search_kept : (len : ℕ) → (len - 13 ≡ 0) ⊎ (len - 13 + 13 ≤ len)
   search_kept len = nat_cases (nat_lt len 13) refl
@@ -105,7 +105,7 @@ module _ (limits : Limits) where
 
   -- ---- a skip
 
-  skip_short : (n : ℕ) (h : List ℕ) → transition limits (Skip n) h ≡ stop → length h < n
+  skip_short : (n : ℕ) (h : List ℕ) → transition settings (Skip n) h ≡ stop → length h < n
   skip_short n h e = short (nat_lt (length h) n) refl e
     where
       short : (b : Bool) → nat_lt (length h) n ≡ b → Stops (cond b stop (go None Frame n)) → length h < n
@@ -122,17 +122,17 @@ module _ (limits : Limits) where
   drop_both (suc n) (x ∷ h) c short = drop_both n h c (omega (arith, short)) ∙ ap (λ k. drop k c) (omega arith)
 
   skip_items : (last : List Item) (n : ℕ) (h c : List ℕ) (b : Bool) → length h < n
-      → items_after (λ j d. all_from limits last j (drop d (h ++ c))) last (cond b stop (go None Frame n))
-      ≡ items_after (λ j d. all_from limits last j (drop d c)) last (cond b stop (go None Frame (n - length h)))
+      → items_after (λ j d. all_from settings last j (drop d (h ++ c))) last (cond b stop (go None Frame n))
+      ≡ items_after (λ j d. all_from settings last j (drop d c)) last (cond b stop (go None Frame (n - length h)))
   skip_items last n h c true short = refl
-  skip_items last n h c false short = ap (all_from limits last Frame) (drop_both n h c short)
+  skip_items last n h c false short = ap (all_from settings last Frame) (drop_both n h c short)
 
-  skip_drop : (last : List Item) (n : ℕ) (h c : List ℕ) → length h < n → all_from limits last (Skip n) (h ++ c) ≡ all_from limits last (Skip (n - length h)) c
+  skip_drop : (last : List Item) (n : ℕ) (h c : List ℕ) → length h < n → all_from settings last (Skip n) (h ++ c) ≡ all_from settings last (Skip (n - length h)) c
   skip_drop last n h c short =
-      all_from-transition limits last (Skip n) (h ++ c)
-      ∙ ap (λ b. items_after (λ j d. all_from limits last j (drop d (h ++ c))) last (cond b stop (go None Frame n))) (skip_goes n h c (nat_lt (length c) (n - length h)) short refl)
+      all_from-transition settings last (Skip n) (h ++ c)
+      ∙ ap (λ b. items_after (λ j d. all_from settings last j (drop d (h ++ c))) last (cond b stop (go None Frame n))) (skip_goes n h c (nat_lt (length c) (n - length h)) short refl)
       ∙ skip_items last n h c (nat_lt (length c) (n - length h)) short
-      ∙ sym (all_from-transition limits last (Skip (n - length h)) c)
+      ∙ sym (all_from-transition settings last (Skip (n - length h)) c)
 
   -- ---- where a state stops
 
@@ -140,37 +140,37 @@ module _ (limits : Limits) where
   nothing_left h c = grind (arith, common_steps)
 
   -- the items stay where a state that stops drops what it needs no more
-  pub items_waiting : (s : DecodeState) (h : List ℕ) → transition limits s h ≡ stop → (last : List Item) (c : List ℕ)
-      → all_from limits last s (h ++ c) ≡ all_from limits last (without_needed s (length h)) (drop (unneeded s (length h)) h ++ c)
+  pub items_waiting : (s : DecodeState) (h : List ℕ) → transition settings s h ≡ stop → (last : List Item) (c : List ℕ)
+      → all_from settings last s (h ++ c) ≡ all_from settings last (without_needed s (length h)) (drop (unneeded s (length h)) h ++ c)
   items_waiting Frame h e last c = refl
   items_waiting Search h e last c = search_drop last (length h - 13) h c e (search_kept (length h))
   items_waiting (Body n) h e last c = refl
-  items_waiting (Skip n) h e last c = skip_drop last n h c (skip_short n h e) ∙ ap (all_from limits last (Skip (n - length h))) (sym (nothing_left h c))
+  items_waiting (Skip n) h e last c = skip_drop last n h c (skip_short n h e) ∙ ap (all_from settings last (Skip (n - length h))) (sym (nothing_left h c))
 
   -- and there are none
-  pub none_waiting : (s : DecodeState) (h : List ℕ) → transition limits s h ≡ stop → (last : List Item)
-      → all_from limits last (without_needed s (length h)) (drop (unneeded s (length h)) h) ≡ []
+  pub none_waiting : (s : DecodeState) (h : List ℕ) → transition settings s h ≡ stop → (last : List Item)
+      → all_from settings last (without_needed s (length h)) (drop (unneeded s (length h)) h) ≡ []
   none_waiting s h e last =
-      ap (all_from limits last (without_needed s (length h))) (sym (append-nil (drop (unneeded s (length h)) h)))
+      ap (all_from settings last (without_needed s (length h))) (sym (append-nil (drop (unneeded s (length h)) h)))
       ∙ sym (items_waiting s h e last [])
-      ∙ ap (all_from limits last s) (append-nil h)
-      ∙ none_at_stop limits last s h e
+      ∙ ap (all_from settings last s) (append-nil h)
+      ∙ none_at_stop settings last s h e
 
   few_left : (h : List ℕ) → length (drop (length h - 13) h) ≤ 13
   few_left h = omega (arith, length-drop (length h - 13) h)
 
-  stands_at : (s : DecodeState) (bs : List ℕ) → transition limits s bs ≡ stop → GoesNowhere (transition limits s bs)
+  stands_at : (s : DecodeState) (bs : List ℕ) → transition settings s bs ≡ stop → GoesNowhere (transition settings s bs)
   stands_at s bs e = subst GoesNowhere (sym e) tt
 
-  empty_skip : (n : ℕ) (bs : List ℕ) → bs ≡ [] → 0 < n → transition limits (Skip n) bs ≡ stop
+  empty_skip : (n : ℕ) (bs : List ℕ) → bs ≡ [] → 0 < n → transition settings (Skip n) bs ≡ stop
   empty_skip n bs e some = let there : nat_lt 0 n ≡ true = grind arith in rw e (rw there refl)
 
   all_dropped : (h : List ℕ) → drop (length h) h ≡ []
   all_dropped h = grind (arith, common_steps)
 
   -- it waits there, with no more than it may need
-  pub waits_there : (s : DecodeState) (h : List ℕ) → transition limits s h ≡ stop
-      → GoesNowhere (transition limits (without_needed s (length h)) (drop (unneeded s (length h)) h)) × IsTrimmed (without_needed s (length h)) (drop (unneeded s (length h)) h)
+  pub waits_there : (s : DecodeState) (h : List ℕ) → transition settings s h ≡ stop
+      → GoesNowhere (transition settings (without_needed s (length h)) (drop (unneeded s (length h)) h)) × IsTrimmed (without_needed s (length h)) (drop (unneeded s (length h)) h)
   waits_there Frame h e = (stands_at Frame h e, tt)
   waits_there Search h e =
       let few = few_left h in
@@ -186,7 +186,7 @@ module _ (limits : Limits) where
   further : (n m : ℕ) (xs : List ℕ) → drop m (drop n xs) ≡ drop (n + m) xs
   further n m xs = grind (arith, common_steps)
 
-  module _ (s : DecodeState) (bs : List ℕ) (place : ℕ) (is : transition limits s (drop place bs) ≡ stop) (fits : place ≤ length bs) (to : DecodeState × ℕ)
+  module _ (s : DecodeState) (bs : List ℕ) (place : ℕ) (is : transition settings s (drop place bs) ≡ stop) (fits : place ≤ length bs) (to : DecodeState × ℕ)
       (gives : to ≡ (without_needed s (length bs - place), unneeded s (length bs - place))) where
     size : length (drop place bs) ≡ length bs - place
     size = length-drop place bs
@@ -198,21 +198,21 @@ module _ (limits : Limits) where
     to_bytes = ap (λ n. drop (place + n) bs) (ap (λ t. t.1) gives ∙ ap (unneeded s) (sym size)) ∙ sym (further place (unneeded s (length (drop place bs))) bs)
 
     abbrev pub Here : Type 0
-    Here = (last : List Item) (c : List ℕ) → all_from limits last s (drop place bs ++ c) ≡ all_from limits last to.0 (drop (place + to.1) bs ++ c)
+    Here = (last : List Item) (c : List ℕ) → all_from settings last s (drop place bs ++ c) ≡ all_from settings last to.0 (drop (place + to.1) bs ++ c)
 
     pub items_stopped : Here
     items_stopped last c = rw (to_state, to_bytes) (items_waiting s (drop place bs) is last c)
 
-    pub none_stopped : (last : List Item) → all_from limits last to.0 (drop (place + to.1) bs) ≡ []
+    pub none_stopped : (last : List Item) → all_from settings last to.0 (drop (place + to.1) bs) ≡ []
     none_stopped last = rw (to_state, to_bytes) (none_waiting s (drop place bs) is last)
 
-    pub waits_stopped : GoesNowhere (transition limits to.0 (drop (place + to.1) bs)) × IsTrimmed to.0 (drop (place + to.1) bs)
+    pub waits_stopped : GoesNowhere (transition settings to.0 (drop (place + to.1) bs)) × IsTrimmed to.0 (drop (place + to.1) bs)
     waits_stopped = rw (to_state, to_bytes) (waits_there s (drop place bs) is)
 
   -- ---- where the input is unfinished
 
   -- a search stops where it finds nothing
-  pub search_not_unfinished : (h : List ℕ) → transition limits Search h ≡ unfinished → ⊥
+  pub search_not_unfinished : (h : List ℕ) → transition settings Search h ≡ unfinished → ⊥
   search_not_unfinished h e = ends (first_place (codes "Content-Length") h) e
     where
       ends : (o : Option ℕ) → let P : Transition → Type 0 = λ t. t ≡ unfinished in P (at_place o) → ⊥
@@ -220,14 +220,14 @@ module _ (limits : Limits) where
       ends (Some r) e = absurd cc
 
   -- and so does a skip that is short of bytes
-  pub skip_not_unfinished : (n : ℕ) (h : List ℕ) → transition limits (Skip n) h ≡ unfinished → ⊥
+  pub skip_not_unfinished : (n : ℕ) (h : List ℕ) → transition settings (Skip n) h ≡ unfinished → ⊥
   skip_not_unfinished n h e = ends (nat_lt (length h) n) e
     where
       ends : (b : Bool) → let P : Transition → Type 0 = λ t. t ≡ unfinished in P (cond b stop (go None Frame n)) → ⊥
       ends true e = absurd cc
       ends false e = absurd cc
 
-  pub waits_unfinished : (s : DecodeState) (h : List ℕ) → transition limits s h ≡ unfinished → GoesNowhere (transition limits s h) × IsTrimmed s h
+  pub waits_unfinished : (s : DecodeState) (h : List ℕ) → transition settings s h ≡ unfinished → GoesNowhere (transition settings s h) × IsTrimmed s h
   waits_unfinished Frame h e = (subst GoesNowhere (sym e) tt, tt)
   waits_unfinished Search h e = absurd (search_not_unfinished h e)
   waits_unfinished (Body n) h e = (subst GoesNowhere (sym e) tt, tt)

@@ -20,7 +20,7 @@ abbrev pub GivesItem : At → Option Item → At → Type 0
 GivesItem a x b =
     ((c : List ℕ) → items_at (more a c) ≡ with_item x (items_at (more b c)))
     × ((c : List ℕ) → told_at (more a c) ≡ with_item x (told_at (more b c)))
-    × (b.limits ≡ a.limits)
+    × (b.settings ≡ a.settings)
 
 -- what the contracts of `feed`, `decode`, `finish` and `encode` say of a call that leads from a to b
 abbrev pub LeadsBy : CodecCall → At → At → Type 0

@@ -1,24 +1,33 @@
 -- The items that decoding tells of a stream of bytes.
 use Rattle.std.specs.Prelude.{◌≡◌, ℕ, zero, suc, ◌+◌, ◌*◌, ◌≤◌, max, List, [], ◌∷◌, ◌++◌, length, drop, Option, Some, None, ⊤}
 use Rattle.lsp_frame.specs.Transitions.{Item, message, fault, Transition, stop, unfinished, go, transition}
+use Rattle.lsp_text.specs.declared.floats.Floats.TheVariants.{Refused}
 use Rattle.lsp_frame.specs.declared.limits.Limits.{Limits}
+use Rattle.lsp_frame.specs.declared.settings.CodecSettings.{CodecSettings}
 use Rattle.lsp_frame.specs.declared.parse_error.ParseError.TheVariants.{Headers, MissingContentLength, InvalidContentType, InvalidContentLength, Utf8, Body, Rest, HeadTooLong, BodyTooLong}
 use Rattle.lsp_frame.specs.declared.decode_state.DecodeState.{DecodeState}
 use Rattle.lsp_frame.specs.declared.decode_state.DecodeState.TheVariants as states
 
--- a codec: its limits, its state, and the bytes held from its place on
+-- these limits, and no float is let in
+abbrev pub strict : Limits → CodecSettings
+strict limits = record { limits = limits; floats = Refused }
+
+-- a codec: its settings, its state, and the bytes held from its place on
 pub record At : Type 0 where
-  pub limits : Limits
+  pub settings : CodecSettings
   pub state : DecodeState
   pub held : List ℕ
 
 -- no bytes, where a frame begins
+abbrev pub start_by : CodecSettings → At
+start_by settings = record { settings = settings; state = states.Frame; held = [] }
+
 abbrev pub start : Limits → At
-start limits = record { limits = limits; state = states.Frame; held = [] }
+start limits = start_by (strict limits)
 
 -- with these bytes after those held
 abbrev pub more : At → List ℕ → At
-more a c = record { limits = a.limits; state = a.state; held = a.held ++ c }
+more a c = record { settings = a.settings; state = a.state; held = a.held ++ c }
 
 -- an item, where there is one, before others
 abbrev pub with_item : Option Item → List Item → List Item
@@ -32,9 +41,9 @@ items_after next last unfinished = last
 items_after next last (go x s n) = with_item x (next s n)
 
 -- the items of at most so many transitions; last is what is told where input ends inside a frame
-abbrev pub items_within : Limits → List Item → ℕ → DecodeState → List ℕ → List Item
-items_within limits last zero s bs = []
-items_within limits last (suc n) s bs = items_after (λ s' d. items_within limits last n s' (drop d bs)) last (transition limits s bs)
+abbrev pub items_within : CodecSettings → List Item → ℕ → DecodeState → List ℕ → List Item
+items_within settings last zero s bs = []
+items_within settings last (suc n) s bs = items_after (λ s' d. items_within settings last n s' (drop d bs)) last (transition settings s bs)
 
 -- more than the transitions on the way to the stop
 abbrev pub transitions_left : DecodeState → List ℕ → ℕ
@@ -44,24 +53,30 @@ transitions_left (states.Body n) bs = 2 * length bs + 2
 transitions_left (states.Skip n) bs = 2 * length bs + 2
 
 -- the items on the way from a state to the stop, with last where input ends inside a frame
-abbrev pub all_from : Limits → List Item → DecodeState → List ℕ → List Item
-all_from limits last s bs = items_within limits last (transitions_left s bs) s bs
+abbrev pub all_from : CodecSettings → List Item → DecodeState → List ℕ → List Item
+all_from settings last s bs = items_within settings last (transitions_left s bs) s bs
 
 -- the items from here on, where the input ends after the bytes held
 abbrev pub items_at : At → List Item
-items_at a = all_from a.limits (fault Rest ∷ []) a.state a.held
+items_at a = all_from a.settings (fault Rest ∷ []) a.state a.held
 
 -- the items from here on that the bytes held tell, whatever bytes may follow
 abbrev pub told_at : At → List Item
-told_at a = all_from a.limits [] a.state a.held
+told_at a = all_from a.settings [] a.state a.held
 
 -- the items of a whole input
+abbrev pub items_by : CodecSettings → List ℕ → List Item
+items_by settings bs = items_at (more (start_by settings) bs)
+
 abbrev pub items : Limits → List ℕ → List Item
-items limits bs = items_at (more (start limits) bs)
+items limits bs = items_by (strict limits) bs
 
 -- the items that these bytes tell, whatever bytes may follow
+abbrev pub told_by : CodecSettings → List ℕ → List Item
+told_by settings bs = told_at (more (start_by settings) bs)
+
 abbrev pub told : Limits → List ℕ → List Item
-told limits bs = told_at (more (start limits) bs)
+told limits bs = told_by (strict limits) bs
 
 -- an item, unless it is the fault of an input that ends inside a frame
 abbrev pub unless_rest : Item → List Item
@@ -99,7 +114,7 @@ IsTrimmed (states.Skip n) bs = bs ≡ []
 
 -- the codec goes on nowhere until more is fed, and holds nothing that it needs no more
 abbrev pub IsWaiting : At → Type 0
-IsWaiting a = GoesNowhere (transition a.limits a.state a.held) × IsTrimmed a.state a.held
+IsWaiting a = GoesNowhere (transition a.settings a.state a.held) × IsTrimmed a.state a.held
 
 -- how many bytes a codec that waits holds at most
 abbrev pub most_held : Limits → ℕ
@@ -112,3 +127,7 @@ AreLimits limits = (1 ≤ limits.head) × (1 ≤ limits.body)
 -- the limits that are taken where none are given
 abbrev pub default_limits : Limits
 default_limits = record { head = 8192; body = 67108864 }
+
+-- a codec that is told no other settings has these
+abbrev pub default_settings : CodecSettings
+default_settings = strict default_limits

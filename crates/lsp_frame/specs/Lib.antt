@@ -12,3 +12,4 @@ pub mod Calls
 pub mod Laws
 pub mod Codec
 pub mod Parts
+pub mod PlainHeads

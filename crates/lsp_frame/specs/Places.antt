@@ -4,21 +4,22 @@ use Rattle.lsp_frame.specs.Transitions.{Item, message, fault, go, transition}
 use Rattle.lsp_frame.specs.Items.{At, GoesNowhere}
 use Rattle.lsp_frame.specs.Kept.{unneeded, without_needed}
 use Rattle.lsp_frame.specs.declared.limits.Limits.{Limits}
+use Rattle.lsp_frame.specs.declared.settings.CodecSettings.{CodecSettings}
 use Rattle.lsp_frame.specs.declared.parse_error.ParseError.TheVariants.{Headers, MissingContentLength, InvalidContentType, InvalidContentLength, Utf8, Body, Rest, HeadTooLong, BodyTooLong}
 use Rattle.lsp_frame.specs.declared.decode_state.DecodeState.{DecodeState}
 use Rattle.lsp_frame.specs.declared.decode_state.DecodeState.TheVariants as states
 
 -- a codec in this state that holds these bytes
-abbrev pub codec_at : Limits → DecodeState → List ℕ → At
-codec_at limits s bs = record { limits = limits; state = s; held = bs }
+abbrev pub codec_at : CodecSettings → DecodeState → List ℕ → At
+codec_at settings s bs = record { settings = settings; state = s; held = bs }
 
 -- in this state, after so many bytes
 abbrev pub further : At → DecodeState → ℕ → At
-further a s n = codec_at a.limits s (drop n a.held)
+further a s n = codec_at a.settings s (drop n a.held)
 
 -- the transition at a tells this item, or none, and goes on at b
 abbrev pub GoesOn : At → Option Item → At → Type 0
-GoesOn a x b = (s : DecodeState) × (n : ℕ) × (transition a.limits a.state a.held ≡ go x s n) × (further a s n ≡ b)
+GoesOn a x b = (s : DecodeState) × (n : ℕ) × (transition a.settings a.state a.held ≡ go x s n) × (further a s n ≡ b)
 
 -- so many transitions that tell nothing go on from a to b
 abbrev pub SilentBy : ℕ → At → At → Type 0
@@ -36,7 +37,7 @@ without_unneeded a = further a (without_needed a.state (length a.held)) (unneede
 -- the transition at a tells an item and goes on at b; or it goes on nowhere, and b is a without the bytes that it needs no more
 abbrev pub EndsAt : At → Option Item → At → Type 0
 EndsAt a (Some x) b = GoesOn a (Some x) b
-EndsAt a None b = GoesNowhere (transition a.limits a.state a.held) × (without_unneeded a ≡ b)
+EndsAt a None b = GoesNowhere (transition a.settings a.state a.held) × (without_unneeded a ≡ b)
 
 -- from a decoding comes to b: by transitions that tell nothing up to the first that tells an item, or that goes on nowhere
 abbrev pub ComesTo : At → Option Item → At → Type 0

@@ -5,9 +5,12 @@ use Rattle.std.specs.Str.{is_utf8}
 use Rattle.serde_json.specs.Read.{read}
 use Rattle.serde_json.specs.Data.{Data}
 use Rattle.lsp_rpc.specs.Message.{MessageData, clean_message}
+use Rattle.lsp_text.specs.Floats.{read_by}
+use Rattle.lsp_text.specs.declared.floats.Floats.{Floats}
 use Rattle.lsp_frame.specs.Blocks.{block_len, headers_in, Header}
 use Rattle.lsp_frame.specs.Headers.{content_length}
 use Rattle.lsp_frame.specs.declared.limits.Limits.{Limits}
+use Rattle.lsp_frame.specs.declared.settings.CodecSettings.{CodecSettings}
 use Rattle.lsp_frame.specs.declared.parse_error.ParseError.{ParseError}
 use Rattle.lsp_frame.specs.declared.parse_error.ParseError.TheVariants as errors
 use Rattle.lsp_frame.specs.declared.parse_error.BodyFault.TheVariants.{Json, Message}
@@ -49,11 +52,15 @@ of_value (Some d) = of_message (clean_message d)
 abbrev pub body_item : List ℕ → Item
 body_item bs = if is_utf8 bs then of_value (read bs) else fault errors.Utf8
 
+-- the same where floats are let in or aren't
+abbrev pub body_item_by : Floats → List ℕ → Item
+body_item_by floats bs = if is_utf8 bs then of_value (read_by floats bs) else fault errors.Utf8
+
 -- a body of n bytes; an empty one tells nothing
-abbrev pub at_body : ℕ → List ℕ → Transition
-at_body n bs =
+abbrev pub at_body : Floats → ℕ → List ℕ → Transition
+at_body floats n bs =
     if nat_lt (length bs) n then unfinished
-    else (if n == 0 then go None Frame 0 else go (Some (body_item (take n bs))) Frame n)
+    else (if n == 0 then go None Frame 0 else go (Some (body_item_by floats (take n bs))) Frame n)
 
 -- n bytes of a body that is too long tell nothing, whether they come or not
 abbrev pub at_skip : ℕ → List ℕ → Transition
@@ -84,8 +91,8 @@ abbrev pub at_frame : Limits → List ℕ → Transition
 at_frame limits bs = if length bs == 0 then stop else at_block limits bs (block_len (take limits.head bs))
 
 -- the table: each state looks at the bytes from its place on
-abbrev pub transition : Limits → DecodeState → List ℕ → Transition
-transition limits Frame bs = at_frame limits bs
-transition limits Search bs = at_place (first_place (codes "Content-Length") bs)
-transition limits (Body n) bs = at_body n bs
-transition limits (Skip n) bs = at_skip n bs
+abbrev pub transition : CodecSettings → DecodeState → List ℕ → Transition
+transition settings Frame bs = at_frame settings.limits bs
+transition settings Search bs = at_place (first_place (codes "Content-Length") bs)
+transition settings (Body n) bs = at_body settings.floats n bs
+transition settings (Skip n) bs = at_skip n bs

@@ -1,37 +1,57 @@
 // What a body tells.
-ghost use Rattle.std.specs.Prelude.{◌≡◌, IfOk, Some};
+ghost use Rattle.std.specs.Prelude.{◌≡◌, IfOk, Some, option_map};
 ghost use Rattle.serde_json.specs.Read.{read};
-ghost use Rattle.lsp_frame.specs.Transitions.{body_item, of_value};
+ghost use Rattle.serde_json.specs.View.{view};
+ghost use Rattle.lsp_rpc.specs.Message.{clean_message};
+ghost use Rattle.lsp_text.specs.Floats.{read_by};
+ghost use Rattle.lsp_frame.specs.Transitions.{body_item_by, of_message, of_value};
 ghost use Rattle.lsp_frame.specs.Shown.{show_found, IsFoundFloatFree};
 
 use crate::headers::text_of;
 use crate::message_reader::MessageReader;
 use crate::parse_error::{BodyFault, ParseError};
 use lsp_rpc::{Message, NotMessage, read_message};
-use lsp_text::Unread;
+use lsp_text::{Floats, Unread, read_whole};
 use no_memory::NoMemory;
 use serde_json::Value;
 use std::alloc::Global;
 
-// The message of a text by way of its value, or why there is none. A call of its own: the buffer of
-// the value's reader is large, and is paid for at each entry to the function that it stands in.
+// The value of a text, if it is JSON. A call of its own: the buffer of its reader is large, and is
+// paid for at each entry to the function that it stands in.
 #[inline(never)]
-pub(crate) fn text_message(
-    alloc: Global,
-    text: &str,
-) -> Result<Result<Message, ParseError>, NoMemory>
-    ensures value { IfOk result (λ f. show_found f ≡ of_value (read text.now)) }
+fn parsed(alloc: Global, text: &str) -> Result<Option<Value>, NoMemory>
+    ensures { IfOk result (λ v. option_map view v ≡ read text.now) }
+{
+    match Value::from_str(alloc, text) {
+        Ok(value) => Ok(Some(value)),
+        Err(e) => if e.is_memory() {
+            Err(NoMemory)
+        } else {
+            Ok(None)
+        },
+    }
+}
+
+// The value of a text, made free of floats, if it is JSON.
+fn settled(alloc: Global, text: &str) -> Result<Option<Value>, NoMemory>
+    ensures { IfOk result (λ v. option_map view v ≡ read_by Floats.Read text.now) }
+{
+    match read_whole(alloc, Floats::Read, text) {
+        Ok(value) => Ok(Some(value)),
+        Err(Unread) => match parsed(alloc, text)? {
+            // It is JSON, so memory was wanting.
+            Some(_) => Err(NoMemory),
+            None => Ok(None),
+        },
+    }
+}
+
+// The message that a value is, or why there is none.
+fn value_message(alloc: Global, value: Value) -> Result<Result<Message, ParseError>, NoMemory>
+    ensures value { IfOk result
+        (λ f. show_found f ≡ of_message (clean_message (view value))) }
     ensures floats { IfOk result (λ f. IsFoundFloatFree (Some f)) }
 {
-    let value = match Value::from_str(alloc, text) {
-        Ok(value) => value,
-        Err(e) => {
-            if e.is_memory() {
-                return Err(NoMemory);
-            }
-            return Ok(Err(ParseError::Body(BodyFault::Json)));
-        }
-    };
     match read_message(alloc, value) {
         Ok(message) => Ok(Ok(message)),
         Err(NotMessage::NotMessage) => Ok(Err(ParseError::Body(BodyFault::Message))),
@@ -39,20 +59,42 @@ pub(crate) fn text_message(
     }
 }
 
-// The message of a body, or why there is none.
+// The message of a text by way of its value, or why there is none.
+pub(crate) fn text_message(
+    alloc: Global,
+    floats: Floats,
+    text: &str,
+) -> Result<Result<Message, ParseError>, NoMemory>
+    ensures value { IfOk result (λ f. show_found f ≡ of_value (read_by floats text.now)) }
+    ensures floats { IfOk result (λ f. IsFoundFloatFree (Some f)) }
+{
+    let value = match floats {
+        Floats::Refused => parsed(alloc, text)?,
+        Floats::Read => settled(alloc, text)?,
+    };
+    match value {
+        Some(value) => value_message(alloc, value),
+        None => Ok(Err(ParseError::Body(BodyFault::Json))),
+    }
+}
+
+// The message of a body, or why there is none. A call of its own, so that the transitions of heads
+// aren't made to carry what it holds.
+#[inline(never)]
 pub(crate) fn body_message(
     alloc: Global,
     reader: &mut MessageReader,
+    floats: Floats,
     body: &[u8],
 ) -> Result<Result<Message, ParseError>, NoMemory>
-    ensures value { IfOk result (λ f. show_found f ≡ body_item body.now) }
+    ensures value { IfOk result (λ f. show_found f ≡ body_item_by floats body.now) }
     ensures floats { IfOk result (λ f. IsFoundFloatFree (Some f)) }
 {
     let Some(text) = text_of(body) else {
         return Ok(Err(ParseError::Utf8));
     };
-    match reader.read(alloc, text) {
+    match reader.read_by(alloc, floats, text) {
         Ok(message) => Ok(Ok(message)),
-        Err(Unread) => text_message(alloc, text),
+        Err(Unread) => text_message(alloc, floats, text),
     }
 }

@@ -5,7 +5,7 @@ ghost use Rattle.lsp_rpc.specs.Message.{message_has_float};
 ghost use Rattle.lsp_rpc.specs.Shown.{show_message};
 ghost use Rattle.lsp_frame.specs.declared.limits.Limits.{Limits as AnyLimits};
 ghost use Rattle.lsp_frame.specs.Transitions.{fault, message as message_item};
-ghost use Rattle.lsp_frame.specs.Items.{start, more, items, items_at, told_at, with_item, IsWaiting, most_held, AreLimits, default_limits};
+ghost use Rattle.lsp_frame.specs.Items.{start, start_by, more, items, items_at, told_at, with_item, IsWaiting, most_held, AreLimits, default_limits};
 ghost use Rattle.lsp_frame.specs.Places.{ComesTo, HoldsEnd, IsStateAfter};
 ghost use Rattle.lsp_frame.specs.Frames.{frame_text, IsWithin, IsReadBack};
 ghost use Rattle.lsp_frame.specs.Shown.{shown, show_found, DecodedIsFloatFree, IsFoundFloatFree};
@@ -16,8 +16,10 @@ use crate::limits::Limits;
 use crate::message_reader::MessageReader;
 use crate::next_item::find_next;
 use crate::parse_error::ParseError;
+use crate::settings::CodecSettings;
 use bytes::BytesMut;
 use lsp_rpc::Message;
+use lsp_text::Floats;
 use no_memory::NoMemory;
 use std::alloc::Global;
 use std::marker::Model;
@@ -47,7 +49,7 @@ fn answer_of(item: Option<Result<Message, ParseError>>) -> Decoded
 
 /// Reads messages from bytes that come in pieces, and writes messages, each in its frame.
 ///
-/// A contract sees the limits, the state and the bytes held. After `NoMemory` nothing has changed,
+/// A contract sees the settings, the state and the bytes held. After `NoMemory` nothing has changed,
 /// and the call may be made again.
 #[derive(Drop)]
 pub struct LanguageServerCodec {
@@ -55,7 +57,7 @@ pub struct LanguageServerCodec {
     state: DecodeState,
     // How far the bytes were looked through for the empty line that ends a head.
     looked: usize,
-    limits: Limits,
+    settings: CodecSettings,
     alloc: Global,
     // Keeps the room that a body takes for the next.
     reader: MessageReader,
@@ -67,31 +69,55 @@ impl Model for LanguageServerCodec {
 
     ghost Value = { At };
 
-    ghost view = { λ s. record { limits = s.limits; state = s.state; held = s.bytes.items } };
+    ghost view = { λ s. record { settings = s.settings; state = s.state; held = s.bytes.items } };
 
-    ghost invariant = { λ s. IsLooked s.bytes.items s.looked × IsAllowed s.limits s.state };
+    ghost invariant = { λ s. IsLooked s.bytes.items s.looked × IsAllowed s.settings.limits s.state };
 }
 
 impl LanguageServerCodec {
-    /// A codec that was fed nothing, with the default limits.
+    /// A codec that was fed nothing, with the default limits, which lets no float in.
     pub fn default(alloc: Global) -> LanguageServerCodec
         ensures { result ≡ start default_limits }
     {
         LanguageServerCodec::with_limits(alloc, Limits::default())
     }
 
-    /// A codec that was fed nothing, with these limits.
+    /// A codec that was fed nothing, with these limits, which lets no float in.
     pub fn with_limits(alloc: Global, limits: Limits) -> LanguageServerCodec
         requires { AreLimits limits }
         ensures { result ≡ start limits }
+    {
+        let floats = Floats::Refused;
+        LanguageServerCodec::with_settings(alloc, CodecSettings { limits, floats })
+    }
+
+    /// A codec that was fed nothing, with these settings.
+    pub fn with_settings(alloc: Global, settings: CodecSettings) -> LanguageServerCodec
+        requires { AreLimits settings.limits }
+        ensures { result ≡ start_by settings }
     {
         LanguageServerCodec {
             bytes: BytesMut::new(alloc),
             state: DecodeState::Frame,
             looked: 0,
-            limits,
+            settings,
             alloc,
             reader: MessageReader::new(),
+        }
+    }
+
+    /// The same codec, by which bodies with floats are read so from here on.
+    pub fn floats(self, floats: Floats) -> LanguageServerCodec
+        ensures { result ≡ record self { settings = record self.settings { floats = floats } } }
+    {
+        let limits = self.settings.limits;
+        LanguageServerCodec {
+            bytes: self.bytes,
+            state: self.state,
+            looked: self.looked,
+            settings: CodecSettings { limits, floats },
+            alloc: self.alloc,
+            reader: self.reader,
         }
     }
 
@@ -130,16 +156,16 @@ impl LanguageServerCodec {
         // So what is held is the end of what was held, and after a message a frame begins with it.
         ensures rest { OnOk result (HoldsEnd self.old self.new) }
         ensures after { IfOk result (λ d. IfSome (shown d)
-            (λ x. IsStateAfter self.new.limits x self.new.state)) }
+            (λ x. IsStateAfter self.new.settings.limits x self.new.state)) }
         // `More` comes exactly where nothing is told, and then nothing is told until more is fed.
         ensures more { IfOk result (λ d. (shown d ≡ None) ↔ (told_at self.old ≡ [])) }
         ensures waits { IfOk result (λ d. shown d ≡ None → told_at self.new ≡ []) }
         // Then decoding went on as far as it can, and what it needs no more isn't held.
         ensures trimmed { IfOk result (λ d. shown d ≡ None → IsWaiting self.new) }
         ensures held { IfOk result (λ d. shown d ≡ None
-            → length self.new.held ≤ most_held self.new.limits) }
+            → length self.new.held ≤ most_held self.new.settings.limits) }
         ensures floats { IfOk result (λ d. DecodedIsFloatFree d) }
-        ensures limits { OnOk result (self.new.limits ≡ self.old.limits) }
+        ensures settings { OnOk result (self.new.settings ≡ self.old.settings) }
         ensures err { OnErr result (self.new ≡ self.old) }
         // Memory is taken for an item alone.
         ensures memory { OnErr result (told_at self.old ≢ []) }
@@ -147,7 +173,7 @@ impl LanguageServerCodec {
         let next = find_next(
             self.alloc,
             &mut self.reader,
-            self.limits,
+            self.settings,
             self.state,
             self.bytes.as_slice(),
             self.looked,
@@ -170,7 +196,7 @@ impl LanguageServerCodec {
         let next = find_next(
             self.alloc,
             &mut self.reader,
-            self.limits,
+            self.settings,
             self.state,
             self.bytes.as_slice(),
             self.looked,

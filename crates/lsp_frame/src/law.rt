@@ -1,15 +1,15 @@
 // What holds of all blocks, transitions, inputs, lists of calls and texts: functions whose contract
 // is a law.
 ghost use Rattle.std.specs.Prelude.{◌≡◌, Some, IfSome, false};
-ghost use Rattle.lsp_rpc.specs.Back.{ReadsAs};
 ghost use Rattle.lsp_rpc.specs.Message.{message_has_float};
 ghost use Rattle.lsp_rpc.specs.Shown.{show_message};
 ghost use Rattle.lsp_rpc.specs.declared.message.Message.{Message as AnyMessage};
-ghost use Rattle.lsp_frame.specs.Laws.{GoodBlocks, ByTransitions, TransitionsMove, OnePlace, ToldIsItems, ToldStays, GivesAll, FramesRead, MessagesRead, EncodedRead};
+ghost use Rattle.lsp_frame.specs.Laws.{GoodBlocks, ByTransitions, TransitionsMove, OnePlace, ToldIsItems, ToldStays, GivesAll, FramesRead, SameMessages, MessagesRead, EncodedRead, ReadsBy};
 
 use crate::body::text_message;
 use crate::message_reader::MessageReader;
 use lsp_rpc::Message;
+use lsp_text::Floats;
 use std::alloc::Global;
 
 /// A block is good where it is, whole, a head of `httparse`'s grammar with at most two headers.
@@ -54,6 +54,11 @@ pub fn frames_read()
     ensures { FramesRead }
 {}
 
+/// A body that is a message where no float is let in is the same message where they are.
+pub fn same_messages()
+    ensures { SameMessages }
+{}
+
 /// Frames of messages whose texts are read back tell these messages.
 pub fn messages_read()
     ensures { MessagesRead }
@@ -66,22 +71,27 @@ pub fn encoded_read()
 {}
 
 // The message of the text, straight from its tokens.
-fn from_tokens(alloc: Global, reader: &mut MessageReader, text: &str) -> Option<Message>
-    ensures read { IfSome result (λ m. ReadsAs text.now (show_message m)) }
+fn from_tokens(
+    alloc: Global,
+    reader: &mut MessageReader,
+    floats: Floats,
+    text: &str,
+) -> Option<Message>
+    ensures read { IfSome result (λ m. ReadsBy floats text.now (show_message m)) }
     ensures floats { IfSome result (λ m. message_has_float (show_message m) ≡ false) }
 {
-    match reader.read(alloc, text) {
+    match reader.read_by(alloc, floats, text) {
         Ok(message) => Some(message),
         Err(_) => None,
     }
 }
 
 // The message of the text, by way of its value.
-fn by_value(alloc: Global, text: &str) -> Option<Message>
-    ensures read { IfSome result (λ m. ReadsAs text.now (show_message m)) }
+fn by_value(alloc: Global, floats: Floats, text: &str) -> Option<Message>
+    ensures read { IfSome result (λ m. ReadsBy floats text.now (show_message m)) }
     ensures floats { IfSome result (λ m. message_has_float (show_message m) ≡ false) }
 {
-    match text_message(alloc, text) {
+    match text_message(alloc, floats, text) {
         Ok(Ok(message)) => Some(message),
         _ => None,
     }
@@ -92,14 +102,18 @@ fn by_value(alloc: Global, text: &str) -> Option<Message>
 pub fn read_both_ways(
     alloc: Global,
     reader: &mut MessageReader,
+    floats: Floats,
     text: &str,
 ) -> (Option<Message>, Option<Message>)
-    ensures read { IfSome result.0 (λ m. ReadsAs text.now (show_message m))
-        × IfSome result.1 (λ m. ReadsAs text.now (show_message m)) }
+    ensures read { IfSome result.0 (λ m. ReadsBy floats text.now (show_message m))
+        × IfSome result.1 (λ m. ReadsBy floats text.now (show_message m)) }
     ensures floats { IfSome result.0 (λ m. message_has_float (show_message m) ≡ false)
         × IfSome result.1 (λ m. message_has_float (show_message m) ≡ false) }
     ensures agree { (a : AnyMessage) (b : AnyMessage) → result.0 ≡ Some a → result.1 ≡ Some b
         → show_message a ≡ show_message b }
 {
-    (from_tokens(alloc, reader, text), by_value(alloc, text))
+    (
+        from_tokens(alloc, reader, floats, text),
+        by_value(alloc, floats, text),
+    )
 }

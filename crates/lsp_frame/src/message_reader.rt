@@ -1,15 +1,16 @@
 // The short way from a text to a message.
-ghost use Rattle.std.specs.Prelude.{◌≡◌, Some, IfOk, option_and_then, false};
-ghost use Rattle.serde_json.specs.Data.{Members as DataMembers, object};
+ghost use Rattle.std.specs.Prelude.{◌≡◌, Some, IfOk, OnOk, option_and_then, false};
+ghost use Rattle.serde_json.specs.Data.{Members as DataMembers, no_members, object};
 ghost use Rattle.serde_json.specs.Read.{read};
 ghost use Rattle.lsp_rpc.specs.Message.{clean_message, message_has_float};
 ghost use Rattle.lsp_rpc.specs.Shown.{show_message};
+ghost use Rattle.lsp_text.specs.Floats.{read_by};
 ghost use Rattle.lsp_frame.specs.Parts.{AreParts};
 
 use crate::parts::{Parts, message_of, read_parts};
 use json::{Reader, Scratch, Token};
 use lsp_rpc::Message;
-use lsp_text::Unread;
+use lsp_text::{Floats, Unread};
 use std::alloc::Global;
 
 // The room of a longer text isn't kept.
@@ -36,24 +37,47 @@ impl MessageReader {
             (λ m. option_and_then clean_message (read text.now) ≡ Some (show_message m)) }
         ensures clean { IfOk result (λ m. message_has_float (show_message m) ≡ false) }
     {
+        self.read_by(alloc, Floats::Refused, text)
+    }
+
+    /// The same, where floats are let in or aren't. It is `Unread` at one that isn't.
+    pub fn read_by(&mut self, alloc: Global, floats: Floats, text: &str) -> Result<Message, Unread>
+        ensures value { IfOk result (λ m. option_and_then clean_message
+            (read_by floats text.now) ≡ Some (show_message m)) }
+        ensures clean { IfOk result (λ m. message_has_float (show_message m) ≡ false) }
+    {
         let mut scratch = match self.scratch.take() {
             Some(scratch) => scratch,
             None => Box::new(alloc, Scratch::new(alloc))?,
         };
-        let found = parts_of(alloc, text, &mut scratch);
+        let mut parts = Parts {
+            has_version: false,
+            id: None,
+            method: None,
+            params: None,
+            outcome: None,
+            error: None,
+        };
+        let found = parts_of(alloc, floats, text, &mut scratch, &mut parts);
         if text.len() <= KEPT {
             self.scratch = Some(scratch);
         }
-        let parts = found?;
-        let message = message_of(parts)?;
-        Ok(message)
+        found?;
+        message_of(parts)
     }
 }
 
-// The parts of the object that the text is.
-fn parts_of(alloc: Global, text: &str, scratch: &mut Scratch) -> Result<Parts, Unread>
-    ensures { IfOk result (λ p. (ms : DataMembers)
-        × (read text.now ≡ Some (object ms)) × AreParts p ms) }
+// Reads the parts of the object that the text is.
+fn parts_of(
+    alloc: Global,
+    floats: Floats,
+    text: &str,
+    scratch: &mut Scratch,
+    parts: &mut Parts,
+) -> Result<(), Unread>
+    requires { AreParts parts.old no_members }
+    ensures { OnOk result ((ms : DataMembers)
+        × (read_by floats text.now ≡ Some (object ms)) × AreParts parts.new ms) }
 {
     let mut reader = Reader::new(text, scratch)?;
     let token = reader.next().ok_or(Unread)?;
@@ -61,9 +85,9 @@ fn parts_of(alloc: Global, text: &str, scratch: &mut Scratch) -> Result<Parts, U
         Token::BeginObject => {}
         _ => return Err(Unread),
     }
-    let parts = read_parts(alloc, &mut reader)?;
+    read_parts(alloc, &mut reader, floats, parts)?;
     if reader.next().is_some() {
         return Err(Unread);
     }
-    Ok(parts)
+    Ok(())
 }

@@ -7,9 +7,9 @@ ghost use Rattle.lsp_frame.specs.Places.{codec_at, ComesTo};
 ghost use Rattle.lsp_frame.specs.Shown.{show_found, show_transition, IsWithinBytes, IsItemFloatFree, IsFoundFloatFree};
 
 use crate::decode_state::DecodeState;
-use crate::limits::Limits;
 use crate::message_reader::MessageReader;
 use crate::parse_error::ParseError;
+use crate::settings::CodecSettings;
 use crate::transition::{Transition, transition_at};
 use lsp_rpc::Message;
 use no_memory::NoMemory;
@@ -32,7 +32,7 @@ pub(crate) struct Next {
 fn transition_from(
     alloc: Global,
     reader: &mut MessageReader,
-    limits: Limits,
+    settings: CodecSettings,
     state: DecodeState,
     bytes: &[u8],
     place: usize,
@@ -41,13 +41,13 @@ fn transition_from(
     requires place { place ≤ length bytes.now }
     requires clear { IsLooked (drop place bytes.now) looked.old }
     ensures value { IfOk result (λ t. show_transition t
-        ≡ transition_of limits state (drop place bytes.now)) }
+        ≡ transition_of settings state (drop place bytes.now)) }
     ensures within { IfOk result (λ t. IsWithinBytes (length bytes.now - place) t) }
     ensures floats { IfOk result (λ t. IsItemFloatFree t) }
     ensures looked { IsLooked (drop place bytes.now) looked.new }
     ensures memory { OnErr result (IsBodyHere state (drop place bytes.now)) }
 {
-    transition_at(alloc, reader, limits, state, &bytes[place..], looked)
+    transition_at(alloc, reader, settings, state, &bytes[place..], looked)
 }
 
 // With so many bytes at the end a `Content-Length` may begin that goes on after them.
@@ -69,37 +69,37 @@ fn waiting(state: DecodeState, len: usize) -> (DecodeState, usize)
 pub(crate) fn find_next(
     alloc: Global,
     reader: &mut MessageReader,
-    limits: Limits,
+    settings: CodecSettings,
     state: DecodeState,
     bytes: &[u8],
     looked: usize,
 ) -> Result<Next, NoMemory>
     requires clear { IsLooked bytes.now looked }
-    requires allowed { IsAllowed limits state }
+    requires allowed { IsAllowed settings.limits state }
     ensures within { IfOk result (λ r. r.consumed ≤ length bytes.now) }
-    ensures place { IfOk result (λ r. ComesTo (codec_at limits state bytes.now)
+    ensures place { IfOk result (λ r. ComesTo (codec_at settings state bytes.now)
         (option_map show_found r.item)
-        (codec_at limits r.state (drop r.consumed bytes.now))) }
+        (codec_at settings r.state (drop r.consumed bytes.now))) }
     ensures goes { IfOk result (λ r. (last : List Item) (c : List ℕ)
-        → all_from limits last state (bytes.now ++ c)
-        ≡ with_item (option_map show_found r.item) (all_from limits last r.state
+        → all_from settings last state (bytes.now ++ c)
+        ≡ with_item (option_map show_found r.item) (all_from settings last r.state
         (drop r.consumed bytes.now ++ c))) }
     ensures ends { IfOk result (λ r. r.item ≡ None → (last : List Item)
-        → all_from limits last r.state (drop r.consumed bytes.now)
+        → all_from settings last r.state (drop r.consumed bytes.now)
         ≡ (if r.unfinished then last else [])) }
     ensures waits { IfOk result (λ r. r.item ≡ None
-        → GoesNowhere (transition_of limits r.state (drop r.consumed bytes.now))
+        → GoesNowhere (transition_of settings r.state (drop r.consumed bytes.now))
         × IsTrimmed r.state (drop r.consumed bytes.now)) }
-    ensures allowed { IfOk result (λ r. IsAllowed limits r.state) }
+    ensures allowed { IfOk result (λ r. IsAllowed settings.limits r.state) }
     ensures clear { IfOk result (λ r. IsLooked (drop r.consumed bytes.now) r.looked) }
     ensures floats { IfOk result (λ r. IsFoundFloatFree r.item) }
-    ensures memory { OnErr result (all_from limits [] state bytes.now ≢ []) }
+    ensures memory { OnErr result (all_from settings [] state bytes.now ≢ []) }
 {
     let mut at = state;
     let mut place = 0;
     let mut reached = looked;
     'transitions: loop {
-        match transition_from(alloc, reader, limits, at, bytes, place, &mut reached)? {
+        match transition_from(alloc, reader, settings, at, bytes, place, &mut reached)? {
             Transition::Stop => {
                 let (state, n) = waiting(at, bytes.len() - place);
                 return Ok(Next {

@@ -1,16 +1,19 @@
 // The parts of a message, from the tokens of its text.
-ghost use Rattle.std.specs.Prelude.{◌≡◌, ◌<◌, length, Some, IfOk, OnOk, codes, string_bytes, option_map};
+ghost use Rattle.std.specs.Prelude.{◌≡◌, ◌≢◌, ◌<◌, length, Some, IfOk, OnOk, codes, false, string_bytes, option_map};
 ghost use Rattle.json.specs.Json.{value, members};
 ghost use Rattle.serde_json.specs.Data.{Data, Members as DataMembers, string, no_members, put, object};
-ghost use Rattle.serde_json.specs.Read.{of_json, of_members, converted};
+ghost use Rattle.serde_json.specs.Read.{converted};
 ghost use Rattle.serde_json.specs.View.{view};
+ghost use Rattle.serde_json.specs.Written.{has_float};
 ghost use Rattle.lsp_rpc.specs.Message.{id_of, error_of, clean_message};
 ghost use Rattle.lsp_rpc.specs.Shown.{show_id, show_error, show_request, show_message};
+ghost use Rattle.lsp_text.specs.Floats.{of_json_by, of_members_by};
+ghost use Rattle.lsp_text.specs.declared.floats.Floats.{Floats as AnyFloats};
 ghost use Rattle.lsp_frame.specs.Parts.{AreParts};
 
 use json::{Reader, Token};
 use lsp_rpc::{Error, Id, Message, Request, Response, read_error, read_id};
-use lsp_text::{Unread, read_value};
+use lsp_text::{Floats, Unread, read_value};
 use serde_json::Value;
 use std::alloc::Global;
 
@@ -30,7 +33,8 @@ pub struct Parts {
 
 // The version of JSON-RPC.
 fn read_version(reader: &mut Reader<'_>) -> Result<(), Unread>
-    ensures value { OnOk result (converted of_json (value 126 reader.old)
+    ensures value { OnOk result ((floats : AnyFloats)
+        → converted (of_json_by floats) (value 126 reader.old)
         ≡ Some (string (codes "2.0"), reader.new)) }
     ensures shorter { OnOk result (length reader.new < length reader.old) }
 {
@@ -43,7 +47,8 @@ fn read_version(reader: &mut Reader<'_>) -> Result<(), Unread>
 
 // A string.
 fn read_text(alloc: Global, reader: &mut Reader<'_>) -> Result<String, Unread>
-    ensures value { IfOk result (λ s. converted of_json (value 126 reader.old)
+    ensures value { IfOk result (λ s. (floats : AnyFloats)
+        → converted (of_json_by floats) (value 126 reader.old)
         ≡ Some (string (string_bytes s), reader.new)) }
     ensures shorter { OnOk result (length reader.new < length reader.old) }
 {
@@ -74,15 +79,49 @@ fn error_in(value: Value) -> Result<Error, Unread>
     }
 }
 
+impl Parts {
+    // Keeps the error that the value is. A call of its own: few messages have one, and its room is
+    // paid for at each entry to the function that it stands in.
+    #[inline(never)]
+    fn keep_error(&mut self, value: Value) -> Result<(), Unread>
+        requires { has_float (view value) ≡ false }
+        ensures { OnOk result ((ms : DataMembers) → AreParts self.old ms
+            → AreParts self.new (put (codes "error") (view value) ms)) }
+    {
+        self.error = Some(error_in(value)?);
+        Ok(())
+    }
+
+    // Keeps the value of the member of that name, which is neither the version nor the method. That
+    // of another name is dropped.
+    fn keep(&mut self, name: &str, value: Value) -> Result<(), Unread>
+        requires version { name.now ≢ codes "jsonrpc" }
+        requires method { name.now ≢ codes "method" }
+        requires clean { has_float (view value) ≡ false }
+        ensures { OnOk result ((ms : DataMembers) → AreParts self.old ms
+            → AreParts self.new (put name.now (view value) ms)) }
+    {
+        match name {
+            "id" => self.id = Some(id_in(value)?),
+            "params" => self.params = Some(value),
+            "result" => self.outcome = Some(value),
+            "error" => self.keep_error(value)?,
+            _ => drop(value),
+        }
+        Ok(())
+    }
+}
+
 // Reads the value of the member of that name. One of another name is read and dropped.
 fn read_part(
     alloc: Global,
     reader: &mut Reader<'_>,
+    floats: Floats,
     name: &str,
     parts: &mut Parts,
 ) -> Result<(), Unread>
     ensures value { OnOk result ((d : Data)
-        × (converted of_json (value 126 reader.old) ≡ Some (d, reader.new))
+        × (converted (of_json_by floats) (value 126 reader.old) ≡ Some (d, reader.new))
         × ((ms : DataMembers) → AreParts parts.old ms → AreParts parts.new (put name.now d ms))) }
     ensures shorter { OnOk result (length reader.new < length reader.old) }
 {
@@ -90,43 +129,37 @@ fn read_part(
         "jsonrpc" => {
             read_version(reader)?;
             parts.has_version = true;
+            Ok(())
         }
-        "id" => {
-            let value = read_value(alloc, reader, DEPTH)?;
-            parts.id = Some(id_in(value)?);
+        "method" => {
+            parts.method = Some(read_text(alloc, reader)?);
+            Ok(())
         }
-        "method" => parts.method = Some(read_text(alloc, reader)?),
-        "params" => parts.params = Some(read_value(alloc, reader, DEPTH)?),
-        "result" => parts.outcome = Some(read_value(alloc, reader, DEPTH)?),
-        "error" => {
-            let value = read_value(alloc, reader, DEPTH)?;
-            parts.error = Some(error_in(value)?);
+        _ => {
+            let value = read_value(alloc, reader, floats, DEPTH)?;
+            parts.keep(name, value)
         }
-        _ => drop(read_value(alloc, reader, DEPTH)?),
     }
-    Ok(())
 }
 
-// The parts of the object whose members come next, with its closing brace. The last value of a name
-// counts.
-pub(crate) fn read_parts(alloc: Global, reader: &mut Reader<'_>) -> Result<Parts, Unread>
-    ensures value { IfOk result (λ p. (ms : DataMembers)
-        × (converted (λ js. of_members js no_members)
+// Reads the parts of the object whose members come next, with its closing brace. The last value of a
+// name counts.
+pub(crate) fn read_parts(
+    alloc: Global,
+    reader: &mut Reader<'_>,
+    floats: Floats,
+    parts: &mut Parts,
+) -> Result<(), Unread>
+    requires { AreParts parts.old no_members }
+    ensures value { OnOk result ((ms : DataMembers)
+        × (converted (λ js. of_members_by floats js no_members)
         (members (value 126) (length reader.old) reader.old) ≡ Some (ms, reader.new))
-        × AreParts p ms) }
+        × AreParts parts.new ms) }
 {
-    let mut parts = Parts {
-        has_version: false,
-        id: None,
-        method: None,
-        params: None,
-        outcome: None,
-        error: None,
-    };
     'members: while let Some(name) = reader.next_key()? {
-        read_part(alloc, reader, name, &mut parts)?;
+        read_part(alloc, reader, floats, name, parts)?;
     }
-    Ok(parts)
+    Ok(())
 }
 
 // The message that the parts make.

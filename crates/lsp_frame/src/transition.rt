@@ -1,8 +1,8 @@
 // One transition of decoding.
-ghost use Rattle.std.specs.Prelude.{◌≡◌, ◌<◌, ◌≤◌, length, take, codes, IfOk, OnErr, Some};
+ghost use Rattle.std.specs.Prelude.{◌≡◌, ◌<◌, ◌≤◌, ℕ, length, take, codes, IfOk, OnErr, Some};
 ghost use Rattle.lsp_frame.specs.Blocks.{headers_in};
 ghost use Rattle.lsp_frame.specs.Kept.{IsLooked, IsBodyHere};
-ghost use Rattle.lsp_frame.specs.Transitions.{transition as transition_of, at_head as head_transition, at_body as body_transition, at_skip as skip_transition, at_place as search_transition, first_place, go, fault as fault_item};
+ghost use Rattle.lsp_frame.specs.Transitions.{transition as transition_of, at_frame as frame_transition, at_head as head_transition, at_body as body_transition, at_skip as skip_transition, at_place as search_transition, at_length as length_transition, first_place, go, fault as fault_item};
 ghost use Rattle.lsp_frame.specs.Shown.{show_transition, IsWithinBytes, IsItemFloatFree};
 
 use crate::block::block_len;
@@ -13,7 +13,10 @@ use crate::headers::content_length;
 use crate::limits::Limits;
 use crate::message_reader::MessageReader;
 use crate::parse_error::ParseError;
+use crate::plain_head::read_plain_head;
+use crate::settings::CodecSettings;
 use lsp_rpc::Message;
+use lsp_text::Floats;
 use memchr::memmem;
 use no_memory::NoMemory;
 use std::alloc::Global;
@@ -42,10 +45,11 @@ fn at_search(bytes: &[u8]) -> Transition
 fn at_body(
     alloc: Global,
     reader: &mut MessageReader,
+    floats: Floats,
     len: u64,
     bytes: &[u8],
 ) -> Result<Transition, NoMemory>
-    ensures value { IfOk result (λ t. show_transition t ≡ body_transition len bytes.now) }
+    ensures value { IfOk result (λ t. show_transition t ≡ body_transition floats len bytes.now) }
     ensures memory { OnErr result ((0 < len) × (len ≤ length bytes.now)) }
     ensures within { IfOk result (λ t. IsWithinBytes (length bytes.now) t) }
     ensures floats { IfOk result (λ t. IsItemFloatFree t) }
@@ -57,7 +61,7 @@ fn at_body(
         return Ok(Transition::Go(None, DecodeState::Frame, 0));
     }
     let size = len as usize;
-    let found = body_message(alloc, reader, &bytes[..size])?;
+    let found = body_message(alloc, reader, floats, &bytes[..size])?;
     Ok(Transition::Go(Some(found), DecodeState::Frame, size))
 }
 
@@ -79,6 +83,23 @@ fn search_after(fault: ParseError, len: usize) -> Transition
     Transition::Go(Some(Err(fault)), DecodeState::Search, len)
 }
 
+// A body of this length follows a head of so many bytes, or is skipped where it is too long.
+fn at_length(limits: Limits, size: usize, len: u64) -> Transition
+    ensures value { show_transition result ≡ length_transition limits size len }
+    ensures within { (most : ℕ) → size ≤ most → IsWithinBytes most result }
+    ensures floats { IsItemFloatFree result }
+{
+    if limits.body < len {
+        Transition::Go(
+            Some(Err(ParseError::BodyTooLong)),
+            DecodeState::Skip(len),
+            size,
+        )
+    } else {
+        Transition::Go(None, DecodeState::Body(len), size)
+    }
+}
+
 // The transition at a whole block.
 fn at_head(limits: Limits, block: &[u8]) -> Transition
     requires { 0 < length block.now }
@@ -93,17 +114,7 @@ fn at_head(limits: Limits, block: &[u8]) -> Transition
     match content_length(block, &head) {
         Err(fault) => search_after(fault, block.len()),
         Ok(None) => search_after(ParseError::MissingContentLength, 1),
-        Ok(Some(len)) => {
-            if limits.body < len {
-                Transition::Go(
-                    Some(Err(ParseError::BodyTooLong)),
-                    DecodeState::Skip(len),
-                    block.len(),
-                )
-            } else {
-                Transition::Go(None, DecodeState::Body(len), block.len())
-            }
-        }
+        Ok(Some(len)) => at_length(limits, block.len(), len),
     }
 }
 
@@ -118,17 +129,16 @@ fn front(bytes: &[u8], len: u64) -> &[u8]
     }
 }
 
-// The transition where a frame begins; `looked` tells how far its empty line was looked for.
-fn at_frame(limits: Limits, bytes: &[u8], looked: &mut usize) -> Transition
-    requires { IsLooked bytes.now looked.old }
-    ensures value { show_transition result ≡ transition_of limits DecodeState.Frame bytes.now }
+// The transition where a frame begins, by the block at the front; `looked` tells how far its empty
+// line was looked for.
+fn at_block(limits: Limits, bytes: &[u8], looked: &mut usize) -> Transition
+    requires some { 0 < length bytes.now }
+    requires clear { IsLooked bytes.now looked.old }
+    ensures value { show_transition result ≡ frame_transition limits bytes.now }
     ensures within { IsWithinBytes (length bytes.now) result }
     ensures floats { IsItemFloatFree result }
     ensures looked { IsLooked bytes.now looked.new }
 {
-    if bytes.is_empty() {
-        return Transition::Stop;
-    }
     let front = front(bytes, limits.head);
     match block_len(front, *looked) {
         Some(len) => {
@@ -146,26 +156,43 @@ fn at_frame(limits: Limits, bytes: &[u8], looked: &mut usize) -> Transition
     }
 }
 
+// The transition where a frame begins. A head of the usual form needs no grammar.
+fn at_frame(limits: Limits, bytes: &[u8], looked: &mut usize) -> Transition
+    requires { IsLooked bytes.now looked.old }
+    ensures value { show_transition result ≡ frame_transition limits bytes.now }
+    ensures within { IsWithinBytes (length bytes.now) result }
+    ensures floats { IsItemFloatFree result }
+    ensures looked { IsLooked bytes.now looked.new }
+{
+    if bytes.is_empty() {
+        return Transition::Stop;
+    }
+    match read_plain_head(bytes, limits.head) {
+        Some(head) => at_length(limits, head.size, head.len),
+        None => at_block(limits, bytes, looked),
+    }
+}
+
 // The transition of this state.
 pub(crate) fn transition_at(
     alloc: Global,
     reader: &mut MessageReader,
-    limits: Limits,
+    settings: CodecSettings,
     state: DecodeState,
     bytes: &[u8],
     looked: &mut usize,
 ) -> Result<Transition, NoMemory>
     requires { IsLooked bytes.now looked.old }
-    ensures value { IfOk result (λ t. show_transition t ≡ transition_of limits state bytes.now) }
+    ensures value { IfOk result (λ t. show_transition t ≡ transition_of settings state bytes.now) }
     ensures within { IfOk result (λ t. IsWithinBytes (length bytes.now) t) }
     ensures floats { IfOk result (λ t. IsItemFloatFree t) }
     ensures looked { IsLooked bytes.now looked.new }
     ensures memory { OnErr result (IsBodyHere state bytes.now) }
 {
     match state {
-        DecodeState::Frame => Ok(at_frame(limits, bytes, looked)),
+        DecodeState::Frame => Ok(at_frame(settings.limits, bytes, looked)),
         DecodeState::Search => Ok(at_search(bytes)),
-        DecodeState::Body(len) => at_body(alloc, reader, len, bytes),
+        DecodeState::Body(len) => at_body(alloc, reader, settings.floats, len, bytes),
         DecodeState::Skip(len) => Ok(at_skip(len, bytes)),
     }
 }

@@ -1,2 +1,5 @@
-pub mod Client
-pub mod Server
+pub mod MethodRow
+pub mod Methods
+pub mod Shapes
+pub mod Standard
+pub mod ServiceTable

@@ -1,8 +1,16 @@
-//! The records that gather those of several crates, and the methods of the protocol.
+//! The methods of LSP 3.17: each as a type; and those that a client calls on a server, with the table
+//! that they are found in.
 #![tactic(auto)]
 
-mod client;
-mod server;
+mod law;
+mod method;
+pub mod notification;
+pub mod request;
+mod table;
 
-pub use client::{ClientCapabilities, InitializeParams};
-pub use server::{InitializeResult, ServerCapabilities};
+pub use law::each_at_its_place;
+pub use method::{
+    EditMethod, GotoMethod, HierarchyMethod, LifeMethod, METHODS, Method, STANDARD, ShowMethod,
+    SyncMethod, TokenMethod, WorkMethod,
+};
+pub use table::ServiceTable;

@@ -23,6 +23,8 @@ pub enum Status {
     NoMemory = 6,
     /// The desk had no turns left.
     DeskSpent = 7,
+    /// The input isn't of the form that the program reads.
+    BadInput = 8,
 }
 
 /// The exit status of a program whose serving or relaying ended with this error.

@@ -7,12 +7,13 @@ use Rattle.lsp_frame.specs.Codec.{Item, At, more, with_item, told_at}
 use Rattle.lsp_frame.specs.Frames.{framed}
 use Rattle.lsp_desk.specs.declared.life.Life.{Life}
 use Rattle.lsp_server.specs.Served.{CallBytes, call_bytes}
+use Rattle.lsp_stdio.specs.Status.{IsShutDown, IsNotShutDown}
+use Rattle.lsp_stdio.proofs.StdioLemmas.{on_some}
 use Rattle.lsp_sample.specs.declared.arguments.Setting.{Setting}
 use Rattle.lsp_sample.specs.declared.arguments.MadeUp.{MadeUp}
 use Rattle.lsp_sample.specs.Arguments.{default_setting}
-use Rattle.lsp_sample.specs.Run.{Served, IsShutDown, IsNotShutDown}
+use Rattle.lsp_sample.specs.Run.{Served}
 use Rattle.lsp_sample.specs.Bulk.{next_drawn, number_drawn, body_of, bodies, generated, summary, Writes, IsSummary}
-use Rattle.lsp_sample.proofs.RunLemmas.{on_some}
 use Rattle.lsp_sample.specs.Tally.{one, counts}
 
 -- ---- what is made up
@@ -37,7 +38,7 @@ regrouped a b c d e =
 -- ---- what is counted
 
 more-none : (a : At) → more a [] ≡ a
-more-none a = ap (λ (l : List ℕ). let x : At = record { limits = a.limits; state = a.state; held = l } in x) (append-nil a.held)
+more-none a = ap (λ (l : List ℕ). let x : At = record { settings = a.settings; state = a.state; held = l } in x) (append-nil a.held)
 
 pub told_next : (old new : At) (x : Option Item) → ((c : List ℕ) → told_at (more old c) ≡ with_item x (told_at (more new c))) → told_at old ≡ with_item x (told_at new)
 told_next old new x tells = ap told_at (sym (more-none old)) ∙ tells [] ∙ ap (λ a. with_item x (told_at a)) (more-none new)

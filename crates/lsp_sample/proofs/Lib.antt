@@ -1,4 +1,3 @@
-mod ParamsLemmas
 pub mod RunLemmas
 mod ArgumentsLemmas
 pub mod BulkLemmas

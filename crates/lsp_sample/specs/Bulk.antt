@@ -25,11 +25,11 @@ number_drawn seed (suc k) = next_drawn (number_drawn seed k)
 abbrev pub execute : ℕ → List ℕ → List ℕ
 execute k params = codes "{\"jsonrpc\":\"2.0\",\"method\":\"workspace/executeCommand\",\"params\":{\"command\":\"" ++ params ++ codes "},\"id\":" ++ decimal k ++ codes "}"
 
-abbrev pub echo : ℕ → List ℕ
-echo k = execute k (codes "echo\",\"arguments\":[" ++ decimal k ++ codes "]")
+abbrev pub echo_text : ℕ → List ℕ
+echo_text k = execute k (codes "echo\",\"arguments\":[" ++ decimal k ++ codes "]")
 
-abbrev pub wait : ℕ → ℕ → List ℕ
-wait k polls = execute k (codes "wait\",\"arguments\":[" ++ decimal polls ++ codes "]")
+abbrev pub wait_text : ℕ → ℕ → List ℕ
+wait_text k polls = execute k (codes "wait\",\"arguments\":[" ++ decimal polls ++ codes "]")
 
 -- a method that no server has
 abbrev pub unknown_text : ℕ → List ℕ
@@ -45,8 +45,8 @@ initialized_text = codes "{\"jsonrpc\":\"2.0\",\"method\":\"initialized\",\"para
 -- the kinds of messages, each as likely as another
 abbrev pub by_kind : ℕ → ℕ → ℕ → List ℕ
 by_kind kind k x =
-    if kind == 0 then echo k
-    else (if kind == 1 then wait k (x % 4)
+    if kind == 0 then echo_text k
+    else (if kind == 1 then wait_text k (x % 4)
     else (if kind == 2 then unknown_text k
     else (if kind == 3 then unknown_command k
     else initialized_text)))

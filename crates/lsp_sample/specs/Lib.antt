@@ -1,8 +1,3 @@
-pub mod Calls
-pub mod Params
-pub mod Shown
-pub mod Sample
-pub mod SampleLaws
 pub mod Arguments
 pub mod Run
 pub mod Bulk

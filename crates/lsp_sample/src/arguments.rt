@@ -1,6 +1,6 @@
 // What the program's arguments ask for.
 ghost use Rattle.std.specs.Prelude.{◌≡◌, ◌≤◌, IfSome};
-ghost use Rattle.lsp_sample.specs.Arguments.{positive_of, count_of, numbers_of, session_of, form_asked, IsForm};
+ghost use Rattle.lsp_sample.specs.Arguments.{positive_of, count_of, numbers_of, session_of, clone_count_of, message_count_of, clones_of, form_asked, IsForm};
 
 use lsp_program::number;
 
@@ -22,6 +22,15 @@ pub struct MadeUp {
     pub count: u64,
 }
 
+/// How callers talk.
+#[derive(Clone, Copy, Debug, PartialEq, Eq)]
+pub struct Clones {
+    /// How many callers there are.
+    pub count: u64,
+    /// How many messages each of them sends.
+    pub messages: u64,
+}
+
 /// What the program does.
 #[derive(Clone, Copy, Debug, PartialEq, Eq)]
 pub enum Form {
@@ -29,6 +38,8 @@ pub enum Form {
     Serve(Setting),
     /// Serves a made-up session in memory, and writes its summary.
     Bulk(MadeUp),
+    /// Serves one message in memory while callers talk, and writes how much they said.
+    Talk(Clones),
 }
 
 pub(crate) const DEFAULT: Setting = Setting { max: 4, rounds: 8 };
@@ -36,8 +47,15 @@ pub(crate) const DEFAULT: Setting = Setting { max: 4, rounds: 8 };
 /// The most messages of a made-up session.
 pub const MOST: u64 = 100_000;
 
-/// What the arguments ask for: none, `serve`, `serve MAX ROUNDS`, or `bulk SEED COUNT`, where all
-/// are decimal numbers, MAX and ROUNDS of at least 1 and COUNT from 1 to [`MOST`].
+/// The most callers of a talk.
+pub const MOST_CLONES: u64 = 4;
+
+/// The most messages of a caller.
+pub const MOST_SAID: u64 = 1000;
+
+/// What the arguments ask for: none, `serve`, `serve MAX ROUNDS`, `bulk SEED COUNT`, or
+/// `talk CLONES MESSAGES`, where all are decimal numbers, MAX and ROUNDS of at least 1, COUNT from 1
+/// to [`MOST`], CLONES from 1 to [`MOST_CLONES`], and MESSAGES at most [`MOST_SAID`].
 pub(crate) fn read_arguments(arguments: &Vec<String>) -> Option<Form>
     ensures value { result ≡ form_asked arguments.now.items }
     ensures form { IfSome result IsForm }
@@ -50,6 +68,9 @@ pub(crate) fn read_arguments(arguments: &Vec<String>) -> Option<Form>
         }
         [argument, seed, count] if argument.as_str() == "bulk" => {
             Some(Form::Bulk(session(seed.as_str(), count.as_str())?))
+        }
+        [argument, count, messages] if argument.as_str() == "talk" => {
+            Some(Form::Talk(talk(count.as_str(), messages.as_str())?))
         }
         _ => None,
     }
@@ -84,6 +105,37 @@ fn few(argument: &str) -> Option<u64>
 {
     match positive(argument) {
         Some(n) if n <= MOST => Some(n),
+        _ => None,
+    }
+}
+
+fn talk(count: &str, messages: &str) -> Option<Clones>
+    ensures value { result ≡ clones_of count.now messages.now }
+    ensures few { IfSome result (λ clones. (clones.count ≤ MOST_CLONES)
+        × (clones.messages ≤ MOST_SAID)) }
+{
+    match (clone_count(count), message_count(messages)) {
+        (Some(count), Some(messages)) => Some(Clones { count, messages }),
+        _ => None,
+    }
+}
+
+fn clone_count(argument: &str) -> Option<u64>
+    ensures value { result ≡ clone_count_of argument.now }
+    ensures few { IfSome result (λ n. n ≤ MOST_CLONES) }
+{
+    match positive(argument) {
+        Some(n) if n <= MOST_CLONES => Some(n),
+        _ => None,
+    }
+}
+
+fn message_count(argument: &str) -> Option<u64>
+    ensures value { result ≡ message_count_of argument.now }
+    ensures few { IfSome result (λ n. n ≤ MOST_SAID) }
+{
+    match number(argument) {
+        Some(n) if n <= MOST_SAID => Some(n),
         _ => None,
     }
 }

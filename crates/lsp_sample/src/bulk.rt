@@ -5,15 +5,15 @@ ghost use Rattle.lsp_sample.specs.Tally.{IsCounted};
 ghost use Rattle.lsp_frame.specs.Codec.{shown, message as message_item};
 ghost use Rattle.lsp_frame.specs.Frames.{framed};
 ghost use Rattle.lsp_server.specs.SourceSink.{CountRose, IsFlushed};
-ghost use Rattle.lsp_sample.specs.Bulk.{next_drawn, body_of, bodies, echo as echo_lem, wait as wait_lem, unknown_text as unknown_text_lem, unknown_command as unknown_command_lem, shutdown as shutdown_lem, generated, read_of, is_reply, is_error, is_own, summary as summary_lem, IsSummary, WroteSummary, WroteSome};
+ghost use Rattle.lsp_sample.specs.Bulk.{next_drawn, body_of, bodies, echo_text, wait_text, unknown_text as unknown_text_lem, unknown_command as unknown_command_lem, shutdown as shutdown_lem, generated, read_of, is_reply, is_error, is_own, summary as summary_lem, IsSummary, WroteSummary, WroteSome};
 
 use crate::arguments::{DEFAULT, MadeUp};
-use crate::line::write_line;
 use crate::run::serve;
 use lsp_frame::{Decoded, LanguageServerCodec};
 use lsp_program::Status;
 use lsp_rpc::{Message, NoMemory};
 use lsp_server::{NeverSink, NeverSource, Sink};
+use lsp_talk::write_line;
 use std::alloc::Global;
 
 const INITIALIZE: &str =
@@ -123,7 +123,7 @@ fn push_frame(alloc: Global, input: &mut Vec<u8>, body: &str) -> Result<(), NoMe
 }
 
 fn echo(alloc: Global, k: u64) -> Result<String, NoMemory>
-    ensures { IfOk result (λ body. string_bytes body ≡ echo_lem k) }
+    ensures { IfOk result (λ body. string_bytes body ≡ echo_text k) }
 {
     Ok(format!(in alloc;
         "{{\"jsonrpc\":\"2.0\",\"method\":\"workspace/executeCommand\",\"params\":{{\"command\":\"echo\",\"arguments\":[{k}]}},\"id\":{k}}}"
@@ -131,7 +131,7 @@ fn echo(alloc: Global, k: u64) -> Result<String, NoMemory>
 }
 
 fn wait(alloc: Global, k: u64, polls: u64) -> Result<String, NoMemory>
-    ensures { IfOk result (λ body. string_bytes body ≡ wait_lem k polls) }
+    ensures { IfOk result (λ body. string_bytes body ≡ wait_text k polls) }
 {
     Ok(format!(in alloc;
         "{{\"jsonrpc\":\"2.0\",\"method\":\"workspace/executeCommand\",\"params\":{{\"command\":\"wait\",\"arguments\":[{polls}]}},\"id\":{k}}}"

@@ -3,22 +3,21 @@
 
 mod arguments;
 mod bulk;
-mod command;
-mod line;
+#[cfg(test)]
+mod editors;
 #[cfg(test)]
 mod round_trips;
 mod run;
-mod sample;
 #[cfg(test)]
 mod tests;
 
-pub use arguments::{Form, MOST, MadeUp, Setting};
-pub use command::{Command, Waiting};
+pub use arguments::{Clones, Form, MOST, MOST_CLONES, MOST_SAID, MadeUp, Setting};
 pub use lsp_program::Status;
 use lsp_program::words;
+pub use lsp_sample_server::{Command, Sample, SampleCall, Waiting};
 use lsp_server::{ReadSource, Sink, WriteSink};
+use lsp_shared::SharedDesk;
 pub use run::run;
-pub use sample::{Sample, SampleCall};
 use std::env;
 use std::io::BufWriter;
 use std::process::ExitCode;
@@ -31,9 +30,13 @@ fn main(rt: HostRuntime) -> ExitCode {
     let Ok(output) = BufWriter::new(rt.alloc(), rt.stdout()) else {
         return ExitCode::from(Status::NoMemory as u8);
     };
+    let Ok((desk, seat)) = SharedDesk::new(rt.alloc()) else {
+        return ExitCode::from(Status::NoMemory as u8);
+    };
+    let owner = desk.owner(&rt, seat);
     let mut source = ReadSource::new(rt.stdin());
     let mut sink = WriteSink::new(output);
-    let status = run(rt.alloc(), &arguments, &mut source, &mut sink);
+    let (status, _) = run(&rt, rt.alloc(), &arguments, owner, &mut source, &mut sink);
 
     // After a failure some of what was written may still wait here; nothing can be told of a second
     // one.

@@ -1,17 +1,19 @@
 // Messages of every kind, encoded and decoded.
 ghost use Rattle.std.specs.Prelude.{◌≡◌, IfOk, false};
+ghost use Rattle.lsp_frame.specs.Shown.{DecodedIsFloatFree};
 ghost use Rattle.lsp_rpc.specs.Message.{message_has_float};
 ghost use Rattle.lsp_rpc.specs.Shown.{show_message};
 
 use bytes::BytesMut;
 use lsp_frame::{Decoded, LanguageServerCodec};
 use lsp_rpc::{Message, read_message};
+use no_memory::NoMemory;
 use serde_json::Value;
 use std::alloc::Global;
 use std::test::Fail;
 
 /// Texts of messages, as they are written.
-const TEXTS: [&str; 41] = [
+const TEXTS: &[&str] = &[
     "{\"jsonrpc\":\"2.0\",\"method\":\"exit\"}",
     "{\"jsonrpc\":\"2.0\",\"method\":\"a\",\"id\":0}",
     "{\"jsonrpc\":\"2.0\",\"method\":\"a\",\"id\":-1}",
@@ -65,30 +67,62 @@ fn message(alloc: Global, text: &str) -> Result<Message, Fail>
     }
 }
 
-/// The message of this text is encoded as the frame of the text, and that decodes to it alone.
-fn expect_back(alloc: Global, text: &str) -> Result<(), Fail> {
-    let mut codec = LanguageServerCodec::default(alloc);
-    let mut frame = BytesMut::new(alloc);
-    codec.encode(&message(alloc, text)?, &mut frame)?;
-    let length = text.len();
-    let head = format!(in alloc; "Content-Length: {length}\r\n\r\n")?;
-    let mut want = head;
-    want.push_str(text)?;
-    if frame.as_slice() != want.as_str().as_bytes() {
+/// The message of this text is encoded as the frame of the text.
+fn expect_frame(
+    alloc: Global,
+    codec: &mut LanguageServerCodec,
+    frame: &mut BytesMut,
+    text: &str,
+) -> Result<(), Fail> {
+    let message = message(alloc, text)?;
+    let encoded = codec.encode(&message, frame);
+    drop(message);
+    encoded?;
+    let want = format!(in alloc; "Content-Length: {}\r\n\r\n{text}", text.len())?;
+    if frame.as_slice() != want.as_bytes() {
         return Err(Fail::new(format_args!("another frame of {text}")));
     }
-    codec.feed(frame.as_slice())?;
-    let Decoded::Item(back) = codec.decode()? else {
-        return Err(Fail::new(format_args!("no message in the frame of {text}")));
-    };
-    let written = back.to_text(alloc)?;
+    Ok(())
+}
+
+fn text_of(alloc: Global, item: &Decoded) -> Result<String, NoMemory>
+    requires { DecodedIsFloatFree item.now }
+{
+    match item {
+        Decoded::Item(message) => message.to_text(alloc),
+        _ => Ok(String::from_str(alloc, "no message")?),
+    }
+}
+
+/// That frame decodes to the message alone.
+fn expect_item(
+    alloc: Global,
+    codec: &mut LanguageServerCodec,
+    frame: &[u8],
+    text: &str,
+) -> Result<(), Fail> {
+    codec.feed(frame)?;
+    let item = codec.decode()?;
+    let written = text_of(alloc, &item);
+    drop(item);
+    let written = written?;
     if written.as_str() != text {
         return Err(Fail::new(format_args!("{text} came back as {written}")));
     }
-    match codec.decode()? {
-        Decoded::More => Ok(()),
-        _ => Err(Fail::new(format_args!("more than {text}"))),
+    let rest = codec.decode()?;
+    let is_alone = matches!(&rest, Decoded::More);
+    drop(rest);
+    if !is_alone {
+        return Err(Fail::new(format_args!("more than {text}")));
     }
+    Ok(())
+}
+
+fn expect_back(alloc: Global, text: &str) -> Result<(), Fail> {
+    let mut codec = LanguageServerCodec::default(alloc);
+    let mut frame = BytesMut::new(alloc);
+    expect_frame(alloc, &mut codec, &mut frame, text)?;
+    expect_item(alloc, &mut codec, frame.as_slice(), text)
 }
 
 #[test]

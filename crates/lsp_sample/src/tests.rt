@@ -5,12 +5,16 @@ use crate::{Sample, run};
 use lsp_desk::{ClientSocket, PlainDesk};
 use lsp_rpc::Id;
 use lsp_server::{
-    MemorySink, MemorySource, NeverSink, NeverSource, ServeError, Served, Server, Stopped,
+    MemorySink, MemorySource, NeverSink, NeverSource, ServeError, Served, Server, Sink, Source,
+    Stopped,
 };
 use lsp_session::InOrder;
+use lsp_shared::SharedDesk;
 use std::alloc::{AllocError, Global};
 use std::fmt::Debug;
+use std::sync::Wait;
 use std::test::Fail;
+use std::thread::Threads;
 
 const INITIALIZE: &str =
     "{\"jsonrpc\":\"2.0\",\"method\":\"initialize\",\"params\":{\"capabilities\":{}},\"id\":1}";
@@ -36,7 +40,7 @@ type Row = (
     u8,
 );
 
-const SESSIONS: [Row; 20] = [
+const SESSIONS: &[Row] = &[
     (
         "a whole session",
         &[],
@@ -285,7 +289,7 @@ const SESSIONS: [Row; 20] = [
 ];
 
 /// Bytes that are not all frames: the bytes sent, those of the answer, and the exit status.
-const STRETCHES: [(&str, &[u8], &[u8], u8); 3] = [
+const STRETCHES: &[(&str, &[u8], &[u8], u8)] = &[
     (
         "a head that is cut",
         b"Content-Length: 33\r\n\r\n{\"jsonrp",
@@ -307,7 +311,7 @@ const STRETCHES: [(&str, &[u8], &[u8], u8); 3] = [
 ];
 
 /// Arguments that are none of the program's forms.
-const OTHER_ARGUMENTS: [&[&str]; 12] = [
+const OTHER_ARGUMENTS: &[&[&str]] = &[
     &["serve", "0", "8"],
     &["serve", "4", "0"],
     &["serve", "4"],
@@ -317,6 +321,10 @@ const OTHER_ARGUMENTS: [&[&str]; 12] = [
     &["serve", "4", "18446744073709551616"],
     &["serve", "4", "8", "1"],
     &["bulk", "1", "0"],
+    &["talk", "0", "1"],
+    &["talk", "5", "1"],
+    &["talk", "1", "1001"],
+    &["talk", "2"],
     &["help"],
     &["--help"],
     &[""],
@@ -370,16 +378,35 @@ fn copied(alloc: Global, bytes: &[u8]) -> Result<Vec<u8>, AllocError> {
     Ok(copy)
 }
 
+// Runs the program over a new desk.
+fn run_over<R: Threads + Wait + Sync, I: Source, O: Sink>(
+    rt: &R,
+    alloc: Global,
+    arguments: &Vec<String>,
+    source: &mut I,
+    sink: &mut O,
+) -> Result<u8, Fail> {
+    let Ok((desk, seat)) = SharedDesk::new(alloc) else {
+        return Err(Fail::new("out of memory"));
+    };
+    let (status, _) = run(rt, alloc, arguments, desk.owner(rt, seat), source, sink);
+    Ok(status)
+}
+
 #[test]
 fn sessions(rt: HostRuntime) -> Result<(), Fail> {
     let alloc = rt.alloc();
     for (name, arguments, sent, answers, status) in SESSIONS {
-        let want = answers_framed(alloc, answers)?;
-        let arguments = arguments_of(alloc, arguments)?;
-        let mut source = NeverSource::new(all_framed(alloc, sent)?, 4096);
+        let want = answers_framed(alloc, *answers)?;
+        let arguments = arguments_of(alloc, *arguments)?;
+        let mut source = NeverSource::new(all_framed(alloc, *sent)?, 4096);
         let mut sink = NeverSink::new(alloc);
-        same(name, run(alloc, &arguments, &mut source, &mut sink), status)?;
-        same(name, sink.bytes(), want.as_slice())?;
+        same(
+            *name,
+            run_over(&rt, alloc, &arguments, &mut source, &mut sink)?,
+            *status,
+        )?;
+        same(*name, sink.bytes(), want.as_slice())?;
     }
     Ok(())
 }
@@ -390,10 +417,14 @@ fn stretches(rt: HostRuntime) -> Result<(), Fail> {
     let arguments = arguments_of(alloc, &["serve"])?;
     for (name, sent, want, status) in STRETCHES {
         for piece in [1, 7, 4096] {
-            let mut source = NeverSource::new(copied(alloc, sent)?, piece);
+            let mut source = NeverSource::new(copied(alloc, *sent)?, piece);
             let mut sink = NeverSink::new(alloc);
-            same(name, run(alloc, &arguments, &mut source, &mut sink), status)?;
-            same(name, sink.bytes(), want)?;
+            same(
+                *name,
+                run_over(&rt, alloc, &arguments, &mut source, &mut sink)?,
+                *status,
+            )?;
+            same(*name, sink.bytes(), *want)?;
         }
     }
     Ok(())
@@ -406,7 +437,7 @@ fn other_arguments(rt: HostRuntime) -> Result<(), Fail> {
         let arguments = arguments_of(alloc, texts)?;
         let mut source = NeverSource::new(all_framed(alloc, &[INITIALIZE])?, 4096);
         let mut sink = NeverSink::new(alloc);
-        let status = run(alloc, &arguments, &mut source, &mut sink);
+        let status = run_over(&rt, alloc, &arguments, &mut source, &mut sink)?;
         if status != 2 || !sink.bytes().is_empty() {
             return Err(Fail::new(format_args!("{texts:?}: status {status}")));
         }
@@ -415,7 +446,8 @@ fn other_arguments(rt: HostRuntime) -> Result<(), Fail> {
 }
 
 // Reads, and writes with flushes, are numbered from 1; the ones of these numbers fail.
-fn try_stop(
+fn try_stop<R: Threads + Wait + Sync>(
+    rt: &R,
     alloc: Global,
     name: &str,
     read: u64,
@@ -431,7 +463,11 @@ fn try_stop(
     let sent = all_framed(alloc, &[INITIALIZE])?;
     let mut source = MemorySource::new(sent, 97, vec![in alloc; read]?);
     let mut sink = MemorySink::new(alloc, vec![in alloc; call]?);
-    same(name, run(alloc, &arguments, &mut source, &mut sink), status)?;
+    same(
+        name,
+        run_over(rt, alloc, &arguments, &mut source, &mut sink)?,
+        status,
+    )?;
     same(name, sink.bytes(), want.as_slice())
 }
 
@@ -439,6 +475,7 @@ fn try_stop(
 fn failing_reads_and_writes(rt: HostRuntime) -> Result<(), Fail> {
     let alloc = rt.alloc();
     try_stop(
+        &rt,
         alloc,
         "the second read, after the whole frame",
         2,
@@ -446,8 +483,9 @@ fn failing_reads_and_writes(rt: HostRuntime) -> Result<(), Fail> {
         3,
         &[INITIALIZED],
     )?;
-    try_stop(alloc, "the first write", 0, 1, 4, &[])?;
+    try_stop(&rt, alloc, "the first write", 0, 1, 4, &[])?;
     try_stop(
+        &rt,
         alloc,
         "the first flush, after the first write",
         0,
@@ -472,7 +510,7 @@ struct Limited {
     unanswered: &'static [i64],
 }
 
-const LIMITED: [Limited; 6] = [
+const LIMITED: &[Limited] = &[
     Limited {
         name: "the input in pieces",
         max: 4,
@@ -585,6 +623,29 @@ fn served_with(
         )
 }
 
+// The ids that are left, or why the session stopped; the desk is let go.
+pub(crate) fn ids_left(
+    served: Result<Served<Sample, PlainDesk>, Stopped<PlainDesk>>,
+) -> Result<Vec<Id>, ServeError> {
+    match served {
+        Ok(
+            Served {
+                service: Sample,
+                desk,
+                exited: _,
+                unanswered,
+            },
+        ) => {
+            drop(desk);
+            Ok(unanswered)
+        }
+        Err(Stopped { error, desk }) => {
+            drop(desk);
+            Err(error)
+        }
+    }
+}
+
 fn try_limited(alloc: Global, row: &Limited) -> Result<(), Fail> {
     if row.max == 0 || row.rounds == 0 {
         return Err(Fail::new(row.name));
@@ -592,10 +653,7 @@ fn try_limited(alloc: Global, row: &Limited) -> Result<(), Fail> {
     let want = all_framed(alloc, row.answers)?;
     let mut source = NeverSource::new(all_framed(alloc, row.sent)?, 50);
     let mut sink = NeverSink::new(alloc);
-    let left = match served_with(alloc, row, &mut source, &mut sink) {
-        Ok(served) => served.unanswered,
-        Err(stopped) => return Err(Fail::from(stopped.error)),
-    };
+    let left = ids_left(served_with(alloc, row, &mut source, &mut sink))?;
     same(row.name, left.len(), row.unanswered.len())?;
     for (id, want) in left.iter().zip(row.unanswered) {
         same(row.name, *id == Id::Number(*want), true)?;
@@ -605,7 +663,7 @@ fn try_limited(alloc: Global, row: &Limited) -> Result<(), Fail> {
 
 #[test]
 fn limits(rt: HostRuntime) -> Result<(), Fail> {
-    for row in &LIMITED {
+    for row in LIMITED {
         try_limited(rt.alloc(), row)?;
     }
     Ok(())
@@ -619,61 +677,78 @@ fn granted_reads(rt: HostRuntime) -> Result<(), Fail> {
     let mut source = NeverSource::new(all_framed(alloc, &[INITIALIZE])?, 50);
     let mut sink = NeverSink::new(alloc);
     let server = Server::new(ClientSocket::new(PlainDesk::new(alloc)));
-    match server.serve(alloc, &mut source, &mut sink, Sample, &mut InOrder, 1, 8) {
-        Err(stopped) => same("the error", stopped.error, ServeError::ReadsSpent)?,
-        Ok(_) => return Err(Fail::new("no reads were spent")),
-    }
+    let served = server.serve(alloc, &mut source, &mut sink, Sample, &mut InOrder, 1, 8);
+    let error = ids_left(served).err();
+    same("the error", error, Some(ServeError::ReadsSpent))?;
     same("the bytes", sink.bytes().len(), 0)
 }
 
+const ERRORS: &[(ServeError, &str)] = &[
+    (ServeError::ReadFault, "read failed"),
+    (ServeError::WriteFault, "write failed"),
+    (ServeError::ReadsSpent, "reads spent"),
+    (ServeError::DeskSpent(u64::MAX), "desk spent"),
+    (ServeError::NoMemory, "out of memory"),
+];
+
 #[test]
 fn texts_of_errors(rt: HostRuntime) -> Result<(), Fail> {
-    for (error, want) in [
-        (ServeError::ReadFault, "read failed"),
-        (ServeError::WriteFault, "write failed"),
-        (ServeError::ReadsSpent, "reads spent"),
-        (ServeError::DeskSpent(u64::MAX), "desk spent"),
-        (ServeError::NoMemory, "out of memory"),
-    ] {
-        same(want, error.to_string(rt.alloc())?.as_str(), want)?;
+    for (error, want) in ERRORS {
+        same(*want, error.to_string(rt.alloc())?.as_str(), *want)?;
     }
     Ok(())
 }
 
-// The line that `bulk` writes for these arguments, without a read.
-fn line_of(alloc: Global, texts: &[&str]) -> Result<Vec<u8>, Fail> {
+// The line that `bulk` or `talk` writes for these arguments, without a read.
+fn line_of<R: Threads + Wait + Sync>(
+    rt: &R,
+    alloc: Global,
+    texts: &[&str],
+) -> Result<Vec<u8>, Fail> {
     let arguments = arguments_of(alloc, texts)?;
     let mut source = MemorySource::new(Vec::new(alloc), 1, vec![in alloc; 1]?);
     let mut sink = NeverSink::new(alloc);
     same(
         "the status",
-        run(alloc, &arguments, &mut source, &mut sink),
+        run_over(rt, alloc, &arguments, &mut source, &mut sink)?,
         0,
     )?;
     Ok(copied(alloc, sink.bytes())?)
 }
 
+const MADE_UP: &[(&str, &[&str], &[u8])] = &[
+    (
+        "two items",
+        &["bulk", "0", "2"],
+        b"replies 4 errors 1 messages 0 bytes 289\n",
+    ),
+    (
+        "many items",
+        &["bulk", "7", "100000"],
+        b"replies 80110 errors 40083 messages 19892 bytes 9388599\n",
+    ),
+    (
+        "the same again",
+        &["bulk", "7", "100000"],
+        b"replies 80110 errors 40083 messages 19892 bytes 9388599\n",
+    ),
+];
+
 #[test]
 fn made_up_sessions(rt: HostRuntime) -> Result<(), Fail> {
     let alloc = rt.alloc();
-    for (name, texts, want) in [
-        (
-            "two items",
-            &["bulk", "0", "2"],
-            b"replies 4 errors 1 messages 0 bytes 289\n".as_slice(),
-        ),
-        (
-            "many items",
-            &["bulk", "7", "100000"],
-            b"replies 80110 errors 40083 messages 19892 bytes 9388599\n".as_slice(),
-        ),
-        (
-            "the same again",
-            &["bulk", "7", "100000"],
-            b"replies 80110 errors 40083 messages 19892 bytes 9388599\n".as_slice(),
-        ),
-    ] {
-        same(name, line_of(alloc, texts)?.as_slice(), want)?;
+    for (name, texts, want) in MADE_UP {
+        same(*name, line_of(&rt, alloc, *texts)?.as_slice(), *want)?;
     }
     Ok(())
+}
+
+#[test]
+fn a_talk(rt: HostRuntime) -> Result<(), Fail> {
+    let line = line_of(&rt, rt.alloc(), &["talk", "2", "3"])?;
+    same(
+        "two callers",
+        line.as_slice(),
+        b"sent 6 delivered 6\n".as_slice(),
+    )
 }

@@ -7,10 +7,10 @@ use Rattle.lsp_session.specs.Item.{ItemData}
 use Rattle.lsp_server.specs.Items.{admitted, Decodes, GivesNext}
 
 pub more_nothing : (a : At) → more a [] ≡ a
-more_nothing a = ap (λ (l : List ℕ). record { limits = a.limits; state = a.state; held = l }) (append-nil a.held)
+more_nothing a = ap (λ (l : List ℕ). record { settings = a.settings; state = a.state; held = l }) (append-nil a.held)
 
 pub more_more : (a : At) (p c : List ℕ) → more (more a p) c ≡ more a (p ++ c)
-more_more a p c = ap (λ (l : List ℕ). record { limits = a.limits; state = a.state; held = l }) (append_assoc a.held p c)
+more_more a p c = ap (λ (l : List ℕ). record { settings = a.settings; state = a.state; held = l }) (append_assoc a.held p c)
 
 pub decodes_nothing : (a : At) → Decodes a [] a
 decodes_nothing a = record { items = λ c. refl; told = λ c. refl }

@@ -44,9 +44,9 @@ module _ {H D C T P : Type 0} {semantics : Semantics H C T} {m : Meaning D} {ord
         ∙ ap (served (find_at semantics a)) (sym (map-append admitted going.given (items_at (more codec1 c))) ∙ ap all_admitted (sym (going.decodes.items c)))
 
     -- nothing of what comes next was written
-    part_of_none : (c : List ℕ) → RanPart (Step semantics order rounds) a.state a.taken (served (find_at semantics a) (all_admitted (items_at (more codec0 c)))) b.taken
+    part_of_none : (c : List ℕ) → RanPart (Step semantics order rounds) m a (served (find_at semantics a) (all_admitted (items_at (more codec0 c)))) b.desk b.taken
     part_of_none c =
-        subst (λ l. RanPart (Step semantics order rounds) a.state a.taken l b.taken) (going_served c)
+        subst (λ l. RanPart (Step semantics order rounds) m a l b.desk b.taken) (going_served c)
         (part_all a b (all_admitted going.given) (served (find_at semantics a) (all_admitted (items_at (more codec1 c)))) going.ran)
 
     pub told_all : (codec2 : At) → GivesNext codec1 None codec2 → told_at codec2 ≡ [] → ServedTold (Step semantics order rounds) m (find_at semantics a) a codec0 false b codec2
@@ -120,12 +120,12 @@ module _ {H D C T P : Type 0} {semantics : Semantics H C T} {m : Meaning D} {ord
             at true rest p = ([], append-nil (all_admitted going.given ++ item ∷ []) ∙ p)
             at false rest p = (served (find_at semantics a) rest, append_assoc (all_admitted going.given) (item ∷ []) (served (find_at semantics a) rest) ∙ p)
 
-        part_of_step : (taken : Option (List ℕ)) → RanPart (Step semantics order rounds) b.state b.taken (item ∷ []) taken → (c : List ℕ)
-            → RanPart (Step semantics order rounds) a.state a.taken (served (find_at semantics a) (all_admitted (items_at (more codec0 c)))) taken
-        part_of_step taken part c =
+        part_of_step : (desk : D) (taken : Option (List ℕ)) → RanPart (Step semantics order rounds) m b (item ∷ []) desk taken → (c : List ℕ)
+            → RanPart (Step semantics order rounds) m a (served (find_at semantics a) (all_admitted (items_at (more codec0 c)))) desk taken
+        part_of_step desk taken part c =
             let begins = begins_served c in
-            subst (λ l. RanPart (Step semantics order rounds) a.state a.taken l taken) begins.1
-            (part_more (all_admitted going.given ++ item ∷ []) begins.0 (part_after a b taken (all_admitted going.given) (item ∷ []) going.ran part))
+            subst (λ l. RanPart (Step semantics order rounds) m a l desk taken) begins.1
+            (part_more (all_admitted going.given ++ item ∷ []) begins.0 (part_after a b desk taken (all_admitted going.given) (item ∷ []) going.ran part))
 
   -- what was written of it alone
   going_alone : (a : Point semantics D P) (codec0 : At) (b : Point semantics D P) (codec1 : At) → (going : Going semantics m order rounds a codec0 b codec1)
@@ -139,41 +139,41 @@ module _ {H D C T P : Type 0} {semantics : Semantics H C T} {m : Meaning D} {ord
   }
 
   module _ (a : Point semantics D P) (codec0 : At) (b : Point semantics D P) (codec1 : At) (going : Going semantics m order rounds a codec0 b codec1) where
-    pub told_part_none : PartTold (Step semantics order rounds) (find_at semantics a) a.state codec0 a.taken b.taken
+    pub told_part_none : PartTold (Step semantics order rounds) m (find_at semantics a) a codec0 b.desk b.taken
     told_part_none = record {
       written = frames going.ran.effect.out;
       part = λ c. part_alone (part_of_none (record a { taken = Some [] }) codec0 (record b { taken = Some (frames going.ran.effect.out) }) codec1 (going_alone a codec0 b codec1 going) c);
       writes = going.ran.writes;
     }
 
-    pub told_part_step : IsLawfulHandlers semantics → (codec2 : At) (item : ItemData) → GivesNext codec1 (Some item) codec2 → (taken : Option (List ℕ)) → RanPart (Step semantics order rounds) b.state b.taken (item ∷ []) taken
-        → PartTold (Step semantics order rounds) (find_at semantics a) a.state codec0 a.taken taken
-    told_part_step laws codec2 item next taken part =
+    pub told_part_step : IsLawfulHandlers semantics → (codec2 : At) (item : ItemData) → GivesNext codec1 (Some item) codec2 → (desk : D) (taken : Option (List ℕ)) → RanPart (Step semantics order rounds) m b (item ∷ []) desk taken
+        → PartTold (Step semantics order rounds) m (find_at semantics a) a codec0 desk taken
+    told_part_step laws codec2 item next desk taken part =
         let before = frames going.ran.effect.out in
-        let alone : RanPart (Step semantics order rounds) b.state (Some before) (item ∷ []) (Some (before ++ part.written)) = record { written = part.written; part = part.part; writes = refl } in
+        let alone : RanPart (Step semantics order rounds) m (record b { taken = Some before }) (item ∷ []) desk (Some (before ++ part.written)) = record { written = part.written; part = part.part; writes = refl } in
         record {
           written = before ++ part.written;
-          part = λ c. part_alone (part_of_step (record a { taken = Some [] }) codec0 (record b { taken = Some before }) codec1 (going_alone a codec0 b codec1 going) laws codec2 item next (Some (before ++ part.written)) alone c);
+          part = λ c. part_alone (part_of_step (record a { taken = Some [] }) codec0 (record b { taken = Some before }) codec1 (going_alone a codec0 b codec1 going) laws codec2 item next desk (Some (before ++ part.written)) alone c);
           writes = appends_more a.taken b.taken taken before part.written going.ran.writes part.writes;
         }
 
   -- what was served through an exit is all that is served
   told_part : (find : List ℕ → Option Entry) (b : Point semantics D P) (codec1 : At) (d : Point semantics D P) (codec2 : At) → ServedTold (Step semantics order rounds) m find b codec1 true d codec2 → (c : List ℕ)
-      → RanPart (Step semantics order rounds) b.state b.taken (served find (all_admitted (items_at (more codec1 c)))) d.taken
+      → RanPart (Step semantics order rounds) m b (served find (all_admitted (items_at (more codec1 c)))) d.desk d.taken
   told_part find b codec1 d codec2 told c =
       let rest = all_admitted (items_at (more codec2 c)) in
       let whole : served find (all_admitted (items_at (more codec1 c))) ≡ all_admitted told.given =
       ap (λ l. served find (all_admitted l)) (told.decodes.items c) ∙ ap (served find) (map-append admitted told.given (items_at (more codec2 c)) ∙ ap (λ l. l ++ rest) told.ends.split)
       ∙ served-closed find told.ends.front told.ends.exit rest told.ends.none told.ends.is ∙ sym told.ends.split in
-      subst (λ l. RanPart (Step semantics order rounds) b.state b.taken l d.taken) (sym whole) (part_whole b d (all_admitted told.given) told.ran)
+      subst (λ l. RanPart (Step semantics order rounds) m b l d.desk d.taken) (sym whole) (part_whole b d (all_admitted told.given) told.ran)
 
   -- so is what was served with no exit
   pub told_any : (exits : Bool) (find : List ℕ → Option Entry) (b : Point semantics D P) (codec1 : At) (d : Point semantics D P) (codec2 : At) → ServedTold (Step semantics order rounds) m find b codec1 exits d codec2 → (c : List ℕ)
-      → RanPart (Step semantics order rounds) b.state b.taken (served find (all_admitted (items_at (more codec1 c)))) d.taken
+      → RanPart (Step semantics order rounds) m b (served find (all_admitted (items_at (more codec1 c)))) d.desk d.taken
   told_any true find b codec1 d codec2 told c = told_part find b codec1 d codec2 told c
   told_any false find b codec1 d codec2 told c =
       let rest = all_admitted (items_at (more codec2 c)) in
       let whole : served find (all_admitted (items_at (more codec1 c))) ≡ all_admitted told.given ++ served find rest =
       ap (λ l. served find (all_admitted l)) (told.decodes.items c) ∙ ap (served find) (map-append admitted told.given (items_at (more codec2 c)))
       ∙ served-open find (all_admitted told.given) rest told.ends.0 in
-      subst (λ l. RanPart (Step semantics order rounds) b.state b.taken l d.taken) (sym whole) (part_more (all_admitted told.given) (served find rest) (part_whole b d (all_admitted told.given) told.ran))
+      subst (λ l. RanPart (Step semantics order rounds) m b l d.desk d.taken) (sym whole) (part_more (all_admitted told.given) (served find rest) (part_whole b d (all_admitted told.given) told.ran))

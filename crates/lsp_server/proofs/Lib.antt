@@ -14,3 +14,4 @@ pub mod ServingLemmas
 pub mod ServedLemmas
 pub mod ErrorLemmas
 pub mod HandedLemmas
+pub mod HistoryLemmas

@@ -28,17 +28,17 @@ grown_none m d = record { trace = []; grows = grows_none m d }
 
 -- ---- runs of any step
 
-module _ {S : Type 0} {step : S → ItemData → Effect → S → Type 0} where
+module _ {S D : Type 0} {step : S → ItemData → Effect → S → Type 0} {m : Meaning D} where
   -- nothing was run
-  pub part_none : (old : S) (taken : Option (List ℕ)) (items : List ItemData) → RanPart step old taken items taken
-  part_none old taken items = record {
+  pub part_none : (a : Place S D) (desk : D) (items : List ItemData) → Grown m a.desk desk → RanPart step m a items desk a.taken
+  part_none a desk items grown = record {
     written = [];
-    part = record { given = []; rest = items; split = refl; effect = nothing; last = old; run = (refl, refl); part = ([], refl) };
-    writes = appends_none taken;
+    part = record { given = []; rest = items; split = refl; effect = nothing; last = a.state; run = (refl, refl); desk = a.desk; grows = grows_none m a.desk; further = grown; part = ([], refl) };
+    writes = appends_none a.taken;
   }
 
   -- a part of fewer items is a part of more
-  pub part_more : {old : S} {taken0 taken1 : Option (List ℕ)} (xs ys : List ItemData) → RanPart step old taken0 xs taken1 → RanPart step old taken0 (xs ++ ys) taken1
+  pub part_more : {a : Place S D} {desk : D} {taken : Option (List ℕ)} (xs ys : List ItemData) → RanPart step m a xs desk taken → RanPart step m a (xs ++ ys) desk taken
   part_more xs ys p = record {
     written = p.written;
     part = record {
@@ -48,18 +48,22 @@ module _ {S : Type 0} {step : S → ItemData → Effect → S → Type 0} where
       effect = p.part.effect;
       last = p.part.last;
       run = p.part.run;
+      desk = p.part.desk;
+      grows = p.part.grows;
+      further = p.part.further;
       part = p.part.part;
     };
     writes = p.writes;
   }
 
   -- what was taken is kept
-  pub part_kept : {old : S} {taken0 taken1 taken2 : Option (List ℕ)} {items : List ItemData} → RanPart step old taken0 items taken1 → Keeps taken1 taken2 → RanPart step old taken0 items taken2
-  part_kept {taken0 = taken0} {taken1 = taken1} {taken2 = taken2} p kept = record { written = p.written; part = p.part; writes = appends_kept taken0 taken1 taken2 p.written p.writes kept }
+  pub part_kept : {a : Place S D} {desk : D} {taken1 taken2 : Option (List ℕ)} {items : List ItemData} → RanPart step m a items desk taken1 → Keeps taken1 taken2 → RanPart step m a items desk taken2
+  part_kept {a = a} {taken1 = taken1} {taken2 = taken2} p kept = record { written = p.written; part = p.part; writes = appends_kept a.taken taken1 taken2 p.written p.writes kept }
 
   -- what was written alone is the part
-  pub part_alone : {old : S} {items : List ItemData} {written : List ℕ} → RanPart step old (Some []) items (Some written) → IsPartOf step old items written
-  part_alone {old = old} {items = items} {written = written} p = subst (λ l. IsPartOf step old items l) (sym p.writes) p.part
+  pub part_alone : {old : S} {old_desk desk : D} {items : List ItemData} {written : List ℕ} → RanPart step m (record { state = old; desk = old_desk; taken = Some [] }) items desk (Some written)
+      → IsPartOf step m old old_desk items written desk
+  part_alone {old = old} {old_desk = old_desk} {desk = desk} {items = items} {written = written} p = subst (λ l. IsPartOf step m old old_desk items l desk) (sym p.writes) p.part
 
 module _ {S D : Type 0} {step : S → ItemData → Effect → S → Type 0} {m : Meaning D} where
   pub ran_none : (a : Place S D) → Ran step m a [] a
@@ -82,8 +86,8 @@ module _ {S D : Type 0} {step : S → ItemData → Effect → S → Type 0} {m :
   grown_after a b desk xs p q = grown_on m a.desk b.desk desk p.effect.trace p.grows q
 
   -- a part after what was run
-  pub part_after : (a b : Place S D) (taken : Option (List ℕ)) (xs ys : List ItemData) → Ran step m a xs b → RanPart step b.state b.taken ys taken → RanPart step a.state a.taken (xs ++ ys) taken
-  part_after a b taken xs ys p q = record {
+  pub part_after : (a b : Place S D) (desk : D) (taken : Option (List ℕ)) (xs ys : List ItemData) → Ran step m a xs b → RanPart step m b ys desk taken → RanPart step m a (xs ++ ys) desk taken
+  part_after a b desk taken xs ys p q = record {
     written = frames p.effect.out ++ q.written;
     part = record {
       given = xs ++ q.part.given;
@@ -92,17 +96,20 @@ module _ {S D : Type 0} {step : S → ItemData → Effect → S → Type 0} {m :
       effect = both p.effect q.part.effect;
       last = q.part.last;
       run = run_on step a.state b.state q.part.last xs q.part.given p.effect q.part.effect p.run q.part.run;
+      desk = q.part.desk;
+      grows = grows_on m a.desk b.desk q.part.desk p.effect.trace q.part.effect.trace p.grows q.part.grows;
+      further = q.part.further;
       part = (q.part.part.0, append_assoc (frames p.effect.out) q.written q.part.part.0 ∙ ap (λ l. frames p.effect.out ++ l) q.part.part.1 ∙ sym (frames-append p.effect.out q.part.effect.out));
     };
     writes = appends_more a.taken b.taken taken (frames p.effect.out) q.written p.writes q.writes;
   }
 
   -- what was run is a part of more
-  pub part_all : (a b : Place S D) (xs ys : List ItemData) → Ran step m a xs b → RanPart step a.state a.taken (xs ++ ys) b.taken
-  part_all a b xs ys p = part_after a b b.taken xs ys p (part_none b.state b.taken ys)
+  pub part_all : (a b : Place S D) (xs ys : List ItemData) → Ran step m a xs b → RanPart step m a (xs ++ ys) b.desk b.taken
+  part_all a b xs ys p = part_after a b b.desk b.taken xs ys p (part_none b b.desk ys (grown_none m b.desk))
 
-  pub part_whole : (a b : Place S D) (xs : List ItemData) → Ran step m a xs b → RanPart step a.state a.taken xs b.taken
-  part_whole a b xs p = subst (λ l. RanPart step a.state a.taken l b.taken) (append-nil xs) (part_all a b xs [] p)
+  pub part_whole : (a b : Place S D) (xs : List ItemData) → Ran step m a xs b → RanPart step m a xs b.desk b.taken
+  part_whole a b xs p = subst (λ l. RanPart step m a l b.desk b.taken) (append-nil xs) (part_all a b xs [] p)
 
   -- ---- what was written alone, whatever the sink had taken
 
@@ -144,7 +151,7 @@ module _ {H D C T P : Type 0} (semantics : Semantics H C T) (m : Meaning D) (ord
   -- one step, some of it written
   pub part_one : (taken0 taken1 : Option (List ℕ)) (old mid : View) (p p2 : P) (item : ItemData) (out : List MessageData) (written : List ℕ)
       → Stepped old p item mid p2 → old.out ≡ [] → out ≡ mid.out → IsPrefixOf written (frames out) → Appends taken0 taken1 written
-      → RanPart (Step semantics order rounds) (picked old p) taken0 (item ∷ []) taken1
+      → RanPart (Step semantics order rounds) m (place old p taken0) (item ∷ []) mid.desk taken1
   part_one taken0 taken1 old mid p p2 item out written steps empty is part writes =
       let e = steps.effect in
       let same : out ≡ e.out = is ∙ steps.out ∙ ap (λ l. l ++ e.out) empty in
@@ -157,6 +164,9 @@ module _ {H D C T P : Type 0} (semantics : Semantics H C T) (m : Meaning D) (ord
           effect = e;
           last = picked mid p2;
           run = (picked mid p2, e, nothing, steps.does, (refl, refl), sym (both-nothing e));
+          desk = mid.desk;
+          grows = steps.grows;
+          further = grown_none m mid.desk;
           part = subst (λ (o : List MessageData). IsPrefixOf written (frames o)) same part;
         };
         writes = writes;

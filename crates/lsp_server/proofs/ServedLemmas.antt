@@ -4,8 +4,8 @@ use Rattle.std.specs.Prelude.{Option, Some, Result, Ok, Err, IfErr, IfSome, IfNo
 use Rattle.std.specs.Result.{result_err}
 use Rattle.std.specs.Io.KnownBytes.{Consumes, Appends}
 use Rattle.lsp_desk.specs.Meaning.{Meaning, Grown}
-use Rattle.lsp_frame.specs.Codec.{start as start_codec, more, items_at}
-use Rattle.lsp_frame.specs.declared.limits.Limits.{Limits}
+use Rattle.lsp_frame.specs.Codec.{start_by as start_codec, more, items_at}
+use Rattle.lsp_frame.specs.declared.settings.CodecSettings.{CodecSettings}
 use Rattle.lsp_session.specs.Semantics.{Semantics, IsLawfulHandlers}
 use Rattle.lsp_session.specs.State.{State}
 use Rattle.lsp_session.specs.Run.{Order, Picked, Step, served}
@@ -88,13 +88,13 @@ module _ {H D C T P : Type 0} (semantics : Semantics H C T) (m : Meaning D) (ord
 
 -- ---- where the bytes are told
 
-module _ {H D C T P : Type 0} (semantics : Semantics H C T) (laws : IsLawfulHandlers semantics) (m : Meaning D) (order : Order P) (limits : Limits)
-    (a : Here semantics m order) (fresh : a.codec ≡ start_codec limits) (bytes : List ℕ) where
+module _ {H D C T P : Type 0} (semantics : Semantics H C T) (laws : IsLawfulHandlers semantics) (m : Meaning D) (order : Order P) (settings : CodecSettings)
+    (a : Here semantics m order) (fresh : a.codec ≡ start_codec settings) (bytes : List ℕ) where
   abbrev way : Course (Picked (State H semantics.Call semantics.Task) P) D
-  way = way_from semantics m order a.rounds limits (after_taking (Some []) a)
+  way = way_from semantics m order a.rounds settings (after_taking (Some []) a)
 
   serving_of : (b : Here semantics m order) (left1 taken0 taken1 : Option (List ℕ)) (fed : List ℕ) → Consumes (Some bytes) left1 fed → Did (serves semantics m order) a (piece fed) goes_on taken0 taken1 b
-      → Serving semantics m order a.rounds limits (after_taking taken0 a) (Some bytes) (after_taking taken1 b) left1 b.codec
+      → Serving semantics m order a.rounds settings (after_taking taken0 a) (Some bytes) (after_taking taken1 b) left1 b.codec
   serving_of b left1 taken0 taken1 fed gives d =
       let told = told_onto false (find_here semantics m order a) a b (more a.codec fed) b.codec d.written taken0 taken1 d.does.0.told d.writes in
       record {
@@ -112,7 +112,7 @@ module _ {H D C T P : Type 0} (semantics : Semantics H C T) (laws : IsLawfulHand
 
   module _ (start : Moment) (is : start.left ≡ Some bytes) where
     took_serving : (b : Here semantics m order) (now : Moment) → (t : Took (serves semantics m order) a start now b)
-        → Serving semantics m order a.rounds limits (after_taking start.taken a) (Some bytes) (after_taking now.taken b) now.left b.codec
+        → Serving semantics m order a.rounds settings (after_taking start.taken a) (Some bytes) (after_taking now.taken b) now.left b.codec
     took_serving b now t = serving_of b now.left start.taken now.taken t.read (subst (λ l. Consumes l now.left t.read) is t.gives) t.did
 
     between : (b : Here semantics m order) (now : Moment) → Took (serves semantics m order) a start now b → RanTold way (call_bytes bytes now.left start.taken now.taken) b.state b.desk
@@ -124,7 +124,7 @@ module _ {H D C T P : Type 0} (semantics : Semantics H C T) (laws : IsLawfulHand
     -- ---- the last step
 
     module _ (mid : Here semantics m order) (middle : Moment) (took : Took (serves semantics m order) a start middle mid) (b : Here semantics m order) (now : Moment) where
-      abbrev here : Serving semantics m order a.rounds limits (after_taking start.taken a) (Some bytes) (after_taking middle.taken mid) middle.left mid.codec
+      abbrev here : Serving semantics m order a.rounds settings (after_taking start.taken a) (Some bytes) (after_taking middle.taken mid) middle.left mid.codec
       here = took_serving mid middle took
 
       empty_before : Consumes middle.left now.left [] → IsTimely end start.left now.left → (middle.left ≡ Some []) × (now.left ≡ Some [])
@@ -139,7 +139,7 @@ module _ {H D C T P : Type 0} (semantics : Semantics H C T) (laws : IsLawfulHand
           (subst (λ n. ServedTold (Step semantics order n) m (find_here semantics m order mid) (after_taking (Some []) mid) (more mid.codec xs) true (after_taking (Some d.written) b) b.codec) took.did.does.0.rounds d.does.told) d.writes
 
       done_at : (last : Given) → Consumes middle.left now.left (bytes_of last) → IsTimely last start.left now.left → Did (serves semantics m order) mid last done middle.taken now.taken b
-          → RanFrom way (call_bytes bytes now.left start.taken now.taken) (served (find_here semantics m order a) (stream_items limits bytes)) b.state b.desk
+          → RanFrom way (call_bytes bytes now.left start.taken now.taken) (served (find_here semantics m order a) (stream_items settings bytes)) b.state b.desk
       done_at (piece xs) gives timely d =
           at_exit laws (after_taking start.taken a) bytes (after_taking middle.taken mid) middle.left mid.codec here now.left xs gives (after_taking now.taken b) b.codec (told_of xs d)
       done_at end gives timely d =
@@ -156,42 +156,42 @@ module _ {H D C T P : Type 0} (semantics : Semantics H C T) (laws : IsLawfulHand
           enough_at_end laws (after_taking start.taken a) bytes (after_taking middle.taken mid) middle.left mid.codec here now.left now.taken size (empty_before gives timely).0 (empty_before gives timely).1
 
       part_at : (size : ℕ) (last : Given) (e : ServeError) → Consumes middle.left now.left (bytes_of last) → length (bytes_of last) ≤ size → IsTimely last start.left now.left
-          → (written : List ℕ) → Serves semantics m order mid last (stops e) written b → Appends middle.taken now.taken written → WrotePart way (call_bytes bytes now.left start.taken now.taken) size
+          → (written : List ℕ) → Serves semantics m order mid last (stops e) written b → Appends middle.taken now.taken written → WrotePart way (call_bytes bytes now.left start.taken now.taken) size b.desk
       part_at size (piece xs) e gives short timely written d writes =
-          wrote_within laws (after_taking start.taken a) bytes (after_taking middle.taken mid) middle.left mid.codec here now.left now.taken xs size gives short
+          wrote_within laws (after_taking start.taken a) bytes (after_taking middle.taken mid) middle.left mid.codec here now.left now.taken b.desk xs size gives short
           (λ c. record {
             written = written;
-            part = subst (λ n. IsPartOf (Step semantics order n) mid.state (served (find_here semantics m order mid) (all_admitted (items_at (more (more mid.codec xs) c)))) written) took.did.does.0.rounds (d.part c);
+            part = subst (λ n. IsPartOf (Step semantics order n) m mid.state mid.desk (served (find_here semantics m order mid) (all_admitted (items_at (more (more mid.codec xs) c)))) written b.desk) took.did.does.0.rounds (d.part c);
             writes = writes;
           })
       part_at size end e gives short timely written d writes =
-          wrote_at_end laws (after_taking start.taken a) bytes (after_taking middle.taken mid) middle.left mid.codec here now.left now.taken size (empty_before gives timely).0 (empty_before gives timely).1
+          wrote_at_end laws (after_taking start.taken a) bytes (after_taking middle.taken mid) middle.left mid.codec here now.left now.taken b.desk size (empty_before gives timely).0 (empty_before gives timely).1
           (record {
             written = written;
-            part = subst (λ n. IsPartOf (Step semantics order n) mid.state (served (find_here semantics m order mid) (all_admitted (items_at mid.codec))) written) took.did.does.0.rounds d.part;
+            part = subst (λ n. IsPartOf (Step semantics order n) m mid.state mid.desk (served (find_here semantics m order mid) (all_admitted (items_at mid.codec))) written b.desk) took.did.does.0.rounds d.part;
             writes = writes;
           })
 
     module _ (b : Here semantics m order) (now : Moment) (size : ℕ) where
       done_all : TookLast (serves semantics m order) a start now size done b
-          → RanFrom way (call_bytes bytes now.left start.taken now.taken) (served (find_here semantics m order a) (stream_items limits bytes)) b.state b.desk
+          → RanFrom way (call_bytes bytes now.left start.taken now.taken) (served (find_here semantics m order a) (stream_items settings bytes)) b.state b.desk
       done_all t = done_at t.mid t.middle t.took b now t.last t.gives t.timely t.did
 
       done_enough : TookLast (serves semantics m order) a start now size done b → ReadEnough way (call_bytes bytes now.left start.taken now.taken) size
       done_enough t = enough_at t.mid t.middle t.took b now size t.last t.gives t.short t.timely t.did
 
       -- whatever came of the last step, a part was written
-      last_part : (outcome : ConsumerOutcome) → TookLast (serves semantics m order) a start now size outcome b → WrotePart way (call_bytes bytes now.left start.taken now.taken) size
+      last_part : (outcome : ConsumerOutcome) → TookLast (serves semantics m order) a start now size outcome b → WrotePart way (call_bytes bytes now.left start.taken now.taken) size b.desk
       last_part outcome t =
           part_at t.mid t.middle t.took b now size t.last NoMemory t.gives t.short t.timely t.did.written
           ((serves_lawful semantics laws m order).refused t.mid b t.last outcome t.did.written NoMemory t.did.does tt) t.did.writes
 
-      between_part : Took (serves semantics m order) a start now b → WrotePart way (call_bytes bytes now.left start.taken now.taken) size
+      between_part : Took (serves semantics m order) a start now b → WrotePart way (call_bytes bytes now.left start.taken now.taken) size b.desk
       between_part t =
           wrote_before laws (after_taking start.taken a) bytes (after_taking now.taken b) now.left b.codec (took_serving b now t) now.left [] size (consumes_none now.left) (omega arith)
 
       all_part : {A : Type 0} (r : Result A ServeError) → (EndsInStep r → TookLast (serves semantics m order) a start now size (last_outcome r) b) → IfErr r (λ e. IsBetweenReads e → Took (serves semantics m order) a start now b)
-          → WrotePart way (call_bytes bytes now.left start.taken now.taken) size
+          → WrotePart way (call_bytes bytes now.left start.taken now.taken) size b.desk
       all_part (Ok x) last took = last_part done (last tt)
       all_part (Err ReadFault) last took = between_part (took tt)
       all_part (Err WriteFault) last took = last_part (stops WriteFault) (last tt)
@@ -202,7 +202,7 @@ module _ {H D C T P : Type 0} (semantics : Semantics H C T) (laws : IsLawfulHand
       -- ---- all of it, by the answer
 
       ok_of : {A : Type 0} (r : Result A ServeError) → (EndsInStep r → TookLast (serves semantics m order) a start now size (last_outcome r) b)
-          → IfNone (result_err r) (RanFrom way (call_bytes bytes now.left start.taken now.taken) (served (find_here semantics m order a) (stream_items limits bytes)) b.state b.desk)
+          → IfNone (result_err r) (RanFrom way (call_bytes bytes now.left start.taken now.taken) (served (find_here semantics m order a) (stream_items settings bytes)) b.state b.desk)
       ok_of (Ok x) last = done_all (last tt)
       ok_of (Err e) last = tt
 

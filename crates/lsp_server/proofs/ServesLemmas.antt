@@ -4,6 +4,7 @@ use Rattle.std.specs.Prelude.{◌||◌, ◌≢◌, Option, Some, None, Result, O
 use Rattle.std.specs.Io.KnownBytes.{Appends}
 use Rattle.std.proofs.lemmas.List.{map-append}
 use Rattle.lsp_desk.specs.declared.life.Life.TheVariants.{Exited}
+use Rattle.lsp_desk.proofs.TraceLemmas.{grows_none}
 use Rattle.lsp_desk.specs.Meaning.{Meaning, Grown}
 use Rattle.lsp_frame.specs.Codec.{At, more, items_at, frames}
 use Rattle.lsp_session.specs.declared.table.Entry.{Entry}
@@ -135,7 +136,7 @@ module _ {H D C T P : Type 0} (semantics : Semantics H C T) (laws : sessions.IsL
   did_no_step a b bytes taken same = record {
     written = [];
     does = record {
-      part = λ c. record { given = []; rest = served (find_here semantics m order a) (all_admitted (items_at (more (more a.codec bytes) c))); split = refl; effect = nothing; last = a.state; run = (refl, refl); part = ([], refl) };
+      part = λ c. record { given = []; rest = served (find_here semantics m order a) (all_admitted (items_at (more (more a.codec bytes) c))); split = refl; effect = nothing; last = a.state; run = (refl, refl); desk = a.desk; grows = grows_none m a.desk; further = subst (λ d. Grown m a.desk d) (sym same) (grown_none m a.desk); part = ([], refl) };
       grown = subst (λ d. Grown m a.desk d) (sym same) (grown_none m a.desk);
       spent = tt;
     };
@@ -146,7 +147,7 @@ module _ {H D C T P : Type 0} (semantics : Semantics H C T) (laws : sessions.IsL
     pub did_told : (bytes : List ℕ) (r : Result Bool ServeError) → b.rounds ≡ a.rounds
         → IfOk r (λ exits. ServedTold (StepHere semantics m order a) m (find_here semantics m order a) (after_taking taken0 a) (more a.codec bytes) exits (after_taking taken1 b) b.codec)
         → OnOk r (IsIdle b) → IfOk r (λ exits. exits ≡ false → (b.state.session.exited ≡ None) × (b.state.session.desk.life ≢ Exited))
-        → OnErr r (PartTold (StepHere semantics m order a) (find_here semantics m order a) a.state (more a.codec bytes) taken0 taken1) → IfErr r (SaysSpent m b.desk)
+        → OnErr r (PartTold (StepHere semantics m order a) m (find_here semantics m order a) (after_taking taken0 a) (more a.codec bytes) b.desk taken1) → IfErr r (SaysSpent m b.desk)
         → Did (serves semantics m order) a (piece bytes) (consumer_outcome r) taken0 taken1 b
     did_told bytes (Ok false) same told idle goes part spent = record {
       written = frames told.ran.effect.out;
@@ -169,7 +170,7 @@ module _ {H D C T P : Type 0} (semantics : Semantics H C T) (laws : sessions.IsL
 
     pub did_end : {A : Type 0} (r : Result A ServeError)
         → OnOk r (Ran (StepHere semantics m order a) m (after_taking taken0 a) (served (find_here semantics m order a) (all_admitted (items_at a.codec))) (after_taking taken1 b))
-        → OnOk r (IsIdle b) → OnErr r (RanPart (StepHere semantics m order a) a.state taken0 (served (find_here semantics m order a) (all_admitted (items_at a.codec))) taken1) → IfErr r (SaysSpent m b.desk)
+        → OnOk r (IsIdle b) → OnErr r (RanPart (StepHere semantics m order a) m (after_taking taken0 a) (served (find_here semantics m order a) (all_admitted (items_at a.codec))) b.desk taken1) → IfErr r (SaysSpent m b.desk)
         → Did (serves semantics m order) a end (last_outcome r) taken0 taken1 b
     did_end (Ok x) ran idle part spent = record {
       written = frames ran.effect.out;

@@ -4,8 +4,8 @@ use Rattle.std.specs.Prelude.{Option, Some, ◌||◌}
 use Rattle.std.specs.Io.KnownBytes.{Consumes}
 use Rattle.std.proofs.lemmas.List.{append-nil, map-append}
 use Rattle.lsp_desk.specs.Meaning.{Meaning}
-use Rattle.lsp_frame.specs.Codec.{Item, At, start, more, items_at, told_at, frames}
-use Rattle.lsp_frame.specs.declared.limits.Limits.{Limits}
+use Rattle.lsp_frame.specs.Codec.{Item, At, start_by, more, items_at, told_at, frames}
+use Rattle.lsp_frame.specs.declared.settings.CodecSettings.{CodecSettings}
 use Rattle.lsp_session.specs.declared.table.Entry.{Entry}
 use Rattle.lsp_session.specs.Item.{ItemData}
 use Rattle.lsp_session.specs.Semantics.{Semantics, IsLawfulHandlers}
@@ -21,23 +21,23 @@ use Rattle.lsp_server.proofs.KnownLemmas.{appends_more, consumes_more, what_is_l
 use Rattle.lsp_server.proofs.PointLemmas.{Point, find_at}
 use Rattle.lsp_server.proofs.ItemsLemmas.{same_exit, served_same, has_exit_same, has_exit-append, served-closed, run_table}
 use Rattle.lsp_server.proofs.CodecLemmas.{decodes_more, decodes_fed, told_now, more_nothing, more_more}
-use Rattle.lsp_server.proofs.RanLemmas.{ran_more, part_none}
+use Rattle.lsp_server.proofs.RanLemmas.{ran_more, part_none, grown_none}
 use Rattle.lsp_server.proofs.GoingLemmas.{Going, going_served}
 
 -- the course of a session from a point on
-abbrev pub way_from : {H D C T P : Type 0} → (semantics : Semantics H C T) → Meaning D → Order P → ℕ → Limits → Point semantics D P → Course (Picked (State H semantics.Call semantics.Task) P) D
-way_from semantics m order rounds limits a = record { step = Step semantics order rounds; meaning = m; find = find_at semantics a; limits = limits; start = a.state; desk = a.desk }
+abbrev pub way_from : {H D C T P : Type 0} → (semantics : Semantics H C T) → Meaning D → Order P → ℕ → CodecSettings → Point semantics D P → Course (Picked (State H semantics.Call semantics.Task) P) D
+way_from semantics m order rounds settings a = record { step = Step semantics order rounds; meaning = m; find = find_at semantics a; codec = settings; start = a.state; desk = a.desk }
 
-module _ {H D C T P : Type 0} (semantics : Semantics H C T) (m : Meaning D) (order : Order P) (rounds : ℕ) (limits : Limits) where
+module _ {H D C T P : Type 0} (semantics : Semantics H C T) (m : Meaning D) (order : Order P) (rounds : ℕ) (settings : CodecSettings) where
   -- serving has come this far with the bytes that were read
   pub record Serving (a : Point semantics D P) (left0 : Option (List ℕ)) (b : Point semantics D P) (left1 : Option (List ℕ)) (codec : At) : Type 0 where
     pub fed : List ℕ
     pub gives : Consumes left0 left1 fed
-    pub going : Going semantics m order rounds a (more (start limits) fed) b codec
+    pub going : Going semantics m order rounds a (more (start_by settings) fed) b codec
     pub told : told_at codec ≡ []
 
-module _ {H D C T P : Type 0} {semantics : Semantics H C T} {m : Meaning D} {order : Order P} {rounds : ℕ} {limits : Limits} where
-  module _ (a : Point semantics D P) (left0 : Option (List ℕ)) (b : Point semantics D P) (left1 : Option (List ℕ)) (codec1 : At) (serving : Serving semantics m order rounds limits a left0 b left1 codec1) where
+module _ {H D C T P : Type 0} {semantics : Semantics H C T} {m : Meaning D} {order : Order P} {rounds : ℕ} {settings : CodecSettings} where
+  module _ (a : Point semantics D P) (left0 : Option (List ℕ)) (b : Point semantics D P) (left1 : Option (List ℕ)) (codec1 : At) (serving : Serving semantics m order rounds settings a left0 b left1 codec1) where
     module _ (laws : IsLawfulHandlers semantics) where
       abbrev so_far : List ItemData
       so_far = all_admitted serving.going.given
@@ -46,8 +46,8 @@ module _ {H D C T P : Type 0} {semantics : Semantics H C T} {m : Meaning D} {ord
       same_table name = run_table semantics laws order rounds a.state b.state so_far serving.going.ran.effect serving.going.ran.run name
 
       -- the items given so far are those that the bytes read tell
-      told_is : stream_told limits serving.fed ≡ so_far
-      told_is = ap all_admitted (told_now (more (start limits) serving.fed) codec1 serving.going.given serving.going.decodes ∙ ap (λ l. serving.going.given ++ l) serving.told ∙ append-nil serving.going.given)
+      told_is : stream_told settings serving.fed ≡ so_far
+      told_is = ap all_admitted (told_now (more (start_by settings) serving.fed) codec1 serving.going.given serving.going.decodes ∙ ap (λ l. serving.going.given ++ l) serving.told ∙ append-nil serving.going.given)
 
       -- ---- one piece more
 
@@ -59,9 +59,9 @@ module _ {H D C T P : Type 0} {semantics : Semantics H C T} {m : Meaning D} {ord
         all_gives : Consumes left0 left2 (serving.fed ++ piece)
         all_gives = consumes_more left0 left1 left2 serving.fed piece serving.gives gives
 
-        decoded : Decodes (more (start limits) (serving.fed ++ piece)) all codec2
-        decoded = decodes_more (more (start limits) (serving.fed ++ piece)) (more codec1 piece) codec2 serving.going.given told.given
-            (decodes_fed (more (start limits) serving.fed) codec1 serving.going.given piece serving.going.decodes) told.decodes
+        decoded : Decodes (more (start_by settings) (serving.fed ++ piece)) all codec2
+        decoded = decodes_more (more (start_by settings) (serving.fed ++ piece)) (more codec1 piece) codec2 serving.going.given told.given
+            (decodes_fed (more (start_by settings) serving.fed) codec1 serving.going.given piece serving.going.decodes) told.decodes
 
         ran_all : Ran (Step semantics order rounds) m a (all_admitted all) d
         ran_all = subst (λ l. Ran (Step semantics order rounds) m a l d) (sym (map-append admitted serving.going.given told.given))
@@ -69,8 +69,8 @@ module _ {H D C T P : Type 0} {semantics : Semantics H C T} {m : Meaning D} {ord
 
 -- ---- what it comes to, where the bytes are told
 
-module _ {H D C T P : Type 0} {semantics : Semantics H C T} (laws : IsLawfulHandlers semantics) {m : Meaning D} {order : Order P} {rounds : ℕ} {limits : Limits}
-    (a : Point semantics D P) (bytes : List ℕ) (b : Point semantics D P) (left1 : Option (List ℕ)) (codec1 : At) (serving : Serving semantics m order rounds limits a (Some bytes) b left1 codec1) where
+module _ {H D C T P : Type 0} {semantics : Semantics H C T} (laws : IsLawfulHandlers semantics) {m : Meaning D} {order : Order P} {rounds : ℕ} {settings : CodecSettings}
+    (a : Point semantics D P) (bytes : List ℕ) (b : Point semantics D P) (left1 : Option (List ℕ)) (codec1 : At) (serving : Serving semantics m order rounds settings a (Some bytes) b left1 codec1) where
   abbrev taken0 : Option (List ℕ)
   taken0 = a.taken
 
@@ -81,7 +81,7 @@ module _ {H D C T P : Type 0} {semantics : Semantics H C T} (laws : IsLawfulHand
   find_b = semantics.find b.state.session.service
 
   abbrev way : Course (Picked (State H semantics.Call semantics.Task) P) D
-  way = way_from semantics m order rounds limits a
+  way = way_from semantics m order rounds settings a
 
   abbrev before : List ItemData
   before = all_admitted serving.going.given
@@ -89,7 +89,7 @@ module _ {H D C T P : Type 0} {semantics : Semantics H C T} (laws : IsLawfulHand
   tables_agree : (name : List ℕ) → find_b name ≡ find name
   tables_agree = same_table a (Some bytes) b left1 codec1 serving laws
 
-  told_before : stream_told limits serving.fed ≡ before
+  told_before : stream_told settings serving.fed ≡ before
   told_before = told_is a (Some bytes) b left1 codec1 serving laws
 
   -- ---- between two reads what was written is exact
@@ -116,7 +116,7 @@ module _ {H D C T P : Type 0} {semantics : Semantics H C T} (laws : IsLawfulHand
     read_all : Consumes (Some bytes) left2 (serving.fed ++ piece)
     read_all = all_gives a (Some bytes) b left1 codec1 serving laws left2 piece gives d codec2 true told
 
-    all_decoded : Decodes (more (start limits) (serving.fed ++ piece)) given codec2
+    all_decoded : Decodes (more (start_by settings) (serving.fed ++ piece)) given codec2
     all_decoded = decoded a (Some bytes) b left1 codec1 serving laws left2 piece gives d codec2 true told
 
     -- the items given end with the exit
@@ -133,16 +133,16 @@ module _ {H D C T P : Type 0} {semantics : Semantics H C T} (laws : IsLawfulHand
     exit_is : is_exit find told.ends.exit ≡ true
     exit_is = sym (same_exit find_b find told.ends.exit tables_agree) ∙ told.ends.is
 
-    served_is : served find (stream_items limits bytes) ≡ all_admitted given
+    served_is : served find (stream_items settings bytes) ≡ all_admitted given
     served_is =
         let left = what_is_left bytes left2 (serving.fed ++ piece) read_all in
         let rest = all_admitted (items_at (more codec2 left.0)) in
-        ap (λ l. served find (stream_items limits l)) left.2
+        ap (λ l. served find (stream_items settings l)) left.2
         ∙ ap (λ l. served find (all_admitted l)) (all_decoded.items left.0)
         ∙ ap (served find) (map-append admitted given (items_at (more codec2 left.0)) ∙ ap (λ l. l ++ rest) given_is)
         ∙ served-closed find front told.ends.exit rest front_open exit_is ∙ sym given_is
 
-    pub at_exit : RanFrom way (call_bytes bytes left2 taken0 d.taken) (served find (stream_items limits bytes)) d.state d.desk
+    pub at_exit : RanFrom way (call_bytes bytes left2 taken0 d.taken) (served find (stream_items settings bytes)) d.state d.desk
     at_exit = subst (λ l. Ran (Step semantics order rounds) m a l d) (sym served_is) (ran_all a (Some bytes) b left1 codec1 serving laws left2 piece gives d codec2 true told)
 
     pub enough_at_exit : (size : ℕ) → length piece ≤ size → ReadEnough way (call_bytes bytes left2 taken0 d.taken) size
@@ -152,7 +152,7 @@ module _ {H D C T P : Type 0} {semantics : Semantics H C T} (laws : IsLawfulHand
       gives = read_all;
       short = short;
       none = ap (has_exit find) told_before ∙ serving.going.none;
-      enough = inr (ap (λ l. has_exit find (all_admitted l)) (told_now (more (start limits) (serving.fed ++ piece)) codec2 given all_decoded)
+      enough = inr (ap (λ l. has_exit find (all_admitted l)) (told_now (more (start_by settings) (serving.fed ++ piece)) codec2 given all_decoded)
           ∙ ap (has_exit find) (map-append admitted given (told_at codec2)) ∙ has_exit-append find (all_admitted given) (all_admitted (told_at codec2))
           ∙ ap (λ x. x || has_exit find (all_admitted (told_at codec2)))
           (ap (has_exit find) given_is ∙ has_exit-append find front (told.ends.exit ∷ []) ∙ ap (λ x. x || (is_exit find told.ends.exit || false)) front_open ∙ ap (λ x. x || false) exit_is));
@@ -161,14 +161,14 @@ module _ {H D C T P : Type 0} {semantics : Semantics H C T} (laws : IsLawfulHand
   -- ---- the end of input ends it
 
   pub at_end : (left2 : Option (List ℕ)) (d : Point semantics D P) → left1 ≡ Some [] → Ran (Step semantics order rounds) m b (served find_b (all_admitted (items_at codec1))) d
-      → RanFrom way (call_bytes bytes left2 taken0 d.taken) (served find (stream_items limits bytes)) d.state d.desk
+      → RanFrom way (call_bytes bytes left2 taken0 d.taken) (served find (stream_items settings bytes)) d.state d.desk
   at_end left2 d empty last =
       let read : bytes ≡ serving.fed = all_read bytes serving.fed left1 serving.gives empty in
-      let whole : before ++ served find_b (all_admitted (items_at codec1)) ≡ served find (stream_items limits bytes) =
+      let whole : before ++ served find_b (all_admitted (items_at codec1)) ≡ served find (stream_items settings bytes) =
       ap (λ l. before ++ l) (served_same find_b find (all_admitted (items_at codec1)) tables_agree)
       ∙ ap (λ c. before ++ served find (all_admitted (items_at c))) (sym (more_nothing codec1))
-      ∙ going_served a (more (start limits) serving.fed) b codec1 serving.going []
-      ∙ ap (λ l. served find (stream_items limits l)) (append-nil serving.fed ∙ sym read) in
+      ∙ going_served a (more (start_by settings) serving.fed) b codec1 serving.going []
+      ∙ ap (λ l. served find (stream_items settings l)) (append-nil serving.fed ∙ sym read) in
       subst (λ l. Ran (Step semantics order rounds) m a l d) whole (ran_more a b d before (served find_b (all_admitted (items_at codec1))) serving.going.ran last)
 
   pub enough_at_end : (left2 taken : Option (List ℕ)) (size : ℕ) → left1 ≡ Some [] → left2 ≡ Some [] → ReadEnough way (call_bytes bytes left2 taken0 taken) size
@@ -183,10 +183,10 @@ module _ {H D C T P : Type 0} {semantics : Semantics H C T} (laws : IsLawfulHand
 
   -- ---- an error
 
-  wrote : (left2 taken2 : Option (List ℕ)) (piece : List ℕ) (size : ℕ) → Consumes left1 left2 piece → length piece ≤ size
-      → ((rest : List ℕ) → left2 ≡ Some rest → RanPart (Step semantics order rounds) b.state b.taken (served find_b (all_admitted (items_at (more codec1 (piece ++ rest))))) taken2)
-      → WrotePart way (call_bytes bytes left2 taken0 taken2) size
-  wrote left2 taken2 piece size gives short part =
+  wrote : (left2 taken2 : Option (List ℕ)) (desk : D) (piece : List ℕ) (size : ℕ) → Consumes left1 left2 piece → length piece ≤ size
+      → ((rest : List ℕ) → left2 ≡ Some rest → RanPart (Step semantics order rounds) m b (served find_b (all_admitted (items_at (more codec1 (piece ++ rest))))) desk taken2)
+      → WrotePart way (call_bytes bytes left2 taken0 taken2) size desk
+  wrote left2 taken2 desk piece size gives short part =
       let read = consumes_more (Some bytes) left1 left2 serving.fed piece serving.gives gives in
       let left = what_is_left bytes left2 (serving.fed ++ piece) read in
       let coming = all_admitted (items_at (more codec1 (piece ++ left.0))) in
@@ -199,32 +199,34 @@ module _ {H D C T P : Type 0} {semantics : Semantics H C T} (laws : IsLawfulHand
         first = serving.going.ran.effect;
         mid = b.state;
         run = subst (λ l. Run (Step semantics order rounds) a.state l serving.going.ran.effect b.state) (sym told_before) serving.going.ran.run;
+        middle = b.desk;
+        grows = serving.going.ran.grows;
         later = served find_b coming;
         split = ap (λ l. l ++ served find_b coming) told_before ∙ ap (λ l. before ++ l) (served_same find_b find coming tables_agree)
-            ∙ going_served a (more (start limits) serving.fed) b codec1 serving.going (piece ++ left.0)
-            ∙ ap (λ l. served find (stream_items limits l)) (sym (append_assoc serving.fed piece left.0) ∙ sym left.2);
+            ∙ going_served a (more (start_by settings) serving.fed) b codec1 serving.going (piece ++ left.0)
+            ∙ ap (λ l. served find (stream_items settings l)) (sym (append_assoc serving.fed piece left.0) ∙ sym left.2);
         written = now.written;
         part = now.part;
         writes = appends_more taken0 b.taken taken2 (frames serving.going.ran.effect.out) now.written serving.going.ran.writes now.writes;
       }
 
   -- nothing of the piece was served
-  pub wrote_before : (left2 : Option (List ℕ)) (piece : List ℕ) (size : ℕ) → Consumes left1 left2 piece → length piece ≤ size → WrotePart way (call_bytes bytes left2 taken0 b.taken) size
-  wrote_before left2 piece size gives short = wrote left2 b.taken piece size gives short (λ rest is. part_none b.state b.taken _)
+  pub wrote_before : (left2 : Option (List ℕ)) (piece : List ℕ) (size : ℕ) → Consumes left1 left2 piece → length piece ≤ size → WrotePart way (call_bytes bytes left2 taken0 b.taken) size b.desk
+  wrote_before left2 piece size gives short = wrote left2 b.taken b.desk piece size gives short (λ rest is. part_none b b.desk _ (grown_none m b.desk))
 
   -- some of the piece was served
-  pub wrote_within : (left2 taken2 : Option (List ℕ)) (piece : List ℕ) (size : ℕ) → Consumes left1 left2 piece → length piece ≤ size
-      → ((c : List ℕ) → RanPart (Step semantics order rounds) b.state b.taken (served find_b (all_admitted (items_at (more (more codec1 piece) c)))) taken2)
-      → WrotePart way (call_bytes bytes left2 taken0 taken2) size
-  wrote_within left2 taken2 piece size gives short part =
-      wrote left2 taken2 piece size gives short
-      (λ rest is. subst (λ c. RanPart (Step semantics order rounds) b.state b.taken (served find_b (all_admitted (items_at c))) taken2) (more_more codec1 piece rest) (part rest))
+  pub wrote_within : (left2 taken2 : Option (List ℕ)) (desk : D) (piece : List ℕ) (size : ℕ) → Consumes left1 left2 piece → length piece ≤ size
+      → ((c : List ℕ) → RanPart (Step semantics order rounds) m b (served find_b (all_admitted (items_at (more (more codec1 piece) c)))) desk taken2)
+      → WrotePart way (call_bytes bytes left2 taken0 taken2) size desk
+  wrote_within left2 taken2 desk piece size gives short part =
+      wrote left2 taken2 desk piece size gives short
+      (λ rest is. subst (λ c. RanPart (Step semantics order rounds) m b (served find_b (all_admitted (items_at c))) desk taken2) (more_more codec1 piece rest) (part rest))
 
   -- some of the end was served
-  pub wrote_at_end : (left2 taken2 : Option (List ℕ)) (size : ℕ) → left1 ≡ Some [] → left2 ≡ Some [] → RanPart (Step semantics order rounds) b.state b.taken (served find_b (all_admitted (items_at codec1))) taken2
-      → WrotePart way (call_bytes bytes left2 taken0 taken2) size
-  wrote_at_end left2 taken2 size empty after part =
-      wrote left2 taken2 [] size (subst (λ l. Consumes l left2 []) (sym empty) (subst (λ l. Consumes (Some []) l []) (sym after) refl)) (omega arith)
+  pub wrote_at_end : (left2 taken2 : Option (List ℕ)) (desk : D) (size : ℕ) → left1 ≡ Some [] → left2 ≡ Some [] → RanPart (Step semantics order rounds) m b (served find_b (all_admitted (items_at codec1))) desk taken2
+      → WrotePart way (call_bytes bytes left2 taken0 taken2) size desk
+  wrote_at_end left2 taken2 desk size empty after part =
+      wrote left2 taken2 desk [] size (subst (λ l. Consumes l left2 []) (sym empty) (subst (λ l. Consumes (Some []) l []) (sym after) refl)) (omega arith)
       (λ rest is. let none : rest ≡ [] = cc in
-      subst (λ (l : List ℕ). RanPart (Step semantics order rounds) b.state b.taken (served find_b (all_admitted (items_at (more codec1 l)))) taken2) (sym none)
-      (subst (λ c. RanPart (Step semantics order rounds) b.state b.taken (served find_b (all_admitted (items_at c))) taken2) (sym (more_nothing codec1)) part))
+      subst (λ (l : List ℕ). RanPart (Step semantics order rounds) m b (served find_b (all_admitted (items_at (more codec1 l)))) desk taken2) (sym none)
+      (subst (λ c. RanPart (Step semantics order rounds) m b (served find_b (all_admitted (items_at c))) desk taken2) (sym (more_nothing codec1)) part))

@@ -16,3 +16,4 @@ pub mod Consuming
 pub mod Serving
 pub mod ServerView
 pub mod ServedView
+pub mod History

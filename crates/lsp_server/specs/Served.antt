@@ -3,7 +3,7 @@ use Rattle.std.specs.Prelude.{◌≡◌, ◌≤◌, ◌⊎◌, ◌++◌, Bool, t
 use Rattle.std.specs.Io.KnownBytes.{Consumes, Appends}
 use Rattle.lsp_rpc.specs.Message.{IdData}
 use Rattle.lsp_desk.specs.declared.life.Life.{Life}
-use Rattle.lsp_desk.specs.Meaning.{Meaning}
+use Rattle.lsp_desk.specs.Meaning.{Meaning, Grows}
 use Rattle.lsp_frame.specs.Codec.{Item, At, frames, told_at}
 use Rattle.lsp_session.specs.declared.table.Entry.{Entry}
 use Rattle.lsp_session.specs.Item.{ItemData}
@@ -75,14 +75,14 @@ handed_back view = record { service = view.state.service; desk = view.desk; exit
 -- what is written, and what is handed back, are those of a run over all these bytes
 pub record IsServed {H D C T P : Type 0} (course : Course (Picked (State H C T) P) D) (call : CallBytes) (served_view : ServedView H D) (pick : P) : Type 0 where
   pub last : Picked (State H C T) P
-  pub ran : RanFrom course call (served course.find (stream_items course.limits call.bytes)) last served_view.desk
+  pub ran : RanFrom course call (served course.find (stream_items course.codec call.bytes)) last served_view.desk
   pub service_is : served_view.service ≡ last.session.service
   pub desk_is : course.meaning.now served_view.desk ≡ last.session.desk
   pub exited_is : served_view.exited ≡ last.session.exited
   pub unanswered_is : served_view.unanswered ≡ live last.session
   pub pick_is : pick ≡ last.pick
   -- each owed request and each fault is answered once, but for what is listed
-  pub counts : Counts course.find (served course.find (stream_items course.limits call.bytes)) ran.effect.out served_view.unanswered
+  pub counts : Counts course.find (served course.find (stream_items course.codec call.bytes)) ran.effect.out served_view.unanswered
 
 -- the bytes were read to their end, or an exit is told in those that were read, and it is the last piece, of at
 -- most so many bytes, that tells it: nothing was read after that piece
@@ -91,16 +91,16 @@ pub record ReadEnough {S D : Type 0} (course : Course S D) (call : CallBytes) (s
   pub piece : List ℕ
   pub gives : Consumes (Some call.bytes) call.left (early ++ piece)
   pub short : length piece ≤ size
-  pub none : has_exit course.find (stream_told course.limits early) ≡ false
-  pub enough : (call.left ≡ Some []) ⊎ (has_exit course.find (stream_told course.limits (early ++ piece)) ≡ true)
+  pub none : has_exit course.find (stream_told course.codec early) ≡ false
+  pub enough : (call.left ≡ Some []) ⊎ (has_exit course.find (stream_told course.codec (early ++ piece)) ≡ true)
 
 -- what is written is the frames of a run to this state over the items told by the bytes read, and no exit is among
 -- them; the desk grew by that run's trace
 pub record RanTold {S D : Type 0} (course : Course S D) (call : CallBytes) (last : S) (desk : D) : Type 0 where
   pub read : List ℕ
   pub gives : Consumes (Some call.bytes) call.left read
-  pub none : has_exit course.find (stream_told course.limits read) ≡ false
-  pub ran : RanFrom course call (stream_told course.limits read) last desk
+  pub none : has_exit course.find (stream_told course.codec read) ≡ false
+  pub ran : RanFrom course call (stream_told course.codec read) last desk
 
 -- the same, to some state
 pub record WroteTold {S D : Type 0} (course : Course S D) (call : CallBytes) (desk : D) : Type 0 where
@@ -114,30 +114,33 @@ pub record AllAnswered {S D : Type 0} (course : Course S D) (bytes : List ℕ) (
   pub wrote : WroteTold course (call_bytes bytes m.left start.taken m.taken) desk
   pub flushed : IsFlushed start.taken start.flushed → IsFlushed m.taken m.flushed
 
--- what is written begins the frames of a run over all these bytes, and holds them whole for all items
--- that are told by the bytes read but for a last piece of at most so many bytes
-pub record WrotePart {S D : Type 0} (course : Course S D) (call : CallBytes) (size : ℕ) : Type 0 where
+-- what is written begins the frames of a run over some first ones of the items of all these bytes, and holds them whole for all
+-- that are told by the bytes read but for a last piece of at most so many bytes; the desk has grown by what that run
+-- asked so far, and maybe further
+pub record WrotePart {S D : Type 0} (course : Course S D) (call : CallBytes) (size : ℕ) (desk : D) : Type 0 where
   pub early : List ℕ
   pub piece : List ℕ
   pub gives : Consumes (Some call.bytes) call.left (early ++ piece)
   pub short : length piece ≤ size
   pub first : Effect
   pub mid : S
-  pub run : Run course.step course.start (stream_told course.limits early) first mid
+  pub run : Run course.step course.start (stream_told course.codec early) first mid
+  pub middle : D
+  pub grows : Grows course.meaning course.desk first.trace middle
   pub later : List ItemData
-  pub split : stream_told course.limits early ++ later ≡ served course.find (stream_items course.limits call.bytes)
+  pub split : stream_told course.codec early ++ later ≡ served course.find (stream_items course.codec call.bytes)
   pub written : List ℕ
-  pub part : IsPartOf course.step mid later written
+  pub part : IsPartOf course.step course.meaning mid middle later written desk
   pub writes : Appends call.taken call.taken_after (frames first.out ++ written)
 
 -- what a call that serves over reads comes to, from one moment to another, by the error that it answers, if any
 pub record ServesOver {S D : Type 0} (course : Course S D) (bytes : List ℕ) (start now : Moment) (reads reads_after : Option (List Moment)) (size : ℕ) (last : S) (desk : D) (error : Option ServeError) : Type 0 where
   -- the steps of the items of all the bytes were made, through the first exit or with a tick at the end, and their frames were written
-  pub ok : IfNone error (RanFrom course (call_bytes bytes now.left start.taken now.taken) (served course.find (stream_items course.limits bytes)) last desk)
+  pub ok : IfNone error (RanFrom course (call_bytes bytes now.left start.taken now.taken) (served course.find (stream_items course.codec bytes)) last desk)
   -- it ends only at the end of input or at an exit, and nothing is read after the piece that tells the exit
   pub enough : IfNone error (ReadEnough course (call_bytes bytes now.left start.taken now.taken) size)
   -- between two reads the items told were served
   pub exact : IfSome error (λ e. IsBetweenReads e → RanTold course (call_bytes bytes now.left start.taken now.taken) last desk)
-  pub part : WrotePart course (call_bytes bytes now.left start.taken now.taken) size
+  pub part : WrotePart course (call_bytes bytes now.left start.taken now.taken) size desk
   -- before each read all that was told is answered, and nothing is read after the end of input
   pub in_order : Made reads reads_after (InOrder (AllAnswered course bytes start))

@@ -1,9 +1,9 @@
 -- What contracts see of the code's server and of the session that it runs.
-use Rattle.std.specs.Prelude.{◌≡◌, ℕ, List, [], Option, false}
+use Rattle.std.specs.Prelude.{◌≡◌, ℕ, Bool, List, [], Option, false}
 use Rattle.lsp_desk.specs.declared.desk.Caller.{Ghosts as CallerGhosts}
 use Rattle.lsp_desk.specs.Meaning.{Meaning}
 use Rattle.lsp_frame.specs.declared.limits.Limits.{Limits}
-use Rattle.lsp_frame.specs.Codec.{At}
+use Rattle.lsp_frame.specs.Codec.{Floats, At}
 use Rattle.lsp_session.specs.declared.handlers.Handlers.{Ghosts as HandlersGhosts}
 use Rattle.lsp_session.specs.declared.session.Session.{Session}
 use Rattle.lsp_session.specs.Semantics.{Semantics}
@@ -30,11 +30,19 @@ abbrev pub waiting : {D : Type 0} {d : CallerGhosts D} → Server D d → ℕ
 waiting s = s.wait
 
 abbrev pub server_limits : {D : Type 0} {d : CallerGhosts D} → Server D d → Limits
-server_limits s = s.limits
+server_limits s = s.settings.limits
+
+-- what becomes of floats
+abbrev pub server_floats : {D : Type 0} {d : CallerGhosts D} → Server D d → Floats
+server_floats s = s.settings.floats
+
+-- whether params that hold nothing are allowed where a method takes none
+abbrev pub server_empty_params : {D : Type 0} {d : CallerGhosts D} → Server D d → Bool
+server_empty_params s = s.empty_params
 
 -- what the server runs a session with
 abbrev pub setting : {H D P : Type 0} {d : CallerGhosts D} → Server D d → H → P → ℕ → Setting H D P
-setting server service pick rounds = record { service = service; desk = server_desk server; max = concurrency server; wait = waiting server; rounds = rounds; limits = server_limits server; pick = pick }
+setting server service pick rounds = record { service = service; desk = server_desk server; max = concurrency server; wait = waiting server; rounds = rounds; limits = server_limits server; floats = server_floats server; empty_params = server_empty_params server; pick = pick }
 
 -- ---- the session
 

@@ -38,10 +38,10 @@ pub record IsIdle {S D : Type 0} (a : Spot S D) : Type 0 where
 
 -- these bytes begin the frames of a run over some first ones of the items of what a codec holds, whatever bytes may
 -- follow, and they were written
-pub record PartTold {S : Type 0} (step : S → ItemData → Effect → S → Type 0) (find : List ℕ → Option Entry) (old : S) (codec : At) (taken taken_after : Option (List ℕ)) : Type 0 where
+pub record PartTold {S D : Type 0} (step : S → ItemData → Effect → S → Type 0) (m : Meaning D) (find : List ℕ → Option Entry) (old : Place S D) (codec : At) (new_desk : D) (new_taken : Option (List ℕ)) : Type 0 where
   pub written : List ℕ
-  pub part : (c : List ℕ) → IsPartOf step old (served find (all_admitted (items_at (more codec c)))) written
-  pub writes : Appends taken taken_after written
+  pub part : (c : List ℕ) → IsPartOf step m old.state old.desk (served find (all_admitted (items_at (more codec c)))) written new_desk
+  pub writes : Appends old.taken new_taken written
 
 module _ {H D C T P : Type 0} (semantics : Semantics H C T) (m : Meaning D) (order : Order P) where
   abbrev pub Here : Type 0
@@ -80,10 +80,10 @@ module _ {H D C T P : Type 0} (semantics : Semantics H C T) (m : Meaning D) (ord
   abbrev pub Serves : Here → Given → ConsumerOutcome → List ℕ → Here → Type 0
   Serves a (piece bytes) goes_on written b = ServesTold a bytes false written b × IsOpen b
   Serves a (piece bytes) done written b = ServesTold a bytes true written b
-  Serves a (piece bytes) (stops e) written b = StopsWith a e ((c : List ℕ) → IsPartOf (StepHere a) a.state (served (find_here a) (all_admitted (items_at (more (more a.codec bytes) c)))) written) b
+  Serves a (piece bytes) (stops e) written b = StopsWith a e ((c : List ℕ) → IsPartOf (StepHere a) m a.state a.desk (served (find_here a) (all_admitted (items_at (more (more a.codec bytes) c)))) written b.desk) b
   Serves a end goes_on written b = ⊥
   Serves a end done written b = ServesEnd a written b
-  Serves a end (stops e) written b = StopsWith a e (IsPartOf (StepHere a) a.state (served (find_here a) (all_admitted (items_at a.codec))) written) b
+  Serves a end (stops e) written b = StopsWith a e (IsPartOf (StepHere a) m a.state a.desk (served (find_here a) (all_admitted (items_at a.codec))) written b.desk) b
 
   abbrev pub serves : Consuming Here
   serves = record { is_open = IsOpen; does = Serves }

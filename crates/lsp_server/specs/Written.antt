@@ -1,7 +1,7 @@
 -- What is written of a run.
 use Rattle.std.specs.Prelude.{◌≡◌, ◌++◌, ℕ, List, Option}
 use Rattle.std.specs.Io.KnownBytes.{Appends}
-use Rattle.lsp_desk.specs.Meaning.{Meaning, Grows}
+use Rattle.lsp_desk.specs.Meaning.{Meaning, Grows, Grown}
 use Rattle.lsp_frame.specs.Codec.{frames}
 use Rattle.lsp_session.specs.Item.{ItemData}
 use Rattle.lsp_session.specs.State.{State, Effect}
@@ -28,18 +28,21 @@ pub record Ran {S D : Type 0} (step : S → ItemData → Effect → S → Type 0
   pub grows : Grows m old.desk effect.trace new.desk
   pub writes : Appends old.taken new.taken (frames effect.out)
 
--- these bytes begin the frames of a run over some first ones of these items
-pub record IsPartOf {S : Type 0} (step : S → ItemData → Effect → S → Type 0) (old : S) (items : List ItemData) (bytes : List ℕ) : Type 0 where
+-- these bytes begin the frames of a run over some first ones of these items, by whose trace the desk grew, and maybe further
+pub record IsPartOf {S D : Type 0} (step : S → ItemData → Effect → S → Type 0) (m : Meaning D) (old : S) (old_desk : D) (items : List ItemData) (bytes : List ℕ) (new_desk : D) : Type 0 where
   pub given : List ItemData
   pub rest : List ItemData
   pub split : given ++ rest ≡ items
   pub effect : Effect
   pub last : S
   pub run : Run step old given effect last
+  pub desk : D
+  pub grows : Grows m old_desk effect.trace desk
+  pub further : Grown m desk new_desk
   pub part : IsPrefixOf bytes (frames effect.out)
 
--- bytes that begin the frames of a run over some first ones of these items were written
-pub record RanPart {S : Type 0} (step : S → ItemData → Effect → S → Type 0) (old : S) (old_taken : Option (List ℕ)) (items : List ItemData) (new_taken : Option (List ℕ)) : Type 0 where
+-- bytes that begin the frames of a run over some first ones of these items were written, and the desk grew by that run, and maybe further
+pub record RanPart {S D : Type 0} (step : S → ItemData → Effect → S → Type 0) (m : Meaning D) (old : Place S D) (items : List ItemData) (new_desk : D) (new_taken : Option (List ℕ)) : Type 0 where
   pub written : List ℕ
-  pub part : IsPartOf step old items written
-  pub writes : Appends old_taken new_taken written
+  pub part : IsPartOf step m old.state old.desk items written new_desk
+  pub writes : Appends old.taken new_taken written

@@ -2,6 +2,7 @@
 #![tactic(auto)]
 
 mod consumer;
+pub mod law;
 mod memory;
 mod memory_transport;
 mod read_write;

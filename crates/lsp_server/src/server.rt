@@ -5,6 +5,7 @@ ghost use Rattle.lsp_desk.specs.Meaning.{IsOpening, Grown};
 ghost use Rattle.lsp_frame.specs.Codec.{AreLimits, default_limits};
 ghost use Rattle.lsp_session.specs.Item.{show_item, item_has_float, tick};
 ghost use Rattle.lsp_session.specs.Run.{Step, order_by};
+ghost use Rattle.lsp_session.specs.State.{opening_by};
 ghost use Rattle.lsp_session.specs.SessionView.{session_view, has_stopped, desk_of, life_of};
 ghost use Rattle.lsp_server.specs.SourceSink.{CountRose, IsFlushed};
 ghost use Rattle.lsp_server.specs.Course.{course, picked};
@@ -17,8 +18,9 @@ ghost use Rattle.lsp_server.specs.Errors.{IsBetweenReads, IsFlushedAt, IsInStep,
 use crate::serving::serve_over;
 use crate::step::{ServeError, flush, write_step};
 use crate::{Ends, Sink, Source};
+use bytes::BytesMut;
 use lsp_desk::{ClientSocket, Desk, Loopback};
-use lsp_frame::Limits;
+use lsp_frame::{CodecSettings, Floats, Limits};
 use lsp_rpc::{Id, NoMemory};
 use lsp_session::{Handlers, Item, Life, Pick, Session};
 use std::alloc::Global;
@@ -51,28 +53,33 @@ pub struct Server<D: Desk + Drop> {
     socket: ClientSocket<D>,
     max: usize,
     wait: usize,
-    limits: Limits,
+    settings: CodecSettings,
+    empty_params: bool,
     ghost some: { 1 ≤ max },
-    ghost limited: { AreLimits limits },
+    ghost limited: { AreLimits settings.limits },
 }
 
 impl<D: Desk + Drop> Server<D> {
-    ghost use Rattle.lsp_server.specs.ServerView.{server_desk, concurrency, waiting, server_limits, setting, standing, IsReady};
+    ghost use Rattle.lsp_server.specs.ServerView.{server_desk, concurrency, waiting, server_limits, server_floats, server_empty_params, setting, standing, IsReady};
 
     /// A server over the desk of a socket. At most 4 calls are polled in a round, a request of an
     /// ordinary method is refused while 1,024 calls wait, and a head has at most 8,192 bytes and a
-    /// body at most 67,108,864.
+    /// body at most 67,108,864. A body with a float is refused, and so are params of a method that
+    /// takes none.
     pub fn new(socket: ClientSocket<D>) -> Server<D>
         ensures desk { server_desk result ≡ socket.desk }
         ensures concurrency { concurrency result ≡ 4 }
         ensures waiting { waiting result ≡ 1024 }
         ensures limits { server_limits result ≡ default_limits }
+        ensures floats { server_floats result ≡ Floats.Refused }
+        ensures empty_params { server_empty_params result ≡ false }
     {
         Server {
             socket,
             max: 4,
             wait: 1024,
-            limits: Limits::default(),
+            settings: CodecSettings::default(),
+            empty_params: false,
         }
     }
 
@@ -83,12 +90,15 @@ impl<D: Desk + Drop> Server<D> {
         ensures concurrency { concurrency result ≡ max }
         ensures waiting { waiting result ≡ waiting self }
         ensures limits { server_limits result ≡ server_limits self }
+        ensures floats { server_floats result ≡ server_floats self }
+        ensures empty_params { server_empty_params result ≡ server_empty_params self }
     {
         Server {
             socket: self.socket,
             max,
             wait: self.wait,
-            limits: self.limits,
+            settings: self.settings,
+            empty_params: self.empty_params,
         }
     }
 
@@ -99,12 +109,15 @@ impl<D: Desk + Drop> Server<D> {
         ensures concurrency { concurrency result ≡ concurrency self }
         ensures waiting { waiting result ≡ wait }
         ensures limits { server_limits result ≡ server_limits self }
+        ensures floats { server_floats result ≡ server_floats self }
+        ensures empty_params { server_empty_params result ≡ server_empty_params self }
     {
         Server {
             socket: self.socket,
             max: self.max,
             wait,
-            limits: self.limits,
+            settings: self.settings,
+            empty_params: self.empty_params,
         }
     }
 
@@ -115,12 +128,54 @@ impl<D: Desk + Drop> Server<D> {
         ensures concurrency { concurrency result ≡ concurrency self }
         ensures waiting { waiting result ≡ waiting self }
         ensures limits { server_limits result ≡ limits }
+        ensures floats { server_floats result ≡ server_floats self }
+        ensures empty_params { server_empty_params result ≡ server_empty_params self }
+    {
+        let floats = self.settings.floats;
+        Server {
+            socket: self.socket,
+            max: self.max,
+            wait: self.wait,
+            settings: CodecSettings { limits, floats },
+            empty_params: self.empty_params,
+        }
+    }
+
+    /// The same server, by which bodies with floats are read so.
+    pub fn floats(self, floats: Floats) -> Server<D>
+        ensures desk { server_desk result ≡ server_desk self }
+        ensures concurrency { concurrency result ≡ concurrency self }
+        ensures waiting { waiting result ≡ waiting self }
+        ensures limits { server_limits result ≡ server_limits self }
+        ensures floats { server_floats result ≡ floats }
+        ensures empty_params { server_empty_params result ≡ server_empty_params self }
+    {
+        let limits = self.settings.limits;
+        Server {
+            socket: self.socket,
+            max: self.max,
+            wait: self.wait,
+            settings: CodecSettings { limits, floats },
+            empty_params: self.empty_params,
+        }
+    }
+
+    /// The same server, in which params that hold nothing, null or an empty object, are read as
+    /// absent where a method takes none.
+    pub fn allow_empty_params(self) -> Server<D>
+        ensures desk { server_desk result ≡ server_desk self }
+        ensures concurrency { concurrency result ≡ concurrency self }
+        ensures waiting { waiting result ≡ waiting self }
+        ensures limits { server_limits result ≡ server_limits self }
+        ensures floats { server_floats result ≡ server_floats self }
+        ensures empty_params { server_empty_params result ≡ true }
     {
         Server {
             socket: self.socket,
             max: self.max,
             wait: self.wait,
-            limits,
+            settings: self.settings,
+            empty_params: true,
         }
     }
 
@@ -151,8 +206,9 @@ impl<D: Desk + Drop> Server<D> {
 
         // At an error nothing was written, or what begins the frames of the whole step.
         ensures part { OnErr result (RanPart (Step H.semantics (order_by P.gives P.later) rounds)
-            (picked (session_view H.semantics D.meaning session.old) (P.state pick.old))
-            (O.taken sink.old) (show_item item ∷ []) (O.taken sink.new)) }
+            D.meaning
+            (standing H.semantics D.meaning session.old (P.state pick.old) (O.taken sink.old))
+            (show_item item ∷ []) (desk_of session.new) (O.taken sink.new)) }
         ensures grown { OnErr result (Grown D.meaning (desk_of session.old) (desk_of session.new)) }
 
         // Each error has its cause, and a failure is told.
@@ -160,7 +216,8 @@ impl<D: Desk + Drop> Server<D> {
         ensures spent { IfErr result (λ e. SaysSpent D.meaning (desk_of session.new) e) }
         ensures others { IfErr result IsInStep }
     {
-        write_step(alloc, sink, session, item, pick, rounds)?;
+        let mut room = BytesMut::new(alloc);
+        write_step(alloc, &mut room, sink, session, item, pick, rounds)?;
         flush(sink)
     }
 
@@ -183,8 +240,9 @@ impl<D: Desk + Drop> Server<D> {
         ensures flushed { OnOk result (IsFlushed (O.taken sink.old) (O.flushed sink.old)
             → IsFlushed (O.taken sink.new) (O.flushed sink.new)) }
         ensures part { OnErr result (RanPart (Step H.semantics (order_by P.gives P.later) rounds)
-            (picked (session_view H.semantics D.meaning session.old) (P.state pick.old))
-            (O.taken sink.old) (tick ∷ []) (O.taken sink.new)) }
+            D.meaning
+            (standing H.semantics D.meaning session.old (P.state pick.old) (O.taken sink.old))
+            (tick ∷ []) (desk_of session.new) (O.taken sink.new)) }
         ensures grown { OnErr result (Grown D.meaning (desk_of session.old) (desk_of session.new)) }
         ensures sink { LeavesFaults O.faults O.beside sink.old sink.new (result_err result) }
         ensures spent { IfErr result (λ e. SaysSpent D.meaning (desk_of session.new) e) }
@@ -275,10 +333,11 @@ impl<D: Desk + Drop> Server<D> {
             (setting self service (P.state pick.old) rounds))
             (call_bytes bytes (I.left source.new) (O.taken sink.old)
             (O.taken sink.new)) stopped.desk)) }
-        ensures part { OnErr result (IfSome (I.left source.old) (λ bytes. WrotePart
+        ensures part { IfErr result (λ stopped. IfSome (I.left source.old) (λ bytes. WrotePart
             (course H.semantics D.meaning (order_by P.gives P.later)
             (setting self service (P.state pick.old) rounds))
-            (call_bytes bytes (I.left source.new) (O.taken sink.old) (O.taken sink.new)) 4096)) }
+            (call_bytes bytes (I.left source.new) (O.taken sink.old) (O.taken sink.new)) 4096
+            stopped.desk)) }
 
         // At each answer the desk that is handed back has grown from the one that was handed in.
         ensures grown { IfOk result (λ served. Grown D.meaning (server_desk self) served.desk) }
@@ -286,7 +345,7 @@ impl<D: Desk + Drop> Server<D> {
             (server_desk self) stopped.desk) }
     {
         let desk = self.socket.into_desk();
-        let mut session = Session::new(alloc, service, desk, self.max).waiting_limit(self.wait);
+        let mut session = open(alloc, service, desk, self.max, self.wait, self.empty_params);
         let mut ends = Ends { source, sink };
         match serve_over(
             alloc,
@@ -295,11 +354,37 @@ impl<D: Desk + Drop> Server<D> {
             pick,
             reads,
             rounds,
-            self.limits,
+            self.settings,
         ) {
             Ok(()) => hand_back(session),
             Err(error) => Err(stop(session, error)),
         }
+    }
+}
+
+// The session that a server serves with.
+fn open<D: Desk + Drop, H: Handlers<D>>(
+    alloc: Global,
+    service: H,
+    desk: D,
+    max: usize,
+    wait: usize,
+    empty_params: bool,
+) -> Session<H, D>
+    requires some { 1 ≤ max }
+    requires opening { IsOpening D.meaning desk }
+    ensures view { session_view H.semantics D.meaning result ≡ record {
+      desk = desk;
+      state = opening_by service max wait empty_params;
+      out = [];
+    } }
+    ensures running { has_stopped result ≡ false }
+{
+    let session = Session::new(alloc, service, desk, max).waiting_limit(wait);
+    if empty_params {
+        session.allow_empty_params()
+    } else {
+        session
     }
 }
 

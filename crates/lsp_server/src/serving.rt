@@ -19,8 +19,9 @@ ghost use Rattle.lsp_server.specs.ServerView.{standing, IsReady};
 use crate::reads::over_reads;
 use crate::step::{ServeError, write_step};
 use crate::{Consumer, Sink, Transport};
+use bytes::BytesMut;
 use lsp_desk::Desk;
-use lsp_frame::{Decoded, LanguageServerCodec, Limits};
+use lsp_frame::{CodecSettings, Decoded, LanguageServerCodec};
 use lsp_rpc::NoMemory;
 use lsp_session::{Handlers, Item, Life, Pick, Session};
 use std::alloc::Global;
@@ -30,6 +31,8 @@ use std::alloc::Global;
 struct Serving<'a, P> {
     alloc: Global,
     codec: &'a mut LanguageServerCodec,
+    // Keeps the room that the frames of a step take for the next.
+    room: &'a mut BytesMut,
     pick: &'a mut P,
     rounds: u64,
 }
@@ -57,6 +60,7 @@ impl<'a, D: Desk + Drop, H: Handlers<D>, P: Pick> Consumer<Session<H, D>> for Se
         serve_told(
             self.alloc,
             self.codec,
+            self.room,
             sink,
             session,
             self.pick,
@@ -72,6 +76,7 @@ impl<'a, D: Desk + Drop, H: Handlers<D>, P: Pick> Consumer<Session<H, D>> for Se
         serve_end(
             self.alloc,
             self.codec,
+            self.room,
             sink,
             session,
             self.pick,
@@ -92,9 +97,9 @@ pub fn serve_over<T: Transport, D: Desk + Drop, H: Handlers<D>, P: Pick>(
     pick: &mut P,
     reads: u64,
     rounds: u64,
-    limits: Limits,
+    settings: CodecSettings,
 ) -> Result<(), ServeError>
-    requires limits { AreLimits limits }
+    requires limits { AreLimits settings.limits }
     requires ready { IsReady H.semantics D.meaning session.old }
     requires alive { life_of D.meaning session.old ≢ Life.Exited }
     requires unexited { (session_view H.semantics D.meaning session.old).state.exited ≡ None }
@@ -103,7 +108,7 @@ pub fn serve_over<T: Transport, D: Desk + Drop, H: Handlers<D>, P: Pick>(
     // their frames were written: of all bytes at Ok, through the first exit or with a tick at the
     // end. Before each read all that was told is answered.
     ensures serves { IfSome (T.left io.old) (λ bytes. ServesOver
-        (course_from H.semantics D.meaning (order_by P.gives P.later) rounds limits
+        (course_from H.semantics D.meaning (order_by P.gives P.later) rounds settings
         (session_view H.semantics D.meaning session.old) (P.state pick.old)) bytes
         (moment (T.left io.old) (T.taken io.old) (T.flushed io.old))
         (moment (T.left io.new) (T.taken io.new) (T.flushed io.new))
@@ -125,10 +130,12 @@ pub fn serve_over<T: Transport, D: Desk + Drop, H: Handlers<D>, P: Pick>(
         (T.reads io.old) (T.reads io.new) (result_err result) }
     ensures tied { T.tied io.new ≡ T.tied io.old }
 {
-    let mut codec = LanguageServerCodec::with_limits(alloc, limits);
+    let mut codec = LanguageServerCodec::with_settings(alloc, settings);
+    let mut room = BytesMut::new(alloc);
     let mut serving = Serving {
         alloc,
         codec: &mut codec,
+        room: &mut room,
         pick,
         rounds,
     };
@@ -154,6 +161,7 @@ fn next_item(codec: &mut LanguageServerCodec) -> Result<Option<Item>, NoMemory>
 fn serve_told<O: Sink, D: Desk + Drop, H: Handlers<D>, P: Pick>(
     alloc: Global,
     codec: &mut LanguageServerCodec,
+    room: &mut BytesMut,
     sink: &mut O,
     session: &mut Session<H, D>,
     pick: &mut P,
@@ -174,9 +182,10 @@ fn serve_told<O: Sink, D: Desk + Drop, H: Handlers<D>, P: Pick>(
         → ((session_view H.semantics D.meaning session.new).state.exited ≡ None)
         × (life_of D.meaning session.new ≢ Life.Exited)) }
     ensures part { OnErr result (PartTold (Step H.semantics (order_by P.gives P.later) rounds)
+        D.meaning
         (H.semantics.find (session_view H.semantics D.meaning session.old).state.service)
-        (picked (session_view H.semantics D.meaning session.old) (P.state pick.old))
-        codec.old (O.taken sink.old) (O.taken sink.new)) }
+        (standing H.semantics D.meaning session.old (P.state pick.old) (O.taken sink.old))
+        codec.old (desk_of session.new) (O.taken sink.new)) }
     ensures grown { Grown D.meaning (desk_of session.old) (desk_of session.new) }
     ensures flushed { O.flushed sink.new ≡ O.flushed sink.old }
     ensures sink { LeavesFaults O.faults O.beside sink.old sink.new (result_err result) }
@@ -184,7 +193,7 @@ fn serve_told<O: Sink, D: Desk + Drop, H: Handlers<D>, P: Pick>(
     ensures others { IfErr result IsInStep }
 {
     'items: while let Some(item) = next_item(codec)? {
-        write_step(alloc, sink, session, item, pick, rounds)?;
+        write_step(alloc, room, sink, session, item, pick, rounds)?;
         if session.exited().is_some() {
             return Ok(true);
         }
@@ -197,6 +206,7 @@ fn serve_told<O: Sink, D: Desk + Drop, H: Handlers<D>, P: Pick>(
 fn serve_end<O: Sink, D: Desk + Drop, H: Handlers<D>, P: Pick>(
     alloc: Global,
     codec: &mut LanguageServerCodec,
+    room: &mut BytesMut,
     sink: &mut O,
     session: &mut Session<H, D>,
     pick: &mut P,
@@ -212,10 +222,10 @@ fn serve_end<O: Sink, D: Desk + Drop, H: Handlers<D>, P: Pick>(
         (standing H.semantics D.meaning session.new (P.state pick.new) (O.taken sink.new))) }
     ensures ready { OnOk result (IsReady H.semantics D.meaning session.new) }
     ensures part { OnErr result (RanPart (Step H.semantics (order_by P.gives P.later) rounds)
-        (picked (session_view H.semantics D.meaning session.old) (P.state pick.old))
-        (O.taken sink.old)
+        D.meaning
+        (standing H.semantics D.meaning session.old (P.state pick.old) (O.taken sink.old))
         (served (H.semantics.find (session_view H.semantics D.meaning session.old).state.service)
-        (all_admitted (items_at codec.old))) (O.taken sink.new)) }
+        (all_admitted (items_at codec.old))) (desk_of session.new) (O.taken sink.new)) }
     ensures grown { OnErr result (Grown D.meaning (desk_of session.old) (desk_of session.new)) }
     ensures flushed { O.flushed sink.new ≡ O.flushed sink.old }
     ensures sink { LeavesFaults O.faults O.beside sink.old sink.new (result_err result) }
@@ -226,14 +236,15 @@ fn serve_end<O: Sink, D: Desk + Drop, H: Handlers<D>, P: Pick>(
         Some(fault) => {
             write_step(
                 alloc,
+                room,
                 sink,
                 session,
                 Item::Fault(fault.code()),
                 pick,
                 rounds,
             )?;
-            write_step(alloc, sink, session, Item::Tick, pick, rounds)
+            write_step(alloc, room, sink, session, Item::Tick, pick, rounds)
         }
-        None => write_step(alloc, sink, session, Item::Tick, pick, rounds),
+        None => write_step(alloc, room, sink, session, Item::Tick, pick, rounds),
     }
 }

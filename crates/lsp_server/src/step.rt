@@ -7,7 +7,6 @@ ghost use Rattle.lsp_session.specs.Item.{show_item, item_has_float};
 ghost use Rattle.lsp_session.specs.Run.{Step, order_by, is_exit};
 ghost use Rattle.lsp_session.specs.SessionView.{session_view, desk_of, life_of};
 ghost use Rattle.lsp_server.specs.SourceSink.{CountRose, Flushes};
-ghost use Rattle.lsp_server.specs.Course.{picked};
 ghost use Rattle.lsp_server.specs.Written.{Ran, RanPart};
 ghost use Rattle.lsp_server.specs.ServerView.{standing, IsReady};
 ghost use Rattle.lsp_server.specs.Leaves.{LeavesFaults};
@@ -16,6 +15,7 @@ ghost use Rattle.lsp_server.specs.declared.step.ServeError.TheVariants.{NoMemory
 
 use crate::write::put;
 use crate::{Refused, Sink};
+use bytes::BytesMut;
 use lsp_desk::Desk;
 use lsp_rpc::NoMemory;
 use lsp_session::{Handlers, Item, Life, Pick, Session, SessionFault};
@@ -52,9 +52,10 @@ impl From<NoMemory> for ServeError {
 }
 
 /// Makes the step of one item: it is admitted, so many rounds are made, and the frames of what was
-/// put out are written.
+/// put out are written by way of the room.
 pub(crate) fn write_step<O: Sink, D: Desk + Drop, H: Handlers<D>, P: Pick>(
     alloc: Global,
+    room: &mut BytesMut,
     sink: &mut O,
     session: &mut Session<H, D>,
     item: Item,
@@ -74,8 +75,9 @@ pub(crate) fn write_step<O: Sink, D: Desk + Drop, H: Handlers<D>, P: Pick>(
         (show_item item) ≡ false
         → life_of D.meaning session.new ≢ Life.Exited) }
     ensures part { OnErr result (RanPart (Step H.semantics (order_by P.gives P.later) rounds)
-        (picked (session_view H.semantics D.meaning session.old) (P.state pick.old))
-        (O.taken sink.old) (show_item item ∷ []) (O.taken sink.new)) }
+        D.meaning
+        (standing H.semantics D.meaning session.old (P.state pick.old) (O.taken sink.old))
+        (show_item item ∷ []) (desk_of session.new) (O.taken sink.new)) }
     ensures grown { OnErr result (Grown D.meaning (desk_of session.old) (desk_of session.new)) }
     ensures flushed { O.flushed sink.new ≡ O.flushed sink.old }
     ensures sink { LeavesFaults O.faults O.beside sink.old sink.new (result_err result) }
@@ -89,7 +91,7 @@ pub(crate) fn write_step<O: Sink, D: Desk + Drop, H: Handlers<D>, P: Pick>(
         Err(SessionFault::Exited(_)) => unreachable!(),
     }
     let out = session.take_out();
-    match put(alloc, sink, &out) {
+    match put(alloc, room, sink, &out) {
         Ok(()) => Ok(()),
         Err(Refused::Failed) => Err(ServeError::WriteFault),
         Err(Refused::NoMemory) => Err(ServeError::NoMemory),

@@ -9,13 +9,18 @@ ghost use Rattle.lsp_server.specs.Written.{IsPrefixOf};
 
 use crate::{Refused, Sink};
 use bytes::BytesMut;
-use lsp_frame::LanguageServerCodec;
+use lsp_frame::push_message;
 use lsp_rpc::{Message, NoMemory};
 use std::alloc::Global;
 
-/// Writes the frames of the messages; where there is none, nothing is written.
+// A larger room isn't kept.
+const KEPT: usize = 65_536;
+
+/// Writes the frames of the messages by way of the room, which is kept for the next; where there is
+/// no message, nothing is written.
 pub(crate) fn put<O: Sink>(
     alloc: Global,
+    room: &mut BytesMut,
     sink: &mut O,
     messages: &Vec<Message>,
 ) -> Result<(), Refused>
@@ -36,23 +41,27 @@ pub(crate) fn put<O: Sink>(
     if messages.is_empty() {
         return Ok(());
     }
-    let bytes = match encode_all(alloc, messages) {
-        Ok(bytes) => bytes,
+    match encode_all(alloc, messages, room) {
+        Ok(()) => {}
         Err(NoMemory) => return Err(Refused::NoMemory),
-    };
-    write_all(sink, bytes.as_slice())
+    }
+    let written = write_all(sink, room.as_slice());
+    if room.capacity() > KEPT {
+        *room = BytesMut::new(alloc);
+    }
+    written
 }
 
-fn encode_all(alloc: Global, messages: &Vec<Message>) -> Result<BytesMut, NoMemory>
+// Leaves the frames of the messages in the room, and nothing else.
+fn encode_all(alloc: Global, messages: &Vec<Message>, room: &mut BytesMut) -> Result<(), NoMemory>
     requires { have_float (map show_message messages.now.items) ≡ false }
-    ensures { IfOk result (λ bytes. bytes.items ≡ frames (map show_message messages.now.items)) }
+    ensures { OnOk result (room.new.items ≡ frames (map show_message messages.now.items)) }
 {
-    let mut codec = LanguageServerCodec::default(alloc);
-    let mut bytes = BytesMut::new(alloc);
+    room.clear();
     for message in messages {
-        codec.encode(message, &mut bytes)?;
+        push_message(alloc, message, room)?;
     }
-    Ok(bytes)
+    Ok(())
 }
 
 /// Writes all the bytes, by as many calls of the sink as it takes.

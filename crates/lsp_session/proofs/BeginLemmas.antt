@@ -15,7 +15,7 @@ use Rattle.lsp_session.specs.Item.{ItemData, message, fault, tick}
 use Rattle.lsp_session.specs.Semantics.{Semantics, Reading, call, missing, unexpected, unfit, Fresh, Held, Progress, Pending, Done}
 use Rattle.lsp_session.specs.Admission.{Verdict, Silence, Refuses, Answers, Cancels, Exits, Starts, Occasion, is_live, refuse, cancel, cancel_live, cancels, cancelled_id, started as started_verdict, unless_crowded, is_limited, if_of_kind, check_life, passed, quiet, called, by_layer, by_entry}
 use Rattle.lsp_session.specs.State.{Work, State, Effect, marked, dues, moved_up, moved_slots, moved_queue, entered, has_room, is_of, is_notification, without, notifications}
-use Rattle.lsp_session.specs.Run.{Applies, admission_of, occasion, after_poll, Order, Poll, PollsAt, Rounds, Picked, Step, Run}
+use Rattle.lsp_session.specs.Run.{reads_in, Applies, admission_of, occasion, after_poll, Order, Poll, PollsAt, Rounds, Picked, Step, Run}
 use Rattle.lsp_session.specs.Begins.{Begin, passing, begins, begun_by_polls, begun_by_rounds, begun, starts, started, IsRequested, BeginsWhereStarted}
 
 -- ---- a verdict starts no call but that of its own request
@@ -92,17 +92,17 @@ module _ (C : Type 0) (P : Option IdData → Entry → C → Type 0) where
 
 module _ {H C T : Type 0} (semantics : Semantics H C T) where
   admission_starts : (s : State H semantics.Call semantics.Task) (item : ItemData)
-      → StartsAre (λ id entry c. IsRequested semantics s.service item id entry c) (admission_of semantics s item).verdict
+      → StartsAre (λ id entry c. IsRequested semantics s item id entry c) (admission_of semantics s item).verdict
   admission_starts s (message (request r)) =
-      by_entry_starts semantics.Call (λ id entry c. IsRequested semantics s.service (message (request r)) id entry c) (occasion s) semantics.reads r (semantics.find s.service r.method)
+      by_entry_starts semantics.Call (λ id entry c. IsRequested semantics s (message (request r)) id entry c) (occasion s) (reads_in semantics s) r (semantics.find s.service r.method)
       (λ entry c p q. record { r = r; item_is = refl; id_is = refl; found = p; read = q })
   admission_starts s (message (response r)) = tt
   admission_starts s (fault code) = tt
   admission_starts s tick = tt
 
   pub requested : (s : State H semantics.Call semantics.Task) (item : ItemData) (id : Option IdData) (entry : Entry) (c : semantics.Call) → (admission_of semantics s item).verdict ≡ Starts id entry c
-      → IsRequested semantics s.service item id entry c
-  requested s item id entry c e = subst (StartsAre (λ id entry c. IsRequested semantics s.service item id entry c)) e (admission_starts s item)
+      → IsRequested semantics s item id entry c
+  requested s item id entry c e = subst (StartsAre (λ id entry c. IsRequested semantics s item id entry c)) e (admission_starts s item)
 
 -- ---- how many that are yet to begin pass a test
 

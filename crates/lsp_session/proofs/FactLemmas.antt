@@ -14,16 +14,16 @@ use Rattle.lsp_session.specs.declared.life_check.LifeChange.TheVariants.{Stays, 
 use Rattle.lsp_session.specs.Item.{ItemData}
 use Rattle.lsp_session.specs.Semantics.{Semantics, IsLawfulHandlers, Fresh, Held, Progress, Pending, Done}
 use Rattle.lsp_session.specs.Admission.{Verdict, Silence, Refuses, Answers, Cancels, Exits, Starts, Admission, cancel_change}
-use Rattle.lsp_session.specs.State.{Work, State, Effect, initializing, initializes, is_initialize, marked, moved_up, entered, WorksFit, FitsLife, session_opening}
-use Rattle.lsp_session.specs.Run.{Applies, Admits, admission_of, occasion, after_poll, Order, Poll, PollsAt, Round, Rounds, Drains, Picked, Step, took, closed, changing, poll_change, end_change, is_initializing}
+use Rattle.lsp_session.specs.State.{Work, State, Effect, initializing, initializes, is_initialize, marked, moved_up, entered, WorksFit, FitsLife, opening_by}
+use Rattle.lsp_session.specs.Run.{Applies, Admits, admission_of, reads_in, occasion, after_poll, Order, Poll, PollsAt, Round, Rounds, Drains, Picked, Step, took, closed, changing, poll_change, end_change, is_initializing}
 use Rattle.lsp_session.proofs.PollLemmas.{client_along}
 use Rattle.lsp_session.proofs.WorkLemmas.{cancelled_state, quit_state, quit_live}
 use Rattle.lsp_session.proofs.SortLemmas.{Sorted, leaves, takes, ends, opens, begins, shuts, closes, changes_none, admission_sorted}
 use Rattle.lsp_session.proofs.FitLemmas.{held_fits, ended_fits, cancelled_fits, opened_fits, begun_fits, marked_fits}
 
 module _ {H C T : Type 0} where
-  pub fits_opening : (service : H) (max wait : ℕ) → 1 ≤ max → FitsLife (session_opening {C = C} {T = T} service max wait)
-  fits_opening service max wait some = record { has_slots = some; works_fit = (refl, refl) }
+  pub fits_opening : (service : H) (max wait : ℕ) (empty : Bool) → 1 ≤ max → FitsLife (opening_by {C = C} {T = T} service max wait empty)
+  fits_opening service max wait empty some = record { has_slots = some; works_fit = (refl, refl) }
 
   -- another desk of the same life
   pub fits_desk : (s : State H C T) (d : DeskState) → d.life ≡ s.desk.life → FitsLife s → FitsLife (record s { desk = d })
@@ -31,6 +31,9 @@ module _ {H C T : Type 0} where
 
   pub fits_wait : (s : State H C T) (wait : ℕ) → FitsLife s → FitsLife (record s { wait = wait })
   fits_wait s wait p = record { has_slots = p.has_slots; works_fit = p.works_fit }
+
+  pub fits_empty : (s : State H C T) (empty : Bool) → FitsLife s → FitsLife (record s { empty_params = empty })
+  fits_empty s empty p = record { has_slots = p.has_slots; works_fit = p.works_fit }
 
   pub fits_marked : (s : State H C T) → FitsLife s → FitsLife (record s { slots = map marked s.slots })
   fits_marked s p = record { has_slots = p.has_slots; works_fit = marked_fits s.desk.life s.slots s.queue p.works_fit }
@@ -62,7 +65,7 @@ module _ {H C T : Type 0} (semantics : Semantics H C T) where
   is_other layer w entry e l h = ap (λ (x : Entry). is_initialize x.layer) e ∙ ap is_initialize l ∙ h
 
   pub admits_fits : (s s2 : State H semantics.Call semantics.Task) (item : ItemData) (e : Effect) → FitsLife s → Admits semantics s (admission_of semantics s item) e s2 → FitsLife s2
-  admits_fits s s2 item e p h = at (admission_sorted (occasion s) (semantics.find s.service) semantics.reads item)
+  admits_fits s s2 item e p h = at (admission_sorted (occasion s) (semantics.find s.service) (reads_in semantics s) item)
     where
       a : Admission semantics.Call
       a = admission_of semantics s item

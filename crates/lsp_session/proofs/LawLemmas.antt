@@ -20,7 +20,7 @@ use Rattle.lsp_session.specs.Item.{ItemData, message}
 use Rattle.lsp_session.specs.Semantics.{Semantics, IsLawfulHandlers, Progress, Pending, Done}
 use Rattle.lsp_session.specs.Admission.{Verdict, Silence, Refuses, Answers, Cancels, Exits, Starts, Admission, Occasion, cancel, check_life, quiet, refuse, passed, initialized, if_of_kind, started, by_layer, by_entry}
 use Rattle.lsp_session.specs.State.{State, Effect, live, initializing, is_crowded}
-use Rattle.lsp_session.specs.Run.{answer, cancelled, Applies, Admits, admission_of, occasion, after_poll, Poll, took, closed, changing, poll_change}
+use Rattle.lsp_session.specs.Run.{reads_in, answer, cancelled, Applies, Admits, admission_of, occasion, after_poll, Poll, took, closed, changing, poll_change}
 use Rattle.lsp_session.specs.Laws.{IsAnswered, Requests, NeedsInitialize, InitializeComesFirst, InitializeComesOnce, NothingBeginsAfterShutdown, ExitEnds, FallsInTime, LivesGoOn}
 use Rattle.lsp_session.proofs.SortLemmas.{Sorted, leaves, takes, ends, opens, begins, shuts, closes, changes_none, admission_sorted}
 use Rattle.lsp_session.proofs.LifeLemmas.{admission_quits, quits_quietly}
@@ -52,23 +52,23 @@ module _ {H C T : Type 0} (semantics : Semantics H C T) where
   module _ (s : State H semantics.Call semantics.Task) (r : RequestData) (entry : Entry) (i : IdData) (found : semantics.find s.service r.method ≡ Some entry) (id : r.id ≡ Some i) where
     -- what it would come to if the life let it pass
     abbrev passing : Verdict semantics.Call
-    passing = if_of_kind (live s) entry.kind r.id (started (is_crowded s) r.id entry r.params (semantics.reads entry r.params))
+    passing = if_of_kind (live s) entry.kind r.id (started (is_crowded s) r.id entry r.params (reads_in semantics s entry r.params))
 
-    found_entry : admission_of semantics s (message (request r)) ≡ by_layer (occasion s) r entry (semantics.reads entry r.params) entry.layer
-    found_entry = ap (by_entry (occasion s) semantics.reads r) found
+    found_entry : admission_of semantics s (message (request r)) ≡ by_layer (occasion s) r entry (reads_in semantics s entry r.params) entry.layer
+    found_entry = ap (by_entry (occasion s) (reads_in semantics s) r) found
 
     -- a method in this layer begins if the life lets it pass
     abbrev IsPlain : Layer → Type 0
-    IsPlain layer = by_layer (occasion s) r entry (semantics.reads entry r.params) layer ≡ passed (check_life s.desk.life entry.layer) r.id passing
+    IsPlain layer = by_layer (occasion s) r entry (reads_in semantics s entry r.params) layer ≡ passed (check_life s.desk.life entry.layer) r.id passing
 
     plain_is : (life : Life) (layer : Layer) → IsPlain layer → s.desk.life ≡ life → entry.layer ≡ layer → admission_of semantics s (message (request r)) ≡ passed (check_life life layer) r.id passing
     plain_is life layer plain l k =
-        found_entry ∙ ap (by_layer (occasion s) r entry (semantics.reads entry r.params)) k ∙ plain
+        found_entry ∙ ap (by_layer (occasion s) r entry (reads_in semantics s entry r.params)) k ∙ plain
         ∙ ap (λ (x : Layer). passed (check_life s.desk.life x) r.id passing) k ∙ ap (λ (x : Life). passed (check_life x layer) r.id passing) l
 
     initialize_is : (life : Life) → s.desk.life ≡ life → entry.layer ≡ Initialize → admission_of semantics s (message (request r)) ≡ initialized (passed (check_life life Initialize) r.id passing)
     initialize_is life l layer =
-        found_entry ∙ ap (by_layer (occasion s) r entry (semantics.reads entry r.params)) layer
+        found_entry ∙ ap (by_layer (occasion s) r entry (reads_in semantics s entry r.params)) layer
         ∙ ap (λ (x : Layer). initialized (passed (check_life s.desk.life x) r.id passing)) layer ∙ ap (λ (x : Life). initialized (passed (check_life x Initialize) r.id passing)) l
 
   comes_first : (life : Life) → check_life life Shutdown ≡ NotInitialized → check_life life Normal ≡ NotInitialized
@@ -107,7 +107,7 @@ module _ {H C T : Type 0} (semantics : Semantics H C T) where
 
   pub after_shutdown : NothingBeginsAfterShutdown semantics
   after_shutdown = record {
-    begins_none = λ s item id entry c l is. begins_none (occasion s) (admission_of semantics s item) id entry c l is (admission_sorted (occasion s) (semantics.find s.service) semantics.reads item);
+    begins_none = λ s item id entry c l is. begins_none (occasion s) (admission_of semantics s item) id entry c l is (admission_sorted (occasion s) (semantics.find s.service) (reads_in semantics s) item);
     refuses = refuses;
   }
     where
@@ -121,7 +121,7 @@ module _ {H C T : Type 0} (semantics : Semantics H C T) where
           (plain_is s q.r q.entry i q.found q.id ShutDown Shutdown refl l q.in_layer ∙ ap (λ (x : Option IdData). quiet (refuse x (error_with_code InvalidRequest))) q.id) q.admits
       refuses s s2 i Exit e l h q = absurd (h refl)
       refuses s s2 i Cancel e l h q = refused s s2 _ i (error_with_code InvalidRequest) e
-          (found_entry s q.r q.entry i q.found q.id ∙ ap (by_layer (occasion s) q.r q.entry (semantics.reads q.entry q.r.params)) q.in_layer
+          (found_entry s q.r q.entry i q.found q.id ∙ ap (by_layer (occasion s) q.r q.entry (reads_in semantics s q.entry q.r.params)) q.in_layer
           ∙ ap (λ (x : Option IdData). cancel (live s) (initializing s) x q.r.params) q.id) q.admits
       refuses s s2 i Normal e l h q = refused s s2 _ i (error_with_code InvalidRequest) e
           (plain_is s q.r q.entry i q.found q.id ShutDown Normal refl l q.in_layer ∙ ap (λ (x : Option IdData). quiet (refuse x (error_with_code InvalidRequest))) q.id) q.admits
@@ -143,8 +143,8 @@ module _ {H C T : Type 0} (semantics : Semantics H C T) where
   pub exits : ExitEnds semantics
   exits s s2 item e is h =
       let a = admission_of semantics s item in
-      let quits_now = admission_quits semantics.Call (occasion s) (semantics.find s.service) semantics.reads item ∙ is in
-      let stays = quits_quietly (occasion s) a (admission_sorted (occasion s) (semantics.find s.service) semantics.reads item) quits_now in
+      let quits_now = admission_quits semantics.Call (occasion s) (semantics.find s.service) (reads_in semantics s) item ∙ is in
+      let stays = quits_quietly (occasion s) a (admission_sorted (occasion s) (semantics.find s.service) (reads_in semantics s) item) quits_now in
       let done = subst (λ (v : Verdict semantics.Call). Applies semantics h.mid v h.rest s2) (quits_is a.verdict quits_now) h.applies in
       let same : h.mid.desk.life ≡ s.desk.life =
       ap (λ (x : State H semantics.Call semantics.Task). x.desk.life) h.changes.leaves

@@ -23,7 +23,7 @@ use Rattle.lsp_session.specs.declared.life_check.LifeChange.TheVariants.{Stays, 
 use Rattle.lsp_session.specs.Item.{ItemData}
 use Rattle.lsp_session.specs.Semantics.{Semantics, IsLawfulHandlers, AreClient, Progress, Pending, Done}
 use Rattle.lsp_session.specs.Admission.{Verdict, Silence, Refuses, Answers, Cancels, Exits, Starts}
-use Rattle.lsp_session.specs.State.{State, Effect, both, live, marked, session_opening}
+use Rattle.lsp_session.specs.State.{State, Effect, both, live, marked, opening_by}
 use Rattle.lsp_session.specs.Run.{answers_for, cancelled, replied, took, closed, changing, poll_change, Applies, Changes, Admits, admission_of, after_poll, Order, Poll, PollsAt, Round, Rounds, Drains, Picked, Step, Run}
 use Rattle.lsp_session.specs.Own.{requests_of, closes, before_exit, OwnMessagesPass}
 
@@ -304,7 +304,7 @@ module _ {H C T P : Type 0} (semantics : Semantics H C T) (order : Order P) (rou
 pub own_messages : {H C T P : Type 0} (semantics : Semantics H C T) (laws : IsLawfulHandlers semantics) (order : Order P) → OwnMessagesPass semantics order
 own_messages semantics laws order = record {
   pass = λ rounds service items e last h.
-      let f = run_flow semantics laws order rounds (record { session = session_opening service h.max h.wait; pick = h.pick }) (record { session = last; pick = h.then }) items e h.runs in
+      let f = run_flow semantics laws order rounds (record { session = opening_by service h.max h.wait h.empty_params; pick = h.pick }) (record { session = last; pick = h.then }) items e h.runs in
       ap (λ l. l ++ last.desk.outbox) (sym f.taken) ∙ sym (messages_pass_lem desk.opening last.desk (entries_of e.trace) f.replays) ∙ put_early desk.opening last.desk (entries_of e.trace) f.replays;
-  alone = λ rounds service items e last h own. run_empties semantics order rounds (record { session = session_opening service h.max h.wait; pick = h.pick }) (record { session = last; pick = h.then }) items e refl h.runs own;
+  alone = λ rounds service items e last h own. run_empties semantics order rounds (record { session = opening_by service h.max h.wait h.empty_params; pick = h.pick }) (record { session = last; pick = h.then }) items e refl h.runs own;
 }

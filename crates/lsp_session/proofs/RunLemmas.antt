@@ -15,8 +15,8 @@ use Rattle.lsp_session.specs.declared.table.Entry.{Entry}
 use Rattle.lsp_session.specs.Item.{ItemData, message, fault, tick}
 use Rattle.lsp_session.specs.Semantics.{Semantics, IsLawfulHandlers, Held, Progress, Pending, Done}
 use Rattle.lsp_session.specs.Admission.{Verdict, Silence, is_live, quiet, cancels, cancel_live, cancel, by_layer, by_entry}
-use Rattle.lsp_session.specs.State.{Work, State, Effect, live, initializing, session_opening, marked, dues, moved_slots, IsSettled, FitsLife, WorksFit}
-use Rattle.lsp_session.specs.Run.{Applies, admission_of, occasion, after_poll, Order, Poll, PollsAt, Picked, Step, Run, took, is_exit, is_exit_entry, has_exit}
+use Rattle.lsp_session.specs.State.{Work, State, Effect, live, initializing, opening_by, marked, dues, moved_slots, IsSettled, FitsLife, WorksFit}
+use Rattle.lsp_session.specs.Run.{Applies, admission_of, reads_in, occasion, after_poll, Order, Poll, PollsAt, Picked, Step, Run, took, is_exit, is_exit_entry, has_exit}
 use Rattle.lsp_session.specs.Count.{one_if, times_id, answers_to, faults}
 use Rattle.lsp_session.specs.Laws.{FactsHold, AnsweredOnce, CancelledOnce, RoundsPollAll, is_fresh, polled_by}
 use Rattle.lsp_session.proofs.FitLemmas.{or_none, none_both, none_out, no_length}
@@ -31,8 +31,8 @@ use Rattle.lsp_session.proofs.WorkLemmas.{cancelled_live, marked_settled}
 -- ---- facts of runs
 
 module _ {H C T : Type 0} where
-  settled_opening : (service : H) (max wait : ℕ) → IsSettled (session_opening {C = C} {T = T} service max wait)
-  settled_opening service max wait = record { ids_differ = tt; slots_few = omega arith; slots_full = λ some. absurd (omega (arith, some)) }
+  settled_opening : (service : H) (max wait : ℕ) (empty : Bool) → IsSettled (opening_by {C = C} {T = T} service max wait empty)
+  settled_opening service max wait empty = record { ids_differ = tt; slots_few = omega arith; slots_full = λ some. absurd (omega (arith, some)) }
 
 module _ {H C T : Type 0} (semantics : Semantics H C T) (laws : IsLawfulHandlers semantics) where
   module _ {P : Type 0} (order : Order P) (rounds : ℕ) where
@@ -96,15 +96,15 @@ module _ {H C T : Type 0} (semantics : Semantics H C T) (laws : IsLawfulHandlers
 
   pub facts : {P : Type 0} (order : Order P) → FactsHold semantics order
   facts order rounds service items e last h = (
-    run_settled order rounds _ _ items e (settled_opening service h.max h.wait) h.runs,
-    run_fits order rounds _ _ items e (fits_opening service h.max h.wait h.some) h.runs,
+    run_settled order rounds _ _ items e (settled_opening service h.max h.wait h.empty_params) h.runs,
+    run_fits order rounds _ _ items e (fits_opening service h.max h.wait h.empty_params h.some) h.runs,
     λ none. run_sound semantics laws order rounds _ _ items e none tt h.runs,
   )
 
   pub answered : {P : Type 0} (order : Order P) → AnsweredOnce semantics order
   answered order = record {
-    counts = λ rounds service items e last h. run_counts semantics order rounds laws (record { session = session_opening service h.max h.wait; pick = h.pick }) (record { session = last; pick = h.then }) items e (settled_opening service h.max h.wait) refl h.runs;
-    after_exit = λ rounds service items e last h is. ended_none last (run_fits order rounds _ _ items e (fits_opening service h.max h.wait h.some) h.runs) (run_exits order rounds _ _ items e is h.runs);
+    counts = λ rounds service items e last h. run_counts semantics order rounds laws (record { session = opening_by service h.max h.wait h.empty_params; pick = h.pick }) (record { session = last; pick = h.then }) items e (settled_opening service h.max h.wait h.empty_params) refl h.runs;
+    after_exit = λ rounds service items e last h is. ended_none last (run_fits order rounds _ _ items e (fits_opening service h.max h.wait h.empty_params h.some) h.runs) (run_exits order rounds _ _ items e is h.runs);
   }
 
   -- ---- after a cancel
@@ -137,8 +137,8 @@ module _ {H C T : Type 0} (semantics : Semantics H C T) (laws : IsLawfulHandlers
   cancelled order = record {
     cancels = λ s item i q is.
         ap (λ x. (admission_of semantics s x).verdict) q.item_is
-        ∙ ap (λ x. (by_entry (occasion s) semantics.reads q.r x).verdict) q.found
-        ∙ ap (λ x. (by_layer (occasion s) q.r q.entry (semantics.reads q.entry q.r.params) x).verdict) q.in_layer
+        ∙ ap (λ x. (by_entry (occasion s) (reads_in semantics s) q.r x).verdict) q.found
+        ∙ ap (λ x. (by_layer (occasion s) q.r q.entry (reads_in semantics s q.entry q.r.params) x).verdict) q.in_layer
         ∙ ap (λ x. (cancel {C = semantics.Call} (live s) (initializing s) x q.r.params).verdict) q.no_id
         ∙ ap (λ x. (cancel_live {C = semantics.Call} (live s) (initializing s) x).verdict) q.names
         ∙ ap (λ x. (if x then cancels {C = semantics.Call} (initializing s) i else quiet Silence).verdict) is;

@@ -1,15 +1,16 @@
 -- In a run over items without a float each work's call is sound.
-use Rattle.std.proofs.Common.{◌≡◌, ℕ, zero, suc, List, [], ◌∷◌, ◌++◌, map, refl, sym, ◌∙◌, ap, subst, true, false}
-use Rattle.std.specs.Prelude.{Option, Some}
+use Rattle.std.proofs.Common.{◌≡◌, ℕ, zero, suc, List, [], ◌∷◌, ◌++◌, map, refl, sym, ◌∙◌, ap, subst, Bool, true, false}
+use Rattle.std.specs.Prelude.{Option, Some, None, if◌then◌else◌, ◌&&◌}
 use Rattle.std.specs.List.{list_any}
-use Rattle.lsp_rpc.specs.Message.{IdData}
+use Rattle.serde_json.specs.Data.{Data}
+use Rattle.lsp_rpc.specs.Message.{IdData, may_have_float}
 use Rattle.lsp_session.specs.declared.table.Entry.{Entry}
 use Rattle.lsp_session.specs.Item.{ItemData, item_has_float}
-use Rattle.lsp_session.specs.Semantics.{Semantics, IsLawfulHandlers, Polls, call_in, Fresh, Held, Progress, Pending, Done}
-use Rattle.lsp_session.specs.Admission.{Verdict, Silence, Refuses, Answers, Cancels, Exits, Starts}
+use Rattle.lsp_session.specs.Semantics.{Semantics, IsLawfulHandlers, Reading, call, missing, unexpected, unfit, Polls, call_in, Fresh, Held, Progress, Pending, Done}
+use Rattle.lsp_session.specs.Admission.{Verdict, Silence, Refuses, Answers, Cancels, Exits, Starts, hold_nothing, if_unexpected}
 use Rattle.lsp_session.specs.State.{State, Effect, marked}
 use Rattle.lsp_session.specs.Works.{AreSound}
-use Rattle.lsp_session.specs.Run.{Applies, Admits, admission_of, after_poll, Order, Poll, PollsAt, Round, Rounds, Picked, Step, Run}
+use Rattle.lsp_session.specs.Run.{Applies, Admits, reads_in, admission_of, after_poll, Order, Poll, PollsAt, Round, Rounds, Picked, Step, Run}
 use Rattle.lsp_session.proofs.FitLemmas.{or_none}
 use Rattle.lsp_session.proofs.BeginLemmas.{requested}
 use Rattle.lsp_session.proofs.WorkLemmas.{sound_left, sound_right, sound_moved, cancelled_sound, quit_sound, entered_sound, held_sound, ended_sound, marked_sound}
@@ -29,12 +30,27 @@ module _ {H C T : Type 0} (semantics : Semantics H C T) where
       subst IsSoundState (sym h.1) (entered_sound semantics s (record { id = id; entry = entry; phase = Fresh c; due = true }) p (begun id entry c refl))
 
   module _ (laws : IsLawfulHandlers semantics) where
+    -- params without a float are read as such calls in any state
+    reads_sound_in : (s : State H semantics.Call semantics.Task) (entry : Entry) (params : Option Data) (c : semantics.Call) → may_have_float params ≡ false
+        → reads_in semantics s entry params ≡ call c → semantics.is_sound c ≡ true
+    reads_sound_in s entry params c none is = at (s.empty_params && hold_nothing params) is
+      where
+        where_unexpected : (x : Reading semantics.Call) → semantics.reads entry params ≡ x → if_unexpected x (semantics.reads entry None) ≡ call c → semantics.is_sound c ≡ true
+        where_unexpected (call d) e f = laws.reads_sound entry params c none (e ∙ f)
+        where_unexpected missing e f = absurd (cc)
+        where_unexpected unexpected e f = laws.reads_sound entry None c refl f
+        where_unexpected unfit e f = absurd (cc)
+
+        at : (b : Bool) → (if b then if_unexpected (semantics.reads entry params) (semantics.reads entry None) else semantics.reads entry params) ≡ call c → semantics.is_sound c ≡ true
+        at true f = where_unexpected (semantics.reads entry params) refl f
+        at false f = laws.reads_sound entry params c none f
+
     -- a call that an item without a float starts is sound
     started_sound : (s : State H semantics.Call semantics.Task) (item : ItemData) (id : Option IdData) (entry : Entry) (c : semantics.Call) → item_has_float item ≡ false
         → (admission_of semantics s item).verdict ≡ Starts id entry c → semantics.is_sound c ≡ true
     started_sound s item id entry c none is =
         let asked = requested semantics s item id entry c is in
-        laws.reads_sound entry asked.r.params c (sym (ap item_has_float asked.item_is) ∙ none) asked.read
+        reads_sound_in s entry asked.r.params c (sym (ap item_has_float asked.item_is) ∙ none) asked.read
 
     admits_sound : (s s2 : State H semantics.Call semantics.Task) (item : ItemData) (e : Effect) → item_has_float item ≡ false → IsSoundState s → Admits semantics s (admission_of semantics s item) e s2 → IsSoundState s2
     admits_sound s s2 item e none p h =

@@ -6,7 +6,7 @@ use Rattle.lsp_session.specs.Item.{ItemData, message}
 use Rattle.lsp_session.specs.Semantics.{Semantics, Phase, Fresh, Held, call}
 use Rattle.lsp_session.specs.Admission.{Verdict, Silence, Refuses, Answers, Cancels, Exits, Starts}
 use Rattle.lsp_session.specs.State.{State, Effect, dues, marked}
-use Rattle.lsp_session.specs.Run.{admission_of, Order, PollsAt, Rounds, Picked, Step, Run}
+use Rattle.lsp_session.specs.Run.{admission_of, reads_in, Order, PollsAt, Rounds, Picked, Step, Run}
 use Rattle.lsp_session.specs.Count.{one_if}
 use Rattle.lsp_session.specs.Laws.{Serves}
 
@@ -64,13 +64,13 @@ abbrev pub started : {H C T P : Type 0} (semantics : Semantics H C T) (order : O
 started semantics order rounds s [] e s2 h = []
 started semantics order rounds s (item ∷ items) e s2 h = starts (admission_of semantics s.session item).verdict ++ started semantics order rounds h.0 items h.2 s2 h.4
 
--- the item is a request of the entry's method with this id, and the call is what its own params are read as
-pub record IsRequested {H C T : Type 0} (semantics : Semantics H C T) (service : H) (item : ItemData) (id : Option IdData) (entry : Entry) (c : semantics.Call) : Type 0 where
+-- the item is a request of the entry's method with this id, and the call is what its own params are read as in this state
+pub record IsRequested {H C T : Type 0} (semantics : Semantics H C T) (s : State H semantics.Call semantics.Task) (item : ItemData) (id : Option IdData) (entry : Entry) (c : semantics.Call) : Type 0 where
   pub r : RequestData
   pub item_is : item ≡ message (request r)
   pub id_is : r.id ≡ id
-  pub found : semantics.find service r.method ≡ Some entry
-  pub read : semantics.reads entry r.params ≡ call c
+  pub found : semantics.find s.service r.method ≡ Some entry
+  pub read : reads_in semantics s entry r.params ≡ call c
 
 -- ---- the law
 
@@ -80,4 +80,4 @@ pub record BeginsWhereStarted {H C T P : Type 0} (semantics : Semantics H C T) (
   pub once : (rounds : ℕ) (service : H) (items : List ItemData) (e : Effect) (last : State H semantics.Call semantics.Task) (h : Serves semantics order rounds service items e last)
       (test : Begin semantics.Call → Bool) → passing test (begun semantics order rounds _ items e _ h.runs) ≤ passing test (started semantics order rounds _ items e _ h.runs)
   pub requested : (s : State H semantics.Call semantics.Task) (item : ItemData) (id : Option IdData) (entry : Entry) (c : semantics.Call) → (admission_of semantics s item).verdict ≡ Starts id entry c
-      → IsRequested semantics s.service item id entry c
+      → IsRequested semantics s item id entry c

@@ -13,7 +13,7 @@ use Rattle.lsp_session.specs.declared.table.Layer.TheVariants.{Initialize, Exit,
 use Rattle.lsp_session.specs.Item.{ItemData, message, item_has_float}
 use Rattle.lsp_session.specs.Semantics.{Semantics, Phase, Fresh, Held}
 use Rattle.lsp_session.specs.Admission.{Cancels, Starts, is_live, cancelled_id}
-use Rattle.lsp_session.specs.State.{Work, State, Effect, IsSettled, FitsLife, live, session_opening, marked, dues}
+use Rattle.lsp_session.specs.State.{Work, State, Effect, IsSettled, FitsLife, live, opening_by, marked, dues}
 use Rattle.lsp_session.specs.Works.{AreSound}
 use Rattle.lsp_session.specs.Run.{answer, cancelled, Admits, admission_of, Order, Poll, PollsAt, Round, Drains, Picked, Step, Run, is_exit, has_exit}
 use Rattle.lsp_session.specs.Count.{times_id, answers_to, owed, Counts}
@@ -94,10 +94,11 @@ pub record LivesGoOn {H C T : Type 0} (semantics : Semantics H C T) : Type 0 whe
 pub record Serves {H C T P : Type 0} (semantics : Semantics H C T) (order : Order P) (rounds : ℕ) (service : H) (items : List ItemData) (e : Effect) (last : State H semantics.Call semantics.Task) : Type 0 where
   pub max : ℕ
   pub wait : ℕ
+  pub empty_params : Bool
   pub some : 1 ≤ max
   pub pick : P
   pub then : P
-  pub runs : Run (Step semantics order rounds) (record { session = session_opening service max wait; pick = pick }) items e (record { session = last; pick = then })
+  pub runs : Run (Step semantics order rounds) (record { session = opening_by service max wait empty_params; pick = pick }) items e (record { session = last; pick = then })
 
 -- in every state that a run comes to the live ids differ, no call waits while a slot is free, the calls fit the life, and
 -- where no item holds a float each call is sound

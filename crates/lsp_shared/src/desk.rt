@@ -1,6 +1,7 @@
 //! The desk that threads share.
 ghost use Rattle.std.specs.Prelude.{◌≡◌, ◌^◌, true, false, length, IfOk};
 
+use crate::door::Door;
 use crate::rested::Rested;
 use crate::rule::Turns;
 use crate::view::View;
@@ -9,11 +10,12 @@ use lsp_desk::PlainDesk;
 use no_memory::NoMemory;
 use std::alloc::Global;
 
-/// A desk that threads share, each through a seat of its own. Calls take turns in the order in
-/// which these are drawn.
+/// A desk that threads share, each through a seat of its own. Calls take turns; a seat draws one as
+/// soon as no other has the desk.
 #[derive(Drop)]
 pub struct SharedDesk {
     pub(crate) table: Table<PlainDesk, View, (), Turns, Global>,
+    pub(crate) door: Door,
     pub ghost words: { table.shared.table_id.words ≡ 2 },
 }
 
@@ -46,6 +48,7 @@ impl SharedDesk {
             share: 1 << 63,
             spent: false,
         };
-        Ok((SharedDesk { table }, OwnerSeat { rested }))
+        let door = Door::new();
+        Ok((SharedDesk { table, door }, OwnerSeat { rested }))
     }
 }

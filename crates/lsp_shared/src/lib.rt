@@ -4,6 +4,7 @@
 
 mod call;
 mod desk;
+mod door;
 mod rested;
 mod role;
 mod rule;

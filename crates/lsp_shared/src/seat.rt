@@ -220,6 +220,13 @@ impl<'a, R: Wait + Sync, K: Role> DeskSeat<'a, R, K> {
         rested.spent |= spent;
     }
 
+    /// The desk that this is a seat of.
+    pub fn desk(&self) -> &'a SharedDesk
+        ensures { desk_id result.now ≡ seat_desk self.now }
+    {
+        self.desk
+    }
+
     /// How many entries of the history this seat has seen.
     pub fn seen(&self) -> u64
         ensures { result ≡ length (seat_view self.now).seen }

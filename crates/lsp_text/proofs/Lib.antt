@@ -1,2 +1,4 @@
 pub mod Clean
+pub mod Integers
+pub mod LetIn
 pub mod Tokens

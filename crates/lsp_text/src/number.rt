@@ -1,48 +1,94 @@
-//! Integers from the text of a number.
+//! Numbers from their texts, without a float.
 ghost use Rattle.std.specs.Prelude.{◌≡◌, true, false, Some, option_map, IfSome};
 ghost use Rattle.fast_float.specs.Text.{scan};
-ghost use Rattle.serde_json.specs.Data.{number};
-ghost use Rattle.serde_json.specs.Read.{number_from, number_of};
+ghost use Rattle.serde_json.specs.Read.{number_from, number_of, float_of};
 ghost use Rattle.serde_json.specs.View.{view};
 ghost use Rattle.serde_json.specs.Written.{has_float};
+ghost use Rattle.lsp_text.specs.Floats.{integer_or_null as integer_or_null_lem, number_by};
 
+use crate::floats::Floats;
 use fast_float::Numeral;
 use serde_json::Value;
+use std::num::{
+    nearest_i64_to_f64, nearest_u64_to_f64, saturating_f64_to_i64, saturating_f64_to_u64,
+};
 
-// The integer without a sign that the text is.
-fn natural(digits: &[u8]) -> Option<Value>
-    ensures value { IfSome result
-        (λ v. option_map number (number_from false (scan digits.now)) ≡ Some (view v)) }
-    ensures clean { IfSome result (λ v. has_float (view v) ≡ false) }
+// The integer that the float is equal to, or null.
+fn integer_or_null(x: f64) -> Value
+    ensures value { view result ≡ integer_or_null_lem x }
+    ensures clean { has_float (view result) ≡ false }
 {
-    let n = Numeral::scan(digits).to_u64()?;
-    Some(Value::from(n))
-}
-
-// The integer that the text is after its minus. One that is zero would be read as a float.
-fn negative(digits: &[u8]) -> Option<Value>
-    ensures value { IfSome result
-        (λ v. option_map number (number_from true (scan digits.now)) ≡ Some (view v)) }
-    ensures clean { IfSome result (λ v. has_float (view v) ≡ false) }
-{
-    let n = Numeral::scan(digits).to_i64(true)?;
-    if n == 0 {
-        return None;
+    let n = saturating_f64_to_u64(x);
+    if n < u64::MAX && nearest_u64_to_f64(n) == x {
+        return Value::from(n);
     }
-    Some(Value::from(n))
+    let n = saturating_f64_to_i64(x);
+    if nearest_i64_to_f64(n) == x {
+        return Value::from(n);
+    }
+    Value::Null
 }
 
-// The integer of 64 bits that the text of a number is.
+// What stands for the float that the digits are after this sign. They are scanned again, so that a
+// numeral that is no float needs no place in memory.
+#[inline(never)]
+fn float_in(floats: Floats, negative: bool, digits: &[u8]) -> Option<Value>
+    ensures value { IfSome result (λ v. option_map (number_by floats)
+        (float_of negative (scan digits.now)) ≡ Some (view v)) }
+    ensures clean { IfSome result (λ v. has_float (view v) ≡ false) }
+{
+    match floats {
+        Floats::Refused => None,
+        Floats::Read => {
+            let x = Numeral::scan(digits).to_float::<f64>(negative);
+            if x.is_finite() {
+                Some(integer_or_null(x))
+            } else {
+                None
+            }
+        }
+    }
+}
+
+// The number without a sign that the text is.
+fn natural(floats: Floats, digits: &[u8]) -> Option<Value>
+    ensures value { IfSome result (λ v. option_map (number_by floats)
+        (number_from false (scan digits.now)) ≡ Some (view v)) }
+    ensures clean { IfSome result (λ v. has_float (view v) ≡ false) }
+{
+    let numeral = Numeral::scan(digits);
+    match numeral.to_u64() {
+        Some(n) => Some(Value::from(n)),
+        None => float_in(floats, false, digits),
+    }
+}
+
+// The number that the text is after its minus. One that is zero is a float.
+fn negative(floats: Floats, digits: &[u8]) -> Option<Value>
+    ensures value { IfSome result (λ v. option_map (number_by floats)
+        (number_from true (scan digits.now)) ≡ Some (view v)) }
+    ensures clean { IfSome result (λ v. has_float (view v) ≡ false) }
+{
+    let numeral = Numeral::scan(digits);
+    if let Some(n) = numeral.to_i64(true) {
+        if n < 0 {
+            return Some(Value::from(n));
+        }
+    }
+    float_in(floats, true, digits)
+}
+
+// The number that the text is, without a float.
 #[tactic(auto, unfolding(serde_json::specs::Read::number_of))]
-pub(crate) fn integer(text: &str) -> Option<Value>
+pub(crate) fn number(floats: Floats, text: &str) -> Option<Value>
     ensures value { IfSome result
-        (λ v. option_map number (number_of text.now) ≡ Some (view v)) }
+        (λ v. option_map (number_by floats) (number_of text.now) ≡ Some (view v)) }
     ensures clean { IfSome result (λ v. has_float (view v) ≡ false) }
 {
     let bytes = text.as_bytes();
     if !bytes.is_empty() && bytes[0] == b'-' {
-        negative(&bytes[1..])
+        negative(floats, &bytes[1..])
     } else {
-        natural(bytes)
+        natural(floats, bytes)
     }
 }

@@ -11,6 +11,7 @@ use lsp_rows::{RowError, Trial};
 use lsp_rpc::{Id, NoMemory, Request, Response};
 use serde_json::Value;
 use std::alloc::Global;
+use std::fmt::Debug;
 
 const TOLD: &str = "{\"jsonrpc\":\"2.0\",\"method\":\"m\",\"params\":null}";
 
@@ -43,25 +44,35 @@ pub(crate) enum Served {
     Close,
 }
 
+fn shown<T: Debug>(alloc: Global, value: &T) -> Result<String, NoMemory> {
+    Ok(format!(in alloc; "{value:?}")?)
+}
+
 // What a desk replies to a call of a server.
 fn ask<D: Caller>(alloc: Global, desk: &mut D, call: ClientCall) -> Result<String, NoMemory>
     requires { call_has_float (show_client_call call) ≡ false }
 {
-    match desk.client(call) {
+    let reply = desk.client(call);
+    let text = match &reply {
         Ok(ClientReply::Answer(response)) => response.to_text(alloc),
-        other => Ok(format!(in alloc; "{other:?}")?),
-    }
+        other => shown(alloc, other),
+    };
+    drop(reply);
+    text
 }
 
 // What a desk replies to a call of the session.
 fn serve<D: Desk>(alloc: Global, desk: &mut D, call: ServerCall) -> Result<String, NoMemory>
     requires { call_has_float (show_server_call call) ≡ false }
 {
-    match desk.server(call) {
+    let reply = desk.server(call);
+    let text = match &reply {
         Ok(ServerReply::First(Some(request))) => request.to_text(alloc),
-        Ok(ServerReply::Messages(requests)) => Ok(format!(in alloc; "{}", requests.len())?),
-        other => Ok(format!(in alloc; "{other:?}")?),
-    }
+        Ok(ServerReply::Messages(requests)) => shown(alloc, &requests.len()),
+        other => shown(alloc, other),
+    };
+    drop(reply);
+    text
 }
 
 fn asks(alloc: Global, gated: bool) -> Result<ClientCall, NoMemory>
@@ -163,7 +174,7 @@ fn try_calls<D: Desk>(trial: &mut Trial, alloc: Global, desk: &mut D, rows: &[(C
     }
 }
 
-const ANSWERS_IN_ORDER: [(Call, &str); 8] = [
+const ANSWERS_IN_ORDER: &[(Call, &str)] = &[
     (Call::Asked(Asked::Raw(Some(1))), "Ok(Ticket(0, Number(1)))"),
     (Call::Asked(Asked::Raw(Some(1))), "Ok(Ticket(1, Number(1)))"),
     (Call::Served(Served::Answer("bar")), "Ok(Given)"),
@@ -185,11 +196,11 @@ fn answers_in_order(rt: HostRuntime) -> Result<(), RowError> {
     let alloc = rt.alloc();
     let mut trial = Trial::new(alloc);
     let mut desk = PlainDesk::new(alloc);
-    try_calls(&mut trial, alloc, &mut desk, &ANSWERS_IN_ORDER);
+    try_calls(&mut trial, alloc, &mut desk, ANSWERS_IN_ORDER);
     trial.end()
 }
 
-const ANSWERS_THAT_NOBODY_AWAITS: [(Call, &str); 8] = [
+const ANSWERS_THAT_NOBODY_AWAITS: &[(Call, &str)] = &[
     (Call::Asked(Asked::Raw(None)), "Ok(Ticket(0, Null))"),
     (Call::Asked(Asked::Raw(Some(1))), "Ok(Ticket(1, Number(1)))"),
     (
@@ -222,11 +233,11 @@ fn answers_that_nobody_awaits(rt: HostRuntime) -> Result<(), RowError> {
     let alloc = rt.alloc();
     let mut trial = Trial::new(alloc);
     let mut desk = PlainDesk::new(alloc);
-    try_calls(&mut trial, alloc, &mut desk, &ANSWERS_THAT_NOBODY_AWAITS);
+    try_calls(&mut trial, alloc, &mut desk, ANSWERS_THAT_NOBODY_AWAITS);
     trial.end()
 }
 
-const GATE_AND_LIVES: [(Call, &str); 15] = [
+const GATE_AND_LIVES: &[(Call, &str)] = &[
     (Call::Asked(Asked::GatedAsk), "Ok(NotInitialized)"),
     (Call::Asked(Asked::GatedTell), "Ok(Suppressed)"),
     (Call::Asked(Asked::Tell), "Ok(Sent)"),
@@ -249,11 +260,11 @@ fn gate_and_lives(rt: HostRuntime) -> Result<(), RowError> {
     let alloc = rt.alloc();
     let mut trial = Trial::new(alloc);
     let mut desk = ClientSocket::new(PlainDesk::new(alloc)).into_desk();
-    try_calls(&mut trial, alloc, &mut desk, &GATE_AND_LIVES);
+    try_calls(&mut trial, alloc, &mut desk, GATE_AND_LIVES);
     trial.end()
 }
 
-const MESSAGES_AND_END: [(Call, &str); 15] = [
+const MESSAGES_AND_END: &[(Call, &str)] = &[
     (Call::Asked(Asked::Tell), "Ok(Sent)"),
     (Call::Asked(Asked::NextId), "Ok(Number(0))"),
     (Call::Asked(Asked::Ask), "Ok(Ticket(0, Number(1)))"),
@@ -282,7 +293,7 @@ fn messages_and_end(rt: HostRuntime) -> Result<(), RowError> {
     let alloc = rt.alloc();
     let mut trial = Trial::new(alloc);
     let mut desk = PlainDesk::new(alloc);
-    try_calls(&mut trial, alloc, &mut desk, &MESSAGES_AND_END);
+    try_calls(&mut trial, alloc, &mut desk, MESSAGES_AND_END);
     trial.text(
         "the error",
         format!(in alloc; "{ExitedError}"),

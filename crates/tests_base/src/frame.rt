@@ -1,4 +1,5 @@
-ghost use Rattle.lsp_frame.specs.Items.{AreLimits};
+ghost use Rattle.std.specs.Prelude.{◌≡◌, []};
+ghost use Rattle.lsp_frame.specs.Items.{AreLimits, told_at};
 ghost use Rattle.lsp_frame.specs.Shown.{DecodedIsFloatFree};
 
 use bytes::BytesMut;
@@ -6,7 +7,7 @@ use lsp_frame::{BodyFault, Decoded, LanguageServerCodec, Limits, ParseError};
 use lsp_rows::{RowError, Trial};
 use lsp_rpc::ErrorCode;
 use no_memory::NoMemory;
-use std::alloc::Global;
+use std::alloc::{AllocError, Global};
 use std::test::Fail;
 
 const MESSAGE: &[u8] = b"Content-Length: 33\r\n\r\n{\"jsonrpc\":\"2.0\",\"method\":\"exit\"}";
@@ -14,7 +15,7 @@ const MESSAGE: &[u8] = b"Content-Length: 33\r\n\r\n{\"jsonrpc\":\"2.0\",\"method
 const EXIT: &str = "{\"jsonrpc\":\"2.0\",\"method\":\"exit\"}";
 
 // A message's text, or a fault's name.
-fn written(alloc: Global, item: &Decoded) -> Result<String, NoMemory>
+pub(crate) fn written(alloc: Global, item: &Decoded) -> Result<String, NoMemory>
     requires { DecodedIsFloatFree item.now }
 {
     match item {
@@ -24,27 +25,41 @@ fn written(alloc: Global, item: &Decoded) -> Result<String, NoMemory>
     }
 }
 
+// The item is let go.
+pub(crate) fn told(alloc: Global, item: Decoded) -> Result<String, NoMemory>
+    requires { DecodedIsFloatFree item }
+{
+    let text = written(alloc, &item);
+    drop(item);
+    text
+}
+
 // The next item.
-fn decoded(alloc: Global, codec: &mut LanguageServerCodec) -> Result<String, NoMemory> {
-    let item = codec.decode()?;
-    written(alloc, &item)
+pub(crate) fn decoded(alloc: Global, codec: &mut LanguageServerCodec) -> Result<String, NoMemory> {
+    told(alloc, codec.decode()?)
+}
+
+fn ended(alloc: Global, codec: &mut LanguageServerCodec) -> Result<String, NoMemory>
+    requires { told_at codec.now ≡ [] }
+{
+    let rest = codec.finish()?;
+    Ok(format!(in alloc; "{rest:?}")?)
 }
 
 // What is told of an input that ends here, where all items are given; else the next of them.
 fn finished(alloc: Global, codec: &mut LanguageServerCodec) -> Result<String, NoMemory> {
-    let item = codec.decode()?;
-    if let Decoded::More = item {
-        return Ok(format!(in alloc; "{:?}", codec.finish()?)?);
+    match codec.decode()? {
+        Decoded::More => ended(alloc, codec),
+        item => told(alloc, item),
     }
-    written(alloc, &item)
 }
 
 // The pieces of a stream, the items that they tell, and what is told of an input that ends then, if
 // that is asked.
-struct Stream {
-    name: &'static str,
-    pieces: &'static [&'static [u8]],
-    items: &'static [&'static str],
+pub(crate) struct Stream {
+    pub(crate) name: &'static str,
+    pub(crate) pieces: &'static [&'static [u8]],
+    pub(crate) items: &'static [&'static str],
     end: Option<&'static str>,
 }
 
@@ -69,7 +84,7 @@ fn try_stream(
     Ok(())
 }
 
-const STREAMS: [Stream; 9] = [
+pub(crate) const STREAMS: &[Stream] = &[
     Stream {
         name: "junk and faults before messages",
         pieces: &[
@@ -164,58 +179,89 @@ const STREAMS: [Stream; 9] = [
 fn streams(rt: HostRuntime) -> Result<(), RowError> {
     let alloc = rt.alloc();
     let mut trial = Trial::new(alloc);
-    for row in &STREAMS {
+    for row in STREAMS {
         try_stream(&mut trial, alloc, Limits::default(), row)?;
     }
     trial.end()
 }
 
-#[test]
-fn one_byte_at_a_time(rt: HostRuntime) -> Result<(), Fail> {
-    let alloc = rt.alloc();
-    let mut stream = BytesMut::new(alloc);
+fn junk_and_messages(alloc: Global) -> Result<Vec<u8>, AllocError> {
+    let mut stream = Vec::new(alloc);
     stream.extend_from_slice(b"foobar")?;
     stream.extend_from_slice(MESSAGE)?;
     stream.extend_from_slice(b"Content-Length: foobar\r\n\r\n")?;
     stream.extend_from_slice(MESSAGE)?;
-    let mut items = Vec::new(alloc);
-    let mut codec = LanguageServerCodec::default(alloc);
-    for byte in stream.as_slice() {
-        codec.feed(&[*byte])?;
-        // A byte of this stream completes at most one item.
-        let text = decoded(alloc, &mut codec)?;
-        if text.as_str() != "More" {
-            items.push(text)?;
-        }
-    }
-    let wanted = ["MissingContentLength", EXIT, "InvalidContentLength", EXIT];
-    let mut trial = Trial::new(alloc);
-    trial.same("how many items", items.len(), wanted.len());
-    for (item, wanted) in items.iter().zip(wanted.iter()) {
-        trial.same("an item", item.as_str(), *wanted);
-    }
-    trial.text("the end", decoded(alloc, &mut codec), "More");
-    Ok(trial.end()?)
+    Ok(stream)
 }
+
+// A byte of that stream completes at most one item.
+fn push_byte(
+    alloc: Global,
+    codec: &mut LanguageServerCodec,
+    byte: u8,
+    told: &mut String,
+) -> Result<(), NoMemory> {
+    codec.feed(&[byte])?;
+    let text = decoded(alloc, codec)?;
+    if text.as_str() != "More" {
+        told.push_str(text.as_str())?;
+        told.push_str(";")?;
+    }
+    Ok(())
+}
+
+fn told_by_bytes(
+    alloc: Global,
+    codec: &mut LanguageServerCodec,
+    stream: &[u8],
+) -> Result<String, NoMemory> {
+    let mut told = String::new(alloc);
+    for byte in stream {
+        push_byte(alloc, codec, *byte, &mut told)?;
+    }
+    Ok(told)
+}
+
+#[test]
+fn one_byte_at_a_time(rt: HostRuntime) -> Result<(), RowError> {
+    let alloc = rt.alloc();
+    let stream = junk_and_messages(alloc)?;
+    let mut codec = LanguageServerCodec::default(alloc);
+    let told = told_by_bytes(alloc, &mut codec, stream.as_slice());
+    drop(stream);
+    let mut trial = Trial::new(alloc);
+    trial.text("the items", told, ITEMS);
+    trial.text("the end", decoded(alloc, &mut codec), "More");
+    drop(codec);
+    trial.end()
+}
+
+const ITEMS: &str = concat!(
+    "MissingContentLength;{\"jsonrpc\":\"2.0\",\"method\":\"exit\"};",
+    "InvalidContentLength;{\"jsonrpc\":\"2.0\",\"method\":\"exit\"};"
+);
 
 #[test]
 fn ends_inside_a_frame(rt: HostRuntime) -> Result<(), RowError> {
     let alloc = rt.alloc();
     let mut codec = LanguageServerCodec::default(alloc);
     let mut trial = Trial::new(alloc);
-    codec.feed(b"Content-Length: 33\r\n\r\n{\"jsonrp")?;
+    let fed = codec.feed(b"Content-Length: 33\r\n\r\n{\"jsonrp");
+    trial.same("a piece", fed, Ok(()));
     trial.text("inside", finished(alloc, &mut codec), "Some(Rest)");
     // The codec goes on as before.
-    codec.feed(b"c\":\"2.0\",\"method\":\"exit\"}")?;
+    let fed = codec.feed(b"c\":\"2.0\",\"method\":\"exit\"}");
+    trial.same("the rest", fed, Ok(()));
     trial.text("the message", decoded(alloc, &mut codec), EXIT);
     trial.text("after it", finished(alloc, &mut codec), "None");
+    drop(codec);
     trial.end()
 }
 
 // Heads of at most 30 bytes, and bodies of at most 40.
 const SMALL: Limits = Limits { head: 30, body: 40 };
 
-const LIMITED: [Stream; 7] = [
+const LIMITED: &[Stream] = &[
     Stream {
         name: "within the limits",
         pieces: &[MESSAGE],
@@ -275,14 +321,14 @@ fn limits(rt: HostRuntime) -> Result<(), RowError> {
     let limits = Limits::default();
     trial.same("the greatest head", limits.head, 8_192);
     trial.same("the longest body", limits.body, 67_108_864);
-    for row in &LIMITED {
+    for row in LIMITED {
         try_stream(&mut trial, alloc, SMALL, row)?;
     }
     trial.end()
 }
 
 // What is fed, the item that it tells, and how many bytes are held then.
-const HELD: [(&[u8], &str, u64); 8] = [
+const HELD: &[(&[u8], &str, u64)] = &[
     (b"Content-Length: 33\r\n\r", "More", 21),
     (b"\n{\"jsonrpc\":", "More", 11),
     (b"\"2.0\",\"method\":\"exit\"}", EXIT, 0),
@@ -302,31 +348,50 @@ fn holds_little(rt: HostRuntime) -> Result<(), RowError> {
     let alloc = rt.alloc();
     let mut codec = LanguageServerCodec::with_limits(alloc, SMALL);
     let mut trial = Trial::new(alloc);
-    for (at, (piece, item, held)) in HELD.into_iter().enumerate() {
-        codec.feed(piece)?;
-        trial.text(format_args!("row {at}"), decoded(alloc, &mut codec), item);
-        trial.same(format_args!("held at row {at}"), codec.held(), held);
+    for (at, (piece, item, held)) in HELD.iter().enumerate() {
+        trial.same(format_args!("feed {at}"), codec.feed(*piece), Ok(()));
+        trial.text(format_args!("row {at}"), decoded(alloc, &mut codec), *item);
+        trial.same(format_args!("held at row {at}"), codec.held(), *held);
     }
     trial.end()
 }
 
+// The frame of the message that the item is, after what is in `out`.
+fn encode_item(
+    codec: &mut LanguageServerCodec,
+    item: &Decoded,
+    out: &mut BytesMut,
+) -> Result<(), NoMemory>
+    requires { DecodedIsFloatFree item.now }
+{
+    match item {
+        Decoded::Item(message) => codec.encode(message, out),
+        _ => Err(NoMemory),
+    }
+}
+
 #[test]
 fn writes_a_frame(rt: HostRuntime) -> Result<(), Fail> {
-    let mut codec = LanguageServerCodec::default(rt.alloc());
-    codec.feed(MESSAGE)?;
-    let Decoded::Item(message) = codec.decode()? else {
-        return Err(Fail::new("a message was fed"));
-    };
     let mut out = BytesMut::new(rt.alloc());
     out.extend_from_slice(b"before")?;
-    codec.encode(&message, &mut out)?;
-    let wanted = b"beforeContent-Length: 33\r\n\r\n{\"jsonrpc\":\"2.0\",\"method\":\"exit\"}";
+    let mut codec = LanguageServerCodec::default(rt.alloc());
     let mut trial = Trial::new(rt.alloc());
+    trial.same("a feed", codec.feed(MESSAGE), Ok(()));
+    match codec.decode() {
+        Ok(item) => {
+            trial.same("encoded", encode_item(&mut codec, &item, &mut out), Ok(()));
+            drop(item);
+        }
+        Err(error) => trial.shows("decoded", error, "a message"),
+    }
+    let wanted = b"beforeContent-Length: 33\r\n\r\n{\"jsonrpc\":\"2.0\",\"method\":\"exit\"}";
     trial.same("the frame", out.as_slice(), wanted.as_slice());
+    drop(out);
+    drop(codec);
     Ok(trial.end()?)
 }
 
-const FAULTS: [(ParseError, ErrorCode, &str); 10] = [
+const FAULTS: &[(ParseError, ErrorCode, &str)] = &[
     (
         ParseError::Headers,
         ErrorCode::ParseError,
@@ -383,8 +448,8 @@ const FAULTS: [(ParseError, ErrorCode, &str); 10] = [
 fn faults(rt: HostRuntime) -> Result<(), RowError> {
     let mut trial = Trial::new(rt.alloc());
     for (fault, code, text) in FAULTS {
-        trial.same(text, fault.code(), code);
-        trial.text(text, format!(in rt.alloc(); "{fault}"), text);
+        trial.same(*text, fault.code(), *code);
+        trial.text(*text, format!(in rt.alloc(); "{fault}"), *text);
     }
     trial.end()
 }

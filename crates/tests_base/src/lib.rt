@@ -5,7 +5,13 @@
 #![tactic(auto)]
 
 #[cfg(test)]
+mod ample;
+#[cfg(test)]
+mod cuts;
+#[cfg(test)]
 mod desk;
+#[cfg(test)]
+mod floats;
 #[cfg(test)]
 mod frame;
 #[cfg(test)]

@@ -1,9 +1,10 @@
 //! Both ways of reading a message, on bodies from a generator: what is read straight from the tokens
 //! of a body is what is read of its value.
-use lsp_frame::{MessageReader, read_both_ways};
+use lsp_frame::{Floats, MessageReader, read_both_ways};
 use lsp_rows::{RowError, Trial};
+use lsp_rpc::Message;
 use no_memory::NoMemory;
-use std::alloc::Global;
+use std::alloc::{AllocError, Global};
 
 const BODIES: u64 = 100_000;
 
@@ -38,7 +39,7 @@ impl Dice {
 }
 
 // Members of messages, and what is near to them.
-const MEMBERS: [&str; 28] = [
+const MEMBERS: &[&str] = &[
     "\"jsonrpc\":\"2.0\"",
     "\"jsonrpc\":\"2.0\"",
     "\"jsonrpc\":\"2.0\"",
@@ -69,7 +70,7 @@ const MEMBERS: [&str; 28] = [
     "\"error\":null",
 ];
 
-const NAMES: [&str; 14] = [
+const NAMES: &[&str] = &[
     "jsonrpc",
     "id",
     "method",
@@ -86,7 +87,7 @@ const NAMES: [&str; 14] = [
     "other",
 ];
 
-const VALUES: [&str; 32] = [
+const VALUES: &[&str] = &[
     "null",
     "true",
     "0",
@@ -122,11 +123,11 @@ const VALUES: [&str; 32] = [
 ];
 
 // What stands before a body, between its members and after it.
-const SPACES: [&str; 8] = ["", "", "", "", " ", "\r\n\t", "x", "{"];
+const SPACES: &[&str] = &["", "", "", "", " ", "\r\n\t", "x", "{"];
 
-const COMMAS: [&str; 6] = [",", ",", ",", ",", " ,\n", ","];
+const COMMAS: &[&str] = &[",", ",", ",", ",", " ,\n", ","];
 
-const ENDS: [&str; 8] = ["", "", "", "", " \n", "", "}", "\u{0}"];
+const ENDS: &[&str] = &["", "", "", "", " \n", "", "}", "\u{0}"];
 
 // Arrays and objects in one another, around the depth at which a text is refused.
 fn push_deep(dice: &mut Dice, out: &mut String) -> Result<(), NoMemory> {
@@ -144,16 +145,16 @@ fn push_deep(dice: &mut Dice, out: &mut String) -> Result<(), NoMemory> {
 
 fn push_member(dice: &mut Dice, out: &mut String) -> Result<(), NoMemory> {
     if !dice.once_in(8) {
-        out.push_str(dice.one_of(&MEMBERS))?;
+        out.push_str(dice.one_of(MEMBERS))?;
         return Ok(());
     }
     out.push_str("\"")?;
-    out.push_str(dice.one_of(&NAMES))?;
+    out.push_str(dice.one_of(NAMES))?;
     out.push_str("\":")?;
     if dice.once_in(8) {
         push_deep(dice, out)
     } else {
-        out.push_str(dice.one_of(&VALUES))?;
+        out.push_str(dice.one_of(VALUES))?;
         Ok(())
     }
 }
@@ -162,7 +163,7 @@ fn push_member(dice: &mut Dice, out: &mut String) -> Result<(), NoMemory> {
 fn body(alloc: Global, dice: &mut Dice) -> Result<String, NoMemory> {
     let mut out = String::new(alloc);
     let often = dice.once_in(2);
-    out.push_str(if often { "" } else { dice.one_of(&SPACES) })?;
+    out.push_str(if often { "" } else { dice.one_of(SPACES) })?;
     out.push_str("{")?;
     if often {
         out.push_str("\"jsonrpc\":\"2.0\",\"method\":\"\",")?;
@@ -170,12 +171,12 @@ fn body(alloc: Global, dice: &mut Dice) -> Result<String, NoMemory> {
     let members = dice.throw() % 6 + 1;
     for i in 0..members {
         if i > 0 && !dice.once_in(64) {
-            out.push_str(dice.one_of(&COMMAS))?;
+            out.push_str(dice.one_of(COMMAS))?;
         }
         push_member(dice, &mut out)?;
     }
     out.push_str("}")?;
-    out.push_str(dice.one_of(&ENDS))?;
+    out.push_str(dice.one_of(ENDS))?;
     Ok(out)
 }
 
@@ -187,45 +188,67 @@ struct Counts {
     none: u64,
 }
 
+// Nothing, where there is no message.
+fn shown(alloc: Global, message: &Option<Message>) -> Result<String, AllocError> {
+    match message {
+        Some(message) => format!(in alloc; "{message:?}"),
+        None => Ok(String::new(alloc)),
+    }
+}
+
 fn count(
     trial: &mut Trial,
     alloc: Global,
     counts: &mut Counts,
+    floats: Floats,
     text: &str,
     reader: &mut MessageReader,
 ) -> Result<(), NoMemory> {
-    let (short, long) = read_both_ways(alloc, reader, text);
-    match short {
-        Some(short) => match long {
-            Some(long) => {
-                trial.shows(text, short, format!(in alloc; "{long:?}")?.as_str());
-                counts.both = counts.both.saturating_add(1);
-            }
-            None => trial.is_true(text, false),
-        },
-        None => match long {
-            Some(_) => counts.by_value = counts.by_value.saturating_add(1),
-            None => counts.none = counts.none.saturating_add(1),
-        },
+    let (short, long) = read_both_ways(alloc, reader, floats, text);
+    let read = (short.is_some(), long.is_some());
+    let found = shown(alloc, &short);
+    drop(short);
+    let wanted = shown(alloc, &long);
+    drop(long);
+    match read {
+        (true, _) => {
+            trial.text(text, found, wanted?.as_str());
+            counts.both = counts.both.saturating_add(1);
+        }
+        (false, true) => counts.by_value = counts.by_value.saturating_add(1),
+        (false, false) => counts.none = counts.none.saturating_add(1),
     }
     Ok(())
 }
+
+// Reads bodies both ways.
+fn count_bodies(
+    trial: &mut Trial,
+    alloc: Global,
+    counts: &mut Counts,
+    floats: Floats,
+) -> Result<(), NoMemory> {
+    let mut dice = Dice { state: 1 };
+    let mut reader = MessageReader::new();
+    for _ in 0..BODIES {
+        let text = body(alloc, &mut dice)?;
+        count(trial, alloc, counts, floats, text.as_str(), &mut reader)?;
+    }
+    Ok(())
+}
+
+const NONE: Counts = Counts {
+    both: 0,
+    by_value: 0,
+    none: 0,
+};
 
 #[test]
 fn both_ways_read_the_same_message(rt: HostRuntime) -> Result<(), RowError> {
     let alloc = rt.alloc();
     let mut trial = Trial::new(alloc);
-    let mut dice = Dice { state: 1 };
-    let mut reader = MessageReader::new();
-    let mut counts = Counts {
-        both: 0,
-        by_value: 0,
-        none: 0,
-    };
-    for _ in 0..BODIES {
-        let text = body(alloc, &mut dice)?;
-        count(&mut trial, alloc, &mut counts, text.as_str(), &mut reader)?;
-    }
+    let mut counts = NONE;
+    count_bodies(&mut trial, alloc, &mut counts, Floats::Refused)?;
     // How many there are of each, as a reader in Python counted them.
     trial.same("read both ways", counts.both, 14_290);
     trial.same("read by the value alone", counts.by_value, 16_050);

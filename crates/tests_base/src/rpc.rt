@@ -65,7 +65,7 @@ fn one_form_alone(rt: HostRuntime) -> Result<(), RowError> {
 }
 
 // Neither a request nor a response, and why.
-const FAULTS: [(&str, &str); 3] = [
+const FAULTS: &[(&str, &str)] = &[
     ("[1]", "Message"),
     ("{", "Json"),
     ("{\"jsonrpc\":\"2.0\",\"result\":[0.5],\"id\":0}", "Message"),
@@ -76,10 +76,10 @@ fn faults_of_one_form(rt: HostRuntime) -> Result<(), RowError> {
     let alloc = rt.alloc();
     let mut trial = Trial::new(alloc);
     for (input, fault) in FAULTS {
-        let request = request_again(alloc, input);
-        trial.text(format_args!("request {input}"), request, fault);
-        let response = response_again(alloc, input);
-        trial.text(format_args!("response {input}"), response, fault);
+        let request = request_again(alloc, *input);
+        trial.text(format_args!("request {input}"), request, *fault);
+        let response = response_again(alloc, *input);
+        trial.text(format_args!("response {input}"), response, *fault);
     }
     trial.end()
 }
@@ -243,7 +243,7 @@ fn errors_by_code(rt: HostRuntime) -> Result<(), RowError> {
 }
 
 // What comes, and what is written of what it is read as.
-const MESSAGES: [(&str, &str); 11] = [
+const MESSAGES: &[(&str, &str)] = &[
     (
         "{\"id\":0,\"jsonrpc\":\"2.0\"}",
         "{\"jsonrpc\":\"2.0\",\"method\":\"\",\"id\":0}",
@@ -286,8 +286,8 @@ fn messages_read_and_written(rt: HostRuntime) -> Result<(), Fail> {
     let alloc = rt.alloc();
     let mut trial = Trial::new(alloc);
     for (input, output) in MESSAGES {
-        let value = Value::from_str(alloc, input)?;
-        trial.text(input, message_again(alloc, value), output);
+        let value = Value::from_str(alloc, *input)?;
+        trial.text(*input, message_again(alloc, value), *output);
     }
     Ok(trial.end()?)
 }

@@ -45,6 +45,7 @@ fn numbers_in_turn(rt: HostRuntime) -> Result<(), RowError> {
     trial.shows("third", owner.client(ClientCall::NextId), "Ok(Number(2))");
     trial.same("calls seen", owner.seen(), 3);
     trial.same("the whole share", owner.share(), 1 << 63);
+    drop(owner);
     trial.end()
 }
 
@@ -58,6 +59,8 @@ fn gated_message(rt: HostRuntime) -> Result<(), RowError> {
     let mut trial = Trial::new(alloc);
     trial.shows("early", early, "Ok(Suppressed)");
     trial.same("calls seen", client.seen(), 1);
+    drop(client);
+    drop(owner);
     trial.end()
 }
 
@@ -74,6 +77,8 @@ fn message_taken(rt: HostRuntime) -> Result<(), RowError> {
     trial.same("taken", taken(&mut owner), Some(1));
     trial.same("taken again", taken(&mut owner), Some(0));
     trial.same("calls the owner has seen", owner.seen(), 3);
+    drop(client);
+    drop(owner);
     trial.end()
 }
 
@@ -94,6 +99,8 @@ fn seats_at_rest(rt: HostRuntime) -> Result<(), RowError> {
     client.join(other);
     trial.same("calls seen", client.seen(), 1);
     trial.same("the share", client.share(), 1 << 62);
+    drop(client);
+    drop(owner);
     trial.end()
 }
 
@@ -120,7 +127,7 @@ fn reply<O: Desk, C: Caller>(
 
 const ANSWERED: &str = "{\"jsonrpc\":\"2.0\",\"result\":\"x\",\"id\":1}";
 
-const CALLS: [(Through, &str); 26] = [
+const CALLS: &[(Through, &str)] = &[
     (
         Through::Session(Served::Rise(Life::Initializing)),
         "Ok(Done)",
@@ -168,9 +175,11 @@ fn each_call_through_a_seat(rt: HostRuntime) -> Result<(), RowError> {
     let mut owner = desk.owner(&rt, seat);
     let mut client = owner.split()?;
     let mut trial = Trial::new(alloc);
-    for (at, (call, expected)) in CALLS.into_iter().enumerate() {
-        let found = reply(alloc, &mut owner, &mut client, call);
-        trial.text(format_args!("row {at}"), found, expected);
+    for (at, (call, expected)) in CALLS.iter().enumerate() {
+        let found = reply(alloc, &mut owner, &mut client, *call);
+        trial.text(format_args!("row {at}"), found, *expected);
     }
+    drop(client);
+    drop(owner);
     trial.end()
 }

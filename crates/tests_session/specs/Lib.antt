@@ -1,3 +1,4 @@
 pub mod Trial
 pub mod Lines
 pub mod LinesCounted
+pub mod Spending

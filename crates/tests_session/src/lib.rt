@@ -5,7 +5,13 @@
 //! say what is meant.
 #![tactic(auto)]
 
+#[cfg(test)]
+mod ample;
+#[cfg(test)]
+mod hostile;
 pub mod lines;
+#[cfg(test)]
+mod outcome;
 #[cfg(test)]
 mod proxy;
 #[cfg(test)]
@@ -20,3 +26,4 @@ mod server;
 mod session;
 #[cfg(test)]
 mod small;
+pub mod spending;

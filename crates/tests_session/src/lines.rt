@@ -68,13 +68,13 @@ pub fn count_lines<T: Transport>(io: &mut T, reads: u64) -> Result<u64, ServeErr
 
 // How many bytes a read gives at most.
 #[cfg(test)]
-const PIECES: [usize; 3] = [1, 3, 4096];
+const PIECES: &[usize] = &[1, 3, 4096];
 
 #[test]
 fn lines_are_counted_over_reads(rt: HostRuntime) -> Result<(), Fail> {
     let alloc = rt.alloc();
     let mut trial = Trial::new(alloc);
-    for piece in &PIECES {
+    for piece in PIECES {
         if *piece == 0 {
             return Err(Fail::new("no piece"));
         }

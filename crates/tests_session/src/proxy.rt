@@ -24,35 +24,55 @@ fn shown(alloc: Global, sent: Result<Sent, NoMemory>) -> Result<String, NoMemory
     Ok(format!(in alloc; "{:?}", sent?)?)
 }
 
+// What is sent where the message comes from that editor.
+fn from_editor(
+    alloc: Global,
+    proxy: &mut Proxy,
+    editor: u32,
+    message: Result<Message, AllocError>,
+) -> Result<String, NoMemory> {
+    shown(alloc, proxy.editor(editor, message?))
+}
+
+// What is sent where the message comes from the server.
+fn from_server(
+    alloc: Global,
+    proxy: &mut Proxy,
+    message: Result<Message, AllocError>,
+) -> Result<String, NoMemory> {
+    shown(alloc, proxy.server(message?))
+}
+
 #[test]
 fn two_editors_with_one_id(rt: HostRuntime) -> Result<(), RowError> {
     let alloc = rt.alloc();
     let mut proxy = Proxy::new(alloc, 2)?;
     let mut trial = Trial::new(alloc);
-    let sent = proxy.editor(0, call(alloc, "x", 7)?);
+    let sent = from_editor(alloc, &mut proxy, 0, call(alloc, "x", 7));
     trial.text(
         "`x` of editor 0",
-        shown(alloc, sent),
+        sent,
         "[(Server, Request(Request { method: \"x\", params: None, id: Some(Number(0)) }))]",
     );
-    let sent = proxy.editor(1, call(alloc, "x", 7)?);
+    let sent = from_editor(alloc, &mut proxy, 1, call(alloc, "x", 7));
     trial.text(
         "`x` of editor 1",
-        shown(alloc, sent),
+        sent,
         "[(Server, Request(Request { method: \"x\", params: None, id: Some(Number(1)) }))]",
     );
-    let sent = proxy.server(answer(alloc, 1, "b")?);
+    let sent = from_server(alloc, &mut proxy, answer(alloc, 1, "b"));
     trial.text(
         "the answer to 1",
-        shown(alloc, sent),
+        sent,
         "[(Editor(1), Response(Response { id: Number(7), body: Ok(String(\"b\")) }))]",
     );
-    let sent = proxy.server(answer(alloc, 0, "a")?);
+    let sent = from_server(alloc, &mut proxy, answer(alloc, 0, "a"));
     trial.text(
         "the answer to 0",
-        shown(alloc, sent),
+        sent,
         "[(Editor(0), Response(Response { id: Number(7), body: Ok(String(\"a\")) }))]",
     );
+    drop(proxy);
     trial.end()
 }
 
@@ -61,25 +81,26 @@ fn one_id_twice_and_an_editor_gone(rt: HostRuntime) -> Result<(), RowError> {
     let alloc = rt.alloc();
     let mut proxy = Proxy::new(alloc, 2)?;
     let mut trial = Trial::new(alloc);
-    let sent = proxy.editor(0, call(alloc, "x", 7)?);
+    let sent = from_editor(alloc, &mut proxy, 0, call(alloc, "x", 7));
     trial.text(
         "`x` of editor 0",
-        shown(alloc, sent),
+        sent,
         "[(Server, Request(Request { method: \"x\", params: None, id: Some(Number(0)) }))]",
     );
-    let sent = proxy.editor(0, call(alloc, "x", 7)?);
+    let sent = from_editor(alloc, &mut proxy, 0, call(alloc, "x", 7));
     trial.text(
         "`x` of editor 0 again",
-        shown(alloc, sent),
+        sent,
         concat!(
             "[(Editor(0), Response(Response { id: Number(7), body: Err(Error { ",
             "code: InvalidRequest, message: \"Invalid request\", payload: None }) }))]"
         ),
     );
-    let sent = proxy.editor(0, note(alloc, "exit")?);
-    trial.text("`exit` of editor 0", shown(alloc, sent), "[]");
-    let sent = proxy.server(answer(alloc, 0, "a")?);
-    trial.text("the answer to 0", shown(alloc, sent), "[]");
+    let sent = from_editor(alloc, &mut proxy, 0, note(alloc, "exit"));
+    trial.text("`exit` of editor 0", sent, "[]");
+    let sent = from_server(alloc, &mut proxy, answer(alloc, 0, "a"));
+    trial.text("the answer to 0", sent, "[]");
+    drop(proxy);
     trial.end()
 }
 
@@ -88,40 +109,41 @@ fn opened_once_and_shut_down(rt: HostRuntime) -> Result<(), RowError> {
     let alloc = rt.alloc();
     let mut proxy = Proxy::new(alloc, 1)?;
     let mut trial = Trial::new(alloc);
-    let sent = proxy.editor(0, call(alloc, "initialize", 1)?);
+    let sent = from_editor(alloc, &mut proxy, 0, call(alloc, "initialize", 1));
     trial.text(
         "`initialize` of editor 0",
-        shown(alloc, sent),
+        sent,
         "[(Server, Request(Request { method: \"initialize\", params: None, id: Some(Number(0)) }))]",
     );
-    let sent = proxy.server(answer(alloc, 0, "a")?);
+    let sent = from_server(alloc, &mut proxy, answer(alloc, 0, "a"));
     trial.text(
         "the answer to 0",
-        shown(alloc, sent),
+        sent,
         "[(Editor(0), Response(Response { id: Number(1), body: Ok(String(\"a\")) }))]",
     );
-    let sent = proxy.server(call(alloc, "r", 5)?);
+    let sent = from_server(alloc, &mut proxy, call(alloc, "r", 5));
     trial.text(
         "`r` of the server",
-        shown(alloc, sent),
+        sent,
         "[(Editor(0), Request(Request { method: \"r\", params: None, id: Some(Number(1)) }))]",
     );
-    let sent = proxy.editor(0, note(alloc, "exit")?);
+    let sent = from_editor(alloc, &mut proxy, 0, note(alloc, "exit"));
     trial.text(
         "`exit` of editor 0",
-        shown(alloc, sent),
+        sent,
         concat!(
             "[(Server, Response(Response { id: Number(5), body: Err(Error { ",
             "code: InternalError, message: \"Internal error\", payload: None }) })), ",
             "(Server, Request(Request { method: \"shutdown\", params: None, id: Some(Number(2)) }))]"
         ),
     );
-    let sent = proxy.server(answer(alloc, 2, "")?);
+    let sent = from_server(alloc, &mut proxy, answer(alloc, 2, ""));
     trial.text(
         "the answer to 2",
-        shown(alloc, sent),
+        sent,
         "[(Server, Request(Request { method: \"exit\", params: None, id: None }))]",
     );
+    drop(proxy);
     trial.end()
 }
 
@@ -130,10 +152,10 @@ fn a_notification_to_all(rt: HostRuntime) -> Result<(), RowError> {
     let alloc = rt.alloc();
     let mut proxy = Proxy::new(alloc, 2)?;
     let mut trial = Trial::new(alloc);
-    let sent = proxy.server(note(alloc, "n")?);
+    let sent = from_server(alloc, &mut proxy, note(alloc, "n"));
     trial.text(
         "to each",
-        shown(alloc, sent),
+        sent,
         concat!(
             "[(Editor(0), Request(Request { method: \"n\", params: None, id: None })), ",
             "(Editor(1), Request(Request { method: \"n\", params: None, id: None }))]"
@@ -145,5 +167,6 @@ fn a_notification_to_all(rt: HostRuntime) -> Result<(), RowError> {
         outgoing,
         "Ok(Broadcast([0, 1], Request { method: \"n\", params: None, id: None }))",
     );
+    drop(proxy);
     trial.end()
 }

@@ -221,10 +221,25 @@ fn frame(alloc: Global, method: &str, params: &str) -> Result<Vec<u8>, AllocErro
     framed(alloc, &[text.as_str()])
 }
 
+fn try_run(
+    trial: &mut Trial,
+    alloc: Global,
+    what: &str,
+    told: Vec<u8>,
+    wanted: &[u8],
+) -> Result<(), AllocError> {
+    let arguments = arguments_of(alloc, &["2"])?;
+    let mut source = NeverSource::new(told, 4096);
+    let mut sink = NeverSink::new(alloc);
+    let status = run_proxy(alloc, &arguments, &mut source, &mut sink);
+    trial.same(what, status, Status::Done as u8);
+    trial.same(what, sink.bytes(), wanted);
+    Ok(())
+}
+
 #[test]
 fn each_row_of_the_table(rt: HostRuntime) -> Result<(), RowError> {
     let alloc = rt.alloc();
-    let arguments = arguments_of(alloc, &["2"])?;
     let mut trial = Trial::new(alloc);
     let mut told = Vec::new(alloc);
     let mut wanted = Vec::new(alloc);
@@ -237,11 +252,7 @@ fn each_row_of_the_table(rt: HostRuntime) -> Result<(), RowError> {
         for sent in texts {
             wanted.extend_from_slice(frame(alloc, "out", sent)?.as_slice())?;
         }
-        let mut source = NeverSource::new(told.clone()?, 4096);
-        let mut sink = NeverSink::new(alloc);
-        let status = run_proxy(alloc, &arguments, &mut source, &mut sink);
-        trial.same(*what, status, Status::Done as u8);
-        trial.same(*what, sink.bytes(), wanted.as_slice());
+        try_run(&mut trial, alloc, *what, told.clone()?, wanted.as_slice())?;
     }
     trial.end()
 }

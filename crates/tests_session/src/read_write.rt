@@ -47,52 +47,57 @@ impl Read for CountedReader<'_> {
     }
 }
 
+// How many bytes a read gives at most, and what it answers.
+const READS: &[(Option<usize>, Result<usize, Failed>)] = &[
+    (Some(9), Ok(5)),
+    (Some(2), Ok(2)),
+    (Some(0), Ok(0)),
+    (None, Err(Failed)),
+];
+
 #[test]
 fn one_call_of_the_reader_for_each_read(rt: HostRuntime) -> Result<(), RowError> {
     let mut trial = Trial::new(rt.alloc());
-    for (most, read) in [
-        (Some(9), Ok(5)),
-        (Some(2), Ok(2)),
-        (Some(0), Ok(0)),
-        (None, Err(Failed)),
-    ] {
+    for (most, read) in READS {
         let mut reads = 0;
         let mut source = ReadSource::new(CountedReader {
-            most,
+            most: *most,
             reads: &mut reads,
         });
         let mut piece = [0; 5];
         trial.same(
             format_args!("at most {most:?}"),
             source.read(&mut piece),
-            read,
+            *read,
         );
         trial.same(format_args!("calls at most {most:?}"), reads, 1);
     }
     trial.end()
 }
 
+// How many bytes a write takes at most, and what a write and a flush answer.
+const CALLS: &[(Option<usize>, Result<usize, Refused>, Result<(), Refused>)] = &[
+    (Some(9), Ok(5), Ok(())),
+    (Some(5), Ok(5), Ok(())),
+    (Some(2), Ok(2), Ok(())),
+    (Some(0), Err(Refused::Failed), Ok(())),
+    (None, Err(Refused::Failed), Err(Refused::Failed)),
+];
+
 #[test]
 fn one_call_of_the_writer_for_each_call(rt: HostRuntime) -> Result<(), RowError> {
     let mut trial = Trial::new(rt.alloc());
-    let failed = Refused::Failed;
-    for (most, written, flushed) in [
-        (Some(9), Ok(5), Ok(())),
-        (Some(5), Ok(5), Ok(())),
-        (Some(2), Ok(2), Ok(())),
-        (Some(0), Err(failed), Ok(())),
-        (None, Err(failed), Err(failed)),
-    ] {
+    for (most, written, flushed) in CALLS {
         let (mut writes, mut flushes) = (0, 0);
         let mut sink = WriteSink::new(Counted {
-            most,
+            most: *most,
             writes: &mut writes,
             flushes: &mut flushes,
         });
         trial.same(
             format_args!("write at most {most:?}"),
             sink.write(b"bytes"),
-            written,
+            *written,
         );
         trial.same(
             format_args!("calls at most {most:?}"),
@@ -100,14 +105,14 @@ fn one_call_of_the_writer_for_each_call(rt: HostRuntime) -> Result<(), RowError>
             (1, 0),
         );
         let mut sink = WriteSink::new(Counted {
-            most,
+            most: *most,
             writes: &mut writes,
             flushes: &mut flushes,
         });
         trial.same(
             format_args!("flush at most {most:?}"),
             sink.flush(),
-            flushed,
+            *flushed,
         );
         trial.same(
             format_args!("flushes at most {most:?}"),
@@ -118,30 +123,33 @@ fn one_call_of_the_writer_for_each_call(rt: HostRuntime) -> Result<(), RowError>
     trial.end()
 }
 
+// How many bytes a write takes at most, and what comes of five, in how many writes.
+const ALL: &[(Option<usize>, Result<(), Refused>, u32)] = &[
+    (Some(9), Ok(()), 1),
+    (Some(2), Ok(()), 3),
+    (Some(0), Err(Refused::Failed), 1),
+    (None, Err(Refused::Failed), 1),
+];
+
 #[test]
 fn all_bytes_in_as_many_writes_as_it_takes(rt: HostRuntime) -> Result<(), RowError> {
     let mut trial = Trial::new(rt.alloc());
-    for (most, answer, expected) in [
-        (Some(9), Ok(()), 1),
-        (Some(2), Ok(()), 3),
-        (Some(0), Err(Refused::Failed), 1),
-        (None, Err(Refused::Failed), 1),
-    ] {
+    for (most, answer, expected) in ALL {
         let (mut writes, mut flushes) = (0, 0);
         let mut sink = WriteSink::new(Counted {
-            most,
+            most: *most,
             writes: &mut writes,
             flushes: &mut flushes,
         });
         trial.same(
             format_args!("at most {most:?}"),
             write_all(&mut sink, b"bytes"),
-            answer,
+            *answer,
         );
         trial.same(
             format_args!("calls at most {most:?}"),
             (writes, flushes),
-            (expected, 0),
+            (*expected, 0),
         );
     }
     trial.end()

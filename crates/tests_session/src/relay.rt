@@ -136,28 +136,84 @@ fn other_items(rt: HostRuntime) -> Result<(), RowError> {
 fn values_pass(rt: HostRuntime) -> Result<(), RowError> {
     let alloc = rt.alloc();
     let mut trial = Trial::new(alloc);
-    let came = [
+    let came: &[&str] = &[
         r#"{"jsonrpc":"2.0","method":"proxy/in","params":{"side":1,"message":{"params":{"b":[1,null],"a":"\u00e9"},"method":"m","id":"s","jsonrpc":"2.0"}}}"#,
         r#"{"jsonrpc":"2.0","method":"proxy/in","params":{"side":0,"message":{"id":0,"error":{"message":"no","data":[true],"code":-32601},"jsonrpc":"2.0"}}}"#,
         r#"{"jsonrpc":"2.0","method":"proxy/in","params":{"side":0,"message":{"params":{"n":-5},"method":"n","jsonrpc":"2.0"}}}"#,
     ];
-    let went = [
+    let went: &[&str] = &[
         r#"{"jsonrpc":"2.0","method":"proxy/out","params":{"message":{"id":0,"jsonrpc":"2.0","method":"m","params":{"a":"é","b":[1,null]}},"side":0}}"#,
         r#"{"jsonrpc":"2.0","method":"proxy/out","params":{"message":{"error":{"code":-32601,"data":[true],"message":"no"},"id":"s","jsonrpc":"2.0"},"side":1}}"#,
         r#"{"jsonrpc":"2.0","method":"proxy/out","params":{"message":{"jsonrpc":"2.0","method":"n","params":{"n":-5}},"side":1}}"#,
         r#"{"jsonrpc":"2.0","method":"proxy/out","params":{"message":{"jsonrpc":"2.0","method":"n","params":{"n":-5}},"side":2}}"#,
     ];
-    let mut source = NeverSource::new(framed(alloc, &came)?, 4096);
+    let mut source = NeverSource::new(framed(alloc, came)?, 4096);
     let mut sink = NeverSink::new(alloc);
     let relayed = relay(alloc, 2, &mut source, &mut sink, u64::MAX);
     let wanted = Relayed {
         passed: 3,
         dropped: 0,
     };
-    let sent = framed(alloc, &went)?;
+    let sent = framed(alloc, went)?;
     trial.same("the items", relayed, Ok(wanted));
     trial.same("the bytes", sink.bytes(), sent.as_slice());
     trial.end()
+}
+
+// A read and a call of the sink that fail, and how many reads are granted; and what comes of it: how
+// many bytes are written, and the error. Reads, and writes with flushes, are numbered from 1.
+struct Failure {
+    read: u64,
+    call: u64,
+    reads: u64,
+    written: usize,
+    error: ServeError,
+}
+
+// A first read of 200 bytes tells one message, whose frame has 129 bytes when it is sent.
+const FAILURES: &[Failure] = &[
+    Failure {
+        read: 2,
+        call: 0,
+        reads: 9,
+        written: 129,
+        error: ServeError::ReadFault,
+    },
+    Failure {
+        read: 0,
+        call: 1,
+        reads: 9,
+        written: 0,
+        error: ServeError::WriteFault,
+    },
+    Failure {
+        read: 0,
+        call: 2,
+        reads: 9,
+        written: 129,
+        error: ServeError::WriteFault,
+    },
+    Failure {
+        read: 0,
+        call: 0,
+        reads: 1,
+        written: 129,
+        error: ServeError::ReadsSpent,
+    },
+];
+
+fn try_failure(trial: &mut Trial, alloc: Global, row: &Failure, sent: &[u8]) -> Result<(), Fail> {
+    if row.read == u64::MAX || row.call == u64::MAX {
+        return Err(Fail::new("no such call"));
+    }
+    let asked = framed(alloc, ASKED)?;
+    let mut source = MemorySource::new(asked, 200, vec![in alloc; row.read]?);
+    let mut sink = MemorySink::new(alloc, vec![in alloc; row.call]?);
+    let answer = relay(alloc, 2, &mut source, &mut sink, row.reads);
+    let wanted: &[u8] = sent.get(..row.written).unwrap_or(&[]);
+    trial.same(format_args!("before {:?}", row.error), sink.bytes(), wanted);
+    trial.same("the error", answer, Err(row.error));
+    Ok(())
 }
 
 #[test]
@@ -165,22 +221,10 @@ fn failures(rt: HostRuntime) -> Result<(), Fail> {
     let alloc = rt.alloc();
     let mut trial = Trial::new(alloc);
     let sent = framed(alloc, SENT)?;
-    // Reads, and writes with flushes, are numbered from 1. A first read of 200 bytes tells one
-    // message, whose frame has 129 bytes when it is sent.
-    for (failing_read, failing_call, reads, written, error) in [
-        (2, 0, 9, 129, ServeError::ReadFault),
-        (0, 1, 9, 0, ServeError::WriteFault),
-        (0, 2, 9, 129, ServeError::WriteFault),
-        (0, 0, 1, 129, ServeError::ReadsSpent),
-    ] {
-        let asked = framed(alloc, ASKED)?;
-        let mut source = MemorySource::new(asked, 200, vec![in alloc; failing_read]?);
-        let mut sink = MemorySink::new(alloc, vec![in alloc; failing_call]?);
-        let answer = relay(alloc, 2, &mut source, &mut sink, reads);
-        let wanted: &[u8] = sent.as_slice().get(..written).unwrap_or(&[]);
-        trial.same(format_args!("before {error:?}"), sink.bytes(), wanted);
-        trial.same("the error", answer, Err(error));
+    for row in FAILURES {
+        try_failure(&mut trial, alloc, row, sent.as_slice())?;
     }
+    drop(sent);
     Ok(trial.end()?)
 }
 
@@ -191,7 +235,7 @@ struct Reads {
 }
 
 // Each of the four frames asked has 128 bytes, and each of the four sent 129.
-const READS: [Reads; 3] = [
+const READS: &[Reads] = &[
     Reads {
         piece: 128,
         made: &[(0, 0), (128, 129), (256, 258), (384, 387), (512, 516)],
@@ -206,32 +250,36 @@ const READS: [Reads; 3] = [
     },
 ];
 
+fn try_reads(trial: &mut Trial, alloc: Global, row: &Reads) -> Result<(), Fail> {
+    if row.piece == 0 {
+        return Err(Fail::new("no piece"));
+    }
+    let sent = framed(alloc, SENT)?;
+    let mut io = MemoryTransport::new(alloc, framed(alloc, ASKED)?, row.piece);
+    let relayed = relay_over(alloc, 2, &mut io, 1000);
+    let wanted = Relayed {
+        passed: 4,
+        dropped: 0,
+    };
+    trial.same(row.piece, relayed, Ok(wanted));
+    trial.same(row.piece, io.bytes(), sent.as_slice());
+    trial.same(row.piece, io.reads().len(), row.made.len());
+    for (made, (read, taken)) in io.reads().iter().zip(row.made) {
+        let wanted = ReadAt {
+            read: *read,
+            taken: *taken,
+            flushed: *taken,
+        };
+        trial.same(row.piece, *made, wanted);
+    }
+    Ok(())
+}
+
 #[test]
 fn messages_are_sent_before_the_next_read(rt: HostRuntime) -> Result<(), Fail> {
-    let alloc = rt.alloc();
-    let mut trial = Trial::new(alloc);
-    for row in &READS {
-        if row.piece == 0 {
-            return Err(Fail::new("no piece"));
-        }
-        let mut io = MemoryTransport::new(alloc, framed(alloc, ASKED)?, row.piece);
-        let relayed = relay_over(alloc, 2, &mut io, 1000);
-        let wanted = Relayed {
-            passed: 4,
-            dropped: 0,
-        };
-        let sent = framed(alloc, SENT)?;
-        trial.same(row.piece, relayed, Ok(wanted));
-        trial.same(row.piece, io.bytes(), sent.as_slice());
-        trial.same(row.piece, io.reads().len(), row.made.len());
-        for (made, (read, taken)) in io.reads().iter().zip(row.made) {
-            let wanted = ReadAt {
-                read: *read,
-                taken: *taken,
-                flushed: *taken,
-            };
-            trial.same(row.piece, *made, wanted);
-        }
+    let mut trial = Trial::new(rt.alloc());
+    for row in READS {
+        try_reads(&mut trial, rt.alloc(), row)?;
     }
     Ok(trial.end()?)
 }

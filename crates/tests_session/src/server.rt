@@ -4,9 +4,10 @@ ghost use Rattle.lsp_desk.specs.Meaning.{IsOpening};
 ghost use Rattle.lsp_desk.specs.Plain.{plain_meaning};
 ghost use Rattle.lsp_server.specs.ServerView.{server_desk};
 
+use crate::outcome::{outcome, stop_of};
 use crate::small::make_server;
 use lsp_desk::{ClientSocket, PlainDesk};
-use lsp_frame::Limits;
+use lsp_frame::{CodecSettings, Limits};
 use lsp_rows::{RowError, Trial};
 use lsp_rpc::{Id, Message, Request};
 use lsp_server::{
@@ -65,7 +66,7 @@ struct Row {
     unanswered: usize,
 }
 
-const ROWS: [Row; 5] = [
+const ROWS: &[Row] = &[
     Row {
         name: "exit",
         sent: &[INITIALIZE, SHUTDOWN, EXIT],
@@ -124,26 +125,29 @@ fn try_row(trial: &mut Trial, alloc: Global, row: &Row, piece: usize) -> Result<
         head: 30,
         body: row.body,
     };
+    let service = make_server(alloc)?;
+    let sent = framed(alloc, row.sent)?;
     let server = new_server(alloc)
         .concurrency_level(1)
         .waiting_limit(0)
         .limits(limits);
-    let mut source = NeverSource::new(framed(alloc, row.sent)?, piece);
+    let mut source = NeverSource::new(sent, piece);
     let mut sink = NeverSink::new(alloc);
-    match server.serve(
+    let pick = &mut Rotate::new(7);
+    match outcome(server.serve(
         alloc,
         &mut source,
         &mut sink,
-        make_server(alloc)?,
-        &mut Rotate::new(7),
+        service,
+        pick,
         1000,
         row.rounds,
-    ) {
-        Ok(served) => {
-            trial.same(row.name, served.exited, row.exited);
-            trial.same(row.name, served.unanswered.len(), row.unanswered);
+    )) {
+        Ok((exited, unanswered)) => {
+            trial.same(row.name, exited, row.exited);
+            trial.same(row.name, unanswered.len(), row.unanswered);
         }
-        Err(stopped) => trial.shows(row.name, stopped.error, "no error"),
+        Err(error) => trial.shows(row.name, error, "no error"),
     }
     trial.same(row.name, sink.bytes(), row.answers.as_bytes());
     Ok(())
@@ -152,7 +156,7 @@ fn try_row(trial: &mut Trial, alloc: Global, row: &Row, piece: usize) -> Result<
 #[test]
 fn sessions_to_their_end(rt: HostRuntime) -> Result<(), Fail> {
     let mut trial = Trial::new(rt.alloc());
-    for row in &ROWS {
+    for row in ROWS {
         try_row(&mut trial, rt.alloc(), row, 1)?;
         try_row(&mut trial, rt.alloc(), row, 4096)?;
     }
@@ -171,7 +175,7 @@ struct Stop {
 }
 
 // Of the sink there is one write a step that puts something out, and one flush a read.
-const STOPS: [Stop; 8] = [
+const STOPS: &[Stop] = &[
     Stop {
         sent: &[INITIALIZE],
         failing_read: 2,
@@ -238,33 +242,25 @@ const STOPS: [Stop; 8] = [
     },
 ];
 
+fn try_stop(trial: &mut Trial, alloc: Global, number: usize, row: &Stop) -> Result<(), Fail> {
+    if row.failing_read == u64::MAX || row.failing_call == u64::MAX {
+        return Err(Fail::new("no such call"));
+    }
+    let sent = framed(alloc, row.sent)?;
+    let mut source = MemorySource::new(sent, 4096, vec![in alloc; row.failing_read]?);
+    let mut sink = MemorySink::new(alloc, vec![in alloc; row.failing_call]?);
+    let error = stop_of(alloc, &mut source, &mut sink, row.reads)?;
+    trial.same(format_args!("row {number}"), error, row.error);
+    let wanted = row.answers.as_bytes();
+    trial.same(format_args!("bytes of row {number}"), sink.bytes(), wanted);
+    Ok(())
+}
+
 #[test]
 fn sessions_that_stop(rt: HostRuntime) -> Result<(), Fail> {
-    let alloc = rt.alloc();
-    let mut trial = Trial::new(alloc);
+    let mut trial = Trial::new(rt.alloc());
     for (number, row) in STOPS.iter().enumerate() {
-        if row.failing_read == u64::MAX || row.failing_call == u64::MAX {
-            return Err(Fail::new("no such call"));
-        }
-        let sent = framed(alloc, row.sent)?;
-        let mut source = MemorySource::new(sent, 4096, vec![in alloc; row.failing_read]?);
-        let mut sink = MemorySink::new(alloc, vec![in alloc; row.failing_call]?);
-        let service = make_server(alloc)?;
-        let error = match new_server(alloc).serve(
-            alloc,
-            &mut source,
-            &mut sink,
-            service,
-            &mut InOrder,
-            row.reads,
-            1,
-        ) {
-            Ok(_) => None,
-            Err(stopped) => Some(stopped.error),
-        };
-        trial.same(format_args!("row {number}"), error, row.error);
-        let wanted = row.answers.as_bytes();
-        trial.same(format_args!("bytes of row {number}"), sink.bytes(), wanted);
+        try_stop(&mut trial, rt.alloc(), number, row)?;
     }
     Ok(trial.end()?)
 }
@@ -277,7 +273,7 @@ struct Reads {
 }
 
 // The frames have 68, 66 and 55 bytes, and each answer 60.
-const READS: [Reads; 4] = [
+const READS: &[Reads] = &[
     Reads {
         sent: &[INITIALIZE, SHUTDOWN, EXIT],
         piece: 68,
@@ -300,65 +296,87 @@ const READS: [Reads; 4] = [
     },
 ];
 
+fn serve_memory(alloc: Global, io: &mut MemoryTransport) -> Result<Result<(), ServeError>, Fail> {
+    let mut session = Session::new(alloc, make_server(alloc)?, PlainDesk::new(alloc), 4);
+    let settings = CodecSettings::default();
+    let answer = serve_over(alloc, io, &mut session, &mut InOrder, 1000, 1, settings);
+    drop(session);
+    Ok(answer)
+}
+
+fn try_reads(trial: &mut Trial, alloc: Global, row: &Reads) -> Result<(), Fail> {
+    if row.piece == 0 {
+        return Err(Fail::new("no piece"));
+    }
+    let mut io = MemoryTransport::new(alloc, framed(alloc, row.sent)?, row.piece);
+    trial.same(row.piece, serve_memory(alloc, &mut io)?, Ok(()));
+    trial.same(row.piece, io.reads().len(), row.made.len());
+    for (made, (read, taken)) in io.reads().iter().zip(row.made) {
+        let wanted = ReadAt {
+            read: *read,
+            taken: *taken,
+            flushed: *taken,
+        };
+        trial.same(row.piece, *made, wanted);
+    }
+    Ok(())
+}
+
 #[test]
 fn answers_come_before_the_next_read(rt: HostRuntime) -> Result<(), Fail> {
-    let alloc = rt.alloc();
-    let mut trial = Trial::new(alloc);
-    for row in &READS {
-        if row.piece == 0 {
-            return Err(Fail::new("no piece"));
-        }
-        let mut io = MemoryTransport::new(alloc, framed(alloc, row.sent)?, row.piece);
-        let mut session = Session::new(alloc, make_server(alloc)?, PlainDesk::new(alloc), 4);
-        let limits = Limits::default();
-        let answer = serve_over(alloc, &mut io, &mut session, &mut InOrder, 1000, 1, limits);
-        trial.same(row.piece, answer, Ok(()));
-        trial.same(row.piece, io.reads().len(), row.made.len());
-        for (made, (read, taken)) in io.reads().iter().zip(row.made) {
-            let wanted = ReadAt {
-                read: *read,
-                taken: *taken,
-                flushed: *taken,
-            };
-            trial.same(row.piece, *made, wanted);
-        }
+    let mut trial = Trial::new(rt.alloc());
+    for row in READS {
+        try_reads(&mut trial, rt.alloc(), row)?;
     }
     Ok(trial.end()?)
 }
 
-#[test]
-fn one_step_and_a_tick(rt: HostRuntime) -> Result<(), Fail> {
-    let alloc = rt.alloc();
-    let mut session = Session::new(alloc, make_server(alloc)?, PlainDesk::new(alloc), 4);
-    let mut sink = MemorySink::new(alloc, Vec::new(alloc));
+// The step of `initialize` in a session of its own.
+fn first_step(alloc: Global, sink: &mut MemorySink) -> Result<Result<(), ServeError>, Fail> {
     let request = Request::build(String::from_str(alloc, "initialize")?)
         .id(Id::Number(1))
         .finish();
     let item = Item::Message(Message::Request(request));
-    let answer = Server::<PlainDesk>::step(alloc, &mut sink, &mut session, item, &mut InOrder, 1);
-    let mut trial = Trial::new(alloc);
-    trial.same("a step", answer, Ok(()));
-    trial.same("its bytes", sink.bytes(), ANSWER_1.as_bytes());
-
-    // A tick admits nothing, and a session that has begun nothing puts nothing out.
     let mut session = Session::new(alloc, make_server(alloc)?, PlainDesk::new(alloc), 4);
-    let answer = Server::<PlainDesk>::idle(alloc, &mut sink, &mut session, &mut InOrder, 1);
-    trial.same("a tick", answer, Ok(()));
+    let answer = Server::<PlainDesk>::step(alloc, sink, &mut session, item, &mut InOrder, 1);
+    drop(session);
+    Ok(answer)
+}
+
+// A tick of a session that has begun nothing.
+fn first_tick(alloc: Global, sink: &mut MemorySink) -> Result<Result<(), ServeError>, Fail> {
+    let mut session = Session::new(alloc, make_server(alloc)?, PlainDesk::new(alloc), 4);
+    let answer = Server::<PlainDesk>::idle(alloc, sink, &mut session, &mut InOrder, 1);
+    drop(session);
+    Ok(answer)
+}
+
+// The tick puts nothing out.
+#[test]
+fn one_step_and_a_tick(rt: HostRuntime) -> Result<(), Fail> {
+    let alloc = rt.alloc();
+    let mut sink = MemorySink::new(alloc, Vec::new(alloc));
+    let mut trial = Trial::new(alloc);
+    trial.same("a step", first_step(alloc, &mut sink)?, Ok(()));
+    trial.same("its bytes", sink.bytes(), ANSWER_1.as_bytes());
+    trial.same("a tick", first_tick(alloc, &mut sink)?, Ok(()));
     trial.same("no more bytes", sink.bytes(), ANSWER_1.as_bytes());
     Ok(trial.end()?)
 }
 
+const ERRORS: &[(ServeError, &str)] = &[
+    (ServeError::ReadFault, "read failed"),
+    (ServeError::WriteFault, "write failed"),
+    (ServeError::ReadsSpent, "reads spent"),
+    (ServeError::DeskSpent(7), "desk spent"),
+    (ServeError::NoMemory, "out of memory"),
+];
+
 #[test]
 fn texts_of_errors(rt: HostRuntime) -> Result<(), RowError> {
     let mut trial = Trial::new(rt.alloc());
-    for (error, text) in [
-        (ServeError::ReadFault, "read failed"),
-        (ServeError::WriteFault, "write failed"),
-        (ServeError::ReadsSpent, "reads spent"),
-        (ServeError::DeskSpent(7), "desk spent"),
-        (ServeError::NoMemory, "out of memory"),
-    ] {
-        trial.text(text, format!(in rt.alloc(); "{error}"), text);
+    for (error, text) in ERRORS {
+        trial.text(*text, format!(in rt.alloc(); "{error}"), *text);
     }
     trial.end()
 }

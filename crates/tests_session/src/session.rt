@@ -1,5 +1,7 @@
 // Rows over a session with a small server.
 ghost use Rattle.std.specs.Prelude.{◌≡◌, false, IfOk};
+ghost use Rattle.lsp_desk.specs.Call.{call_has_float};
+ghost use Rattle.lsp_desk.specs.Shown.{show_client_call};
 ghost use Rattle.lsp_session.specs.Item.{show_item, item_has_float};
 
 use crate::small::{Small, make_server};
@@ -8,7 +10,7 @@ use lsp_rows::{RowError, Trial};
 use lsp_rpc::{Id, Message, Request, Response};
 use lsp_session::{InOrder, Item, Life, Pending, Pick, Poll, Rotate, Session, step};
 use serde_json::Value;
-use std::alloc::Global;
+use std::alloc::{AllocError, Global};
 use std::test::Fail;
 
 fn item(alloc: Global, text: &str) -> Result<Item, Fail>
@@ -38,9 +40,16 @@ fn make_step(
     if let Err(fault) = step(session, item(alloc, text)?, &mut InOrder, rounds) {
         return Err(Fail::from(fault));
     }
-    for message in session.take_out() {
+    let messages = session.take_out();
+    let written = write_answers(alloc, &messages, out);
+    drop(messages);
+    written
+}
+
+fn write_answers(alloc: Global, messages: &[Message], out: &mut String) -> Result<(), Fail> {
+    for message in messages {
         if let Message::Response(response) = message {
-            write_answer(alloc, &response, out)?;
+            write_answer(alloc, response, out)?;
         }
     }
     Ok(())
@@ -79,7 +88,7 @@ const ECHO: &str = "{\"jsonrpc\":\"2.0\",\"method\":\"wait\",\"params\":0,\"id\"
 
 const EXIT: &str = "{\"jsonrpc\":\"2.0\",\"method\":\"exit\"}";
 
-const ROWS: [Row; 9] = [
+const ROWS: &[Row] = &[
     Row {
         name: "an unknown name that begins with `$/` is answered",
         max: 4,
@@ -203,29 +212,55 @@ const ROWS: [Row; 9] = [
     },
 ];
 
+fn make_steps(
+    alloc: Global,
+    session: &mut Session<Small, PlainDesk>,
+    row: &Row,
+) -> Result<String, Fail> {
+    let mut out = String::new(alloc);
+    for text in row.items {
+        make_step(alloc, session, text, row.rounds, &mut out)?;
+    }
+    Ok(out)
+}
+
+fn ids_left(alloc: Global, session: &Session<Small, PlainDesk>) -> Result<String, Fail> {
+    let ids = session.unanswered()?;
+    let mut left = String::new(alloc);
+    for id in &ids {
+        left.push_str(format!(in alloc; "{id};")?.as_str())?;
+    }
+    Ok(left)
+}
+
+fn try_steps(
+    trial: &mut Trial,
+    alloc: Global,
+    session: &mut Session<Small, PlainDesk>,
+    row: &Row,
+) -> Result<(), Fail> {
+    let out = make_steps(alloc, session, row)?;
+    trial.same(row.name, out.as_str(), row.out);
+    let left = ids_left(alloc, session)?;
+    trial.same(row.name, left.as_str(), row.left);
+    Ok(())
+}
+
 fn try_row(trial: &mut Trial, alloc: Global, row: &Row) -> Result<(), Fail> {
     if row.max == 0 {
         return Err(Fail::new(row.name));
     }
     let session = Session::new(alloc, make_server(alloc)?, PlainDesk::new(alloc), row.max);
     let mut session = session.waiting_limit(row.wait);
-    let mut out = String::new(alloc);
-    for text in row.items {
-        make_step(alloc, &mut session, text, row.rounds, &mut out)?;
-    }
-    let mut left = String::new(alloc);
-    for id in session.unanswered()? {
-        left.push_str(format!(in alloc; "{};", id)?.as_str())?;
-    }
-    trial.same(row.name, out.as_str(), row.out);
-    trial.same(row.name, left.as_str(), row.left);
-    Ok(())
+    let tried = try_steps(trial, alloc, &mut session, row);
+    drop(session);
+    tried
 }
 
 #[test]
 fn rows(rt: HostRuntime) -> Result<(), Fail> {
     let mut trial = Trial::new(rt.alloc());
-    for row in &ROWS {
+    for row in ROWS {
         try_row(&mut trial, rt.alloc(), row)?;
     }
     Ok(trial.end()?)
@@ -243,7 +278,12 @@ fn picks_tables_and_ids(rt: HostRuntime) -> Result<(), Fail> {
     let rotated = three(Rotate::new(u64::MAX));
     trial.same("rotated", rotated, (u64::MAX, 0, 1));
     trial.same("in order", three(InOrder), (0, 0, 0));
-    let mut live = Pending::new(alloc);
+    try_ids(&mut trial, Pending::new(alloc));
+    try_table(&mut trial, alloc, make_server(alloc)?);
+    Ok(trial.end()?)
+}
+
+fn try_ids(trial: &mut Trial, mut live: Pending) {
     trial.same("a new id", live.execute(Id::Number(7)), Ok(true));
     trial.same("a live id", live.execute(Id::Number(7)), Ok(false));
     trial.same("another id", live.execute(Id::Null), Ok(true));
@@ -251,14 +291,18 @@ fn picks_tables_and_ids(rt: HostRuntime) -> Result<(), Fail> {
     trial.is_true("it is live no more", !live.finish(&Id::Null));
     trial.same("cancelled then", live.cancel_all().len(), 1);
     trial.is_true("none is live", !live.is_live(&Id::Number(7)));
-    let small = make_server(alloc)?;
+    drop(live);
+}
+
+fn try_table(trial: &mut Trial, alloc: Global, small: Small) {
     let session = Session::new(alloc, small, PlainDesk::new(alloc), 1);
     trial.is_true("it is ready", session.poll_ready() == Poll::Ready(Ok(())));
     trial.is_true("it goes on", session.exited().is_none());
-    let (small, _) = session.into_parts();
+    let (small, desk) = session.into_parts();
+    drop(desk);
     trial.is_true("`wait` is found", small.table.find("wait").is_some());
     trial.is_true("`foo` isn't", small.table.find("foo").is_none());
-    Ok(trial.end()?)
+    drop(small);
 }
 
 const MANY: i64 = 400_000;
@@ -286,21 +330,44 @@ fn many_live(rt: HostRuntime) -> Result<(), RowError> {
     trial.end()
 }
 
+fn asks(alloc: Global, id: i64) -> Result<ClientCall, AllocError>
+    ensures { IfOk result (λ call. call_has_float (show_client_call call) ≡ false) }
+{
+    let method = String::from_str(alloc, "m")?;
+    Ok(ClientCall::Raw(Request::build(method).id(Id::Number(id)).finish()))
+}
+
+fn gives_ticket(desk: &mut PlainDesk, call: Result<ClientCall, AllocError>) -> bool
+    requires { IfOk call (λ call. call_has_float (show_client_call call) ≡ false) }
+{
+    let Ok(call) = call else {
+        return false;
+    };
+    let reply = desk.client(call);
+    let is_ticket = matches!(&reply, Ok(ClientReply::Ticket(_, _)));
+    drop(reply);
+    is_ticket
+}
+
+fn ignores_answer(desk: &mut PlainDesk, id: i64) -> bool {
+    let answer = Response::from_ok(Id::Number(id), Value::Null);
+    let reply = desk.server(ServerCall::Answer(answer));
+    let is_ignored = matches!(&reply, Ok(ServerReply::Ignored));
+    drop(reply);
+    is_ignored
+}
+
 #[test]
-fn many_waiting(rt: HostRuntime) -> Result<(), Fail> {
+fn many_waiting(rt: HostRuntime) -> Result<(), RowError> {
     let alloc = rt.alloc();
     let mut trial = Trial::new(alloc);
     let mut desk = PlainDesk::new(alloc);
-    for n in 0..MANY {
-        let method = String::from_str(alloc, "m")?;
-        let request = Request::build(method).id(Id::Number(n + 1)).finish();
-        let reply = desk.client(ClientCall::Raw(request))?;
-        trial.is_true(n, matches!(reply, ClientReply::Ticket(_, _)));
+    for n in 1..=MANY {
+        trial.is_true(n, gives_ticket(&mut desk, asks(alloc, n)));
     }
-    for n in 0..MANY {
-        let answer = Response::from_ok(Id::Number(MANY + n + 1), Value::Null);
-        let reply = desk.server(ServerCall::Answer(answer))?;
-        trial.is_true(n, matches!(reply, ServerReply::Ignored));
+    for n in 1..=MANY {
+        trial.is_true(n, ignores_answer(&mut desk, n.wrapping_add(MANY)));
     }
-    Ok(trial.end()?)
+    drop(desk);
+    trial.end()
 }

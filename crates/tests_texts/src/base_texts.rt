@@ -16,7 +16,7 @@ use lsp_base::{
 use lsp_kinds::DiagnosticTag;
 use lsp_rows::{RowError, Trial, text_of};
 use lsp_rpc::Id;
-use lsp_shape::{Wire, reads_back};
+use lsp_shape::{Misfit, NoMemory, Wire, reads_back};
 use lsp_uri::Uri;
 use serde_json::Value;
 use std::alloc::Global;
@@ -274,6 +274,33 @@ const STATIC_REGISTRATION: &str = r#"
 ! {"id":79}
 "#;
 
+const ERROR_CODES: &[(&str, i64, i64)] = &[
+    (
+        "SERVER_NOT_INITIALIZED",
+        error_codes::SERVER_NOT_INITIALIZED,
+        -32002,
+    ),
+    (
+        "UNKNOWN_ERROR_CODE",
+        error_codes::UNKNOWN_ERROR_CODE,
+        -32001,
+    ),
+    (
+        "LSP_RESERVED_ERROR_RANGE_START",
+        error_codes::LSP_RESERVED_ERROR_RANGE_START,
+        -32899,
+    ),
+    ("REQUEST_FAILED", error_codes::REQUEST_FAILED, -32803),
+    ("SERVER_CANCELLED", error_codes::SERVER_CANCELLED, -32802),
+    ("CONTENT_MODIFIED", error_codes::CONTENT_MODIFIED, -32801),
+    ("REQUEST_CANCELLED", error_codes::REQUEST_CANCELLED, -32800),
+    (
+        "LSP_RESERVED_ERROR_RANGE_END",
+        error_codes::LSP_RESERVED_ERROR_RANGE_END,
+        -32800,
+    ),
+];
+
 #[test]
 fn registrations(rt: HostRuntime) -> Result<(), RowError> {
     let mut trial = Trial::new(rt.alloc());
@@ -282,33 +309,8 @@ fn registrations(rt: HostRuntime) -> Result<(), RowError> {
     trial.holds::<GotoCapability>(GOTO_CAPABILITY);
     trial.holds::<TextDocumentRegistrationOptions>(TEXT_DOCUMENT_REGISTRATION);
     trial.holds::<StaticRegistrationOptions>(STATIC_REGISTRATION);
-    for (name, code, expected) in [
-        (
-            "SERVER_NOT_INITIALIZED",
-            error_codes::SERVER_NOT_INITIALIZED,
-            -32002,
-        ),
-        (
-            "UNKNOWN_ERROR_CODE",
-            error_codes::UNKNOWN_ERROR_CODE,
-            -32001,
-        ),
-        (
-            "LSP_RESERVED_ERROR_RANGE_START",
-            error_codes::LSP_RESERVED_ERROR_RANGE_START,
-            -32899,
-        ),
-        ("REQUEST_FAILED", error_codes::REQUEST_FAILED, -32803),
-        ("SERVER_CANCELLED", error_codes::SERVER_CANCELLED, -32802),
-        ("CONTENT_MODIFIED", error_codes::CONTENT_MODIFIED, -32801),
-        ("REQUEST_CANCELLED", error_codes::REQUEST_CANCELLED, -32800),
-        (
-            "LSP_RESERVED_ERROR_RANGE_END",
-            error_codes::LSP_RESERVED_ERROR_RANGE_END,
-            -32800,
-        ),
-    ] {
-        trial.same(name, code, expected);
+    for (name, code, expected) in ERROR_CODES {
+        trial.same(*name, *code, *expected);
     }
     trial.end()
 }
@@ -442,21 +444,37 @@ fn changes_of_a_workspace(rt: HostRuntime) -> Result<(), RowError> {
     trial.end()
 }
 
+fn edited(alloc: Global) -> Result<WorkspaceEdit, Fail> {
+    let uri = Uri::parse(alloc, "file://test")?;
+    let mut changes: HashMap<Uri, Vec<TextEdit>> = HashMap::new(alloc);
+    drop(changes.insert(uri, Vec::new(alloc))?);
+    Ok(WorkspaceEdit::new(changes))
+}
+
+fn written_again(alloc: Global, edit: &WorkspaceEdit) -> Result<String, Misfit> {
+    let again = reads_back(alloc, edit)?;
+    let text = text_of(alloc, &again);
+    drop(again);
+    Ok(text?)
+}
+
+fn written_copy(alloc: Global, edit: &WorkspaceEdit) -> Result<String, NoMemory> {
+    let copy = edit.clone()?;
+    let text = text_of(alloc, &copy);
+    drop(copy);
+    text
+}
+
 #[test]
 fn edit_of_one_document(rt: HostRuntime) -> Result<(), Fail> {
     let alloc = rt.alloc();
-    let mut changes: HashMap<Uri, Vec<TextEdit>> = HashMap::new(alloc);
-    drop(changes.insert(Uri::parse(alloc, "file://test")?, Vec::new(alloc))?);
-    let edit = WorkspaceEdit::new(changes);
+    let edit = edited(alloc)?;
     let text = r#"{"changes":{"file://test":[]}}"#;
     let mut trial = Trial::new(alloc);
     trial.text("the edit", text_of(alloc, &edit), text);
-    trial.text(
-        "read back",
-        text_of(alloc, &reads_back(alloc, &edit)?),
-        text,
-    );
-    trial.text("a copy", text_of(alloc, &edit.clone()?), text);
+    trial.text("read back", written_again(alloc, &edit), text);
+    trial.text("a copy", written_copy(alloc, &edit), text);
+    drop(edit);
     Ok(trial.end()?)
 }
 

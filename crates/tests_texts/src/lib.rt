@@ -11,8 +11,6 @@ mod base;
 #[cfg(test)]
 mod base_texts;
 #[cfg(test)]
-mod built;
-#[cfg(test)]
 mod caps_work;
 #[cfg(test)]
 mod lang_goto;

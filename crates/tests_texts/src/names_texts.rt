@@ -10,7 +10,7 @@ use lsp_names::{
     SemanticTokensFullOptions, TokenFormat, TraceValue, WorkDoneProgressOptions,
 };
 use lsp_rows::{RowError, Trial};
-use lsp_shape::{Misfit, Wire};
+use lsp_shape::{Misfit, NoMemory, Wire};
 use serde_json::Value;
 use std::alloc::Global;
 use std::cmp::Ordering;
@@ -24,60 +24,86 @@ fn hash_of<K: Hash>(kind: &K) -> u64 {
     state.finish()
 }
 
-// The kind is that of the text, known or owned: the two are equal, in order and hash too, and read
-// and written alike.
-fn is_kind_of<K>(alloc: Global, kind: &K, text: &'static str) -> Result<bool, Misfit>
+// The kind and that of an owned text are equal, in order and hash too.
+fn is_as_owned<K>(alloc: Global, kind: &K, text: &'static str) -> Result<bool, NoMemory>
+where
+    K: Wire + Hash + PartialOrd + From<String>,
+{
+    let owned = K::from(String::from_str(alloc, text)?);
+    Ok(
+        owned == *kind
+            && owned.partial_cmp(kind) == Some(Ordering::Equal)
+            && hash_of(&owned) == hash_of(kind),
+    )
+}
+
+// What is written of the kind is the text, and is read as the kind.
+fn is_read<K: Wire + PartialEq>(
+    alloc: Global,
+    kind: &K,
+    text: &'static str,
+) -> Result<bool, Misfit> {
+    let value = kind.to_value(alloc)?;
+    Ok(value.as_str() == Some(text) && K::from_value(alloc, &value)? == *kind)
+}
+
+fn is_copied<K: Wire + Clone + PartialEq>(kind: &K) -> Result<bool, NoMemory> {
+    Ok(kind.clone()? == *kind)
+}
+
+// The kind is that of the text, known or owned.
+fn try_known<K>(trial: &mut Trial, alloc: Global, kind: K, text: &'static str)
 where
     K: Wire + Clone + Debug + Hash + PartialOrd + From<String> + From<&'static str>,
 {
-    let owned = K::from(String::from_str(alloc, text)?);
-    let value = Value::try_from_str(alloc, text)?;
-    let read = K::from_value(alloc, &value)?;
-    let written = kind.to_value(alloc)?;
-    Ok(
-        owned == *kind
-            && K::from(text) == *kind
-            && read == *kind
-            && kind.clone()? == owned
-            && owned.partial_cmp(kind) == Some(Ordering::Equal)
-            && hash_of(&owned) == hash_of(kind)
-            && written == value,
-    )
+    trial.same(text, is_as_owned(alloc, &kind, text), Ok(true));
+    trial.same(text, is_read(alloc, &kind, text), Ok(true));
+    trial.same(text, is_copied(&kind), Ok(true));
+    trial.same(text, K::from(text), kind);
 }
 
 #[test]
 fn known_names(rt: HostRuntime) -> Result<(), RowError> {
     let alloc = rt.alloc();
     let mut trial = Trial::new(alloc);
-    for (kind, text) in &[
-        (PositionEncodingKind::UTF8(), "utf-8"),
-        (PositionEncodingKind::UTF16(), "utf-16"),
-        (PositionEncodingKind::UTF32(), "utf-32"),
-    ] {
-        trial.same(*text, kind.as_str(), *text);
-        trial.same(*text, is_kind_of(alloc, kind, *text), Ok(true));
-    }
-    for (kind, text) in &[
-        (CodeActionKind::EMPTY(), ""),
-        (CodeActionKind::QUICKFIX(), "quickfix"),
-        (CodeActionKind::REFACTOR(), "refactor"),
-        (CodeActionKind::REFACTOR_EXTRACT(), "refactor.extract"),
-        (CodeActionKind::REFACTOR_INLINE(), "refactor.inline"),
-        (CodeActionKind::REFACTOR_REWRITE(), "refactor.rewrite"),
-        (CodeActionKind::SOURCE(), "source"),
-        (
-            CodeActionKind::SOURCE_ORGANIZE_IMPORTS(),
-            "source.organizeImports",
-        ),
-        (CodeActionKind::SOURCE_FIX_ALL(), "source.fixAll"),
-    ] {
-        trial.same(*text, kind.as_str(), *text);
-        trial.same(*text, is_kind_of(alloc, kind, *text), Ok(true));
-    }
-    for (kind, text) in &[(TokenFormat::RELATIVE(), "relative")] {
-        trial.same(*text, kind.as_str(), *text);
-        trial.same(*text, is_kind_of(alloc, kind, *text), Ok(true));
-    }
+    try_known(&mut trial, alloc, PositionEncodingKind::UTF8(), "utf-8");
+    try_known(&mut trial, alloc, PositionEncodingKind::UTF16(), "utf-16");
+    try_known(&mut trial, alloc, PositionEncodingKind::UTF32(), "utf-32");
+    try_known(&mut trial, alloc, CodeActionKind::EMPTY(), "");
+    try_known(&mut trial, alloc, CodeActionKind::QUICKFIX(), "quickfix");
+    try_known(&mut trial, alloc, CodeActionKind::REFACTOR(), "refactor");
+    try_known(
+        &mut trial,
+        alloc,
+        CodeActionKind::REFACTOR_EXTRACT(),
+        "refactor.extract",
+    );
+    try_known(
+        &mut trial,
+        alloc,
+        CodeActionKind::REFACTOR_INLINE(),
+        "refactor.inline",
+    );
+    try_known(
+        &mut trial,
+        alloc,
+        CodeActionKind::REFACTOR_REWRITE(),
+        "refactor.rewrite",
+    );
+    try_known(&mut trial, alloc, CodeActionKind::SOURCE(), "source");
+    try_known(
+        &mut trial,
+        alloc,
+        CodeActionKind::SOURCE_ORGANIZE_IMPORTS(),
+        "source.organizeImports",
+    );
+    try_known(
+        &mut trial,
+        alloc,
+        CodeActionKind::SOURCE_FIX_ALL(),
+        "source.fixAll",
+    );
+    try_known(&mut trial, alloc, TokenFormat::RELATIVE(), "relative");
     trial.end()
 }
 
@@ -85,49 +111,136 @@ fn known_names(rt: HostRuntime) -> Result<(), RowError> {
 fn known_names_of_tokens(rt: HostRuntime) -> Result<(), RowError> {
     let alloc = rt.alloc();
     let mut trial = Trial::new(alloc);
-    for (kind, text) in &[
-        (SemanticTokenType::NAMESPACE(), "namespace"),
-        (SemanticTokenType::TYPE(), "type"),
-        (SemanticTokenType::CLASS(), "class"),
-        (SemanticTokenType::ENUM(), "enum"),
-        (SemanticTokenType::INTERFACE(), "interface"),
-        (SemanticTokenType::STRUCT(), "struct"),
-        (SemanticTokenType::TYPE_PARAMETER(), "typeParameter"),
-        (SemanticTokenType::PARAMETER(), "parameter"),
-        (SemanticTokenType::VARIABLE(), "variable"),
-        (SemanticTokenType::PROPERTY(), "property"),
-        (SemanticTokenType::ENUM_MEMBER(), "enumMember"),
-        (SemanticTokenType::EVENT(), "event"),
-        (SemanticTokenType::FUNCTION(), "function"),
-        (SemanticTokenType::METHOD(), "method"),
-        (SemanticTokenType::MACRO(), "macro"),
-        (SemanticTokenType::KEYWORD(), "keyword"),
-        (SemanticTokenType::MODIFIER(), "modifier"),
-        (SemanticTokenType::COMMENT(), "comment"),
-        (SemanticTokenType::STRING(), "string"),
-        (SemanticTokenType::NUMBER(), "number"),
-        (SemanticTokenType::REGEXP(), "regexp"),
-        (SemanticTokenType::OPERATOR(), "operator"),
-        (SemanticTokenType::DECORATOR(), "decorator"),
-    ] {
-        trial.same(*text, kind.as_str(), *text);
-        trial.same(*text, is_kind_of(alloc, kind, *text), Ok(true));
-    }
-    for (kind, text) in &[
-        (SemanticTokenModifier::DECLARATION(), "declaration"),
-        (SemanticTokenModifier::DEFINITION(), "definition"),
-        (SemanticTokenModifier::READONLY(), "readonly"),
-        (SemanticTokenModifier::STATIC(), "static"),
-        (SemanticTokenModifier::DEPRECATED(), "deprecated"),
-        (SemanticTokenModifier::ABSTRACT(), "abstract"),
-        (SemanticTokenModifier::ASYNC(), "async"),
-        (SemanticTokenModifier::MODIFICATION(), "modification"),
-        (SemanticTokenModifier::DOCUMENTATION(), "documentation"),
-        (SemanticTokenModifier::DEFAULT_LIBRARY(), "defaultLibrary"),
-    ] {
-        trial.same(*text, kind.as_str(), *text);
-        trial.same(*text, is_kind_of(alloc, kind, *text), Ok(true));
-    }
+    try_known(
+        &mut trial,
+        alloc,
+        SemanticTokenType::NAMESPACE(),
+        "namespace",
+    );
+    try_known(&mut trial, alloc, SemanticTokenType::TYPE(), "type");
+    try_known(&mut trial, alloc, SemanticTokenType::CLASS(), "class");
+    try_known(&mut trial, alloc, SemanticTokenType::ENUM(), "enum");
+    try_known(
+        &mut trial,
+        alloc,
+        SemanticTokenType::INTERFACE(),
+        "interface",
+    );
+    try_known(&mut trial, alloc, SemanticTokenType::STRUCT(), "struct");
+    try_known(
+        &mut trial,
+        alloc,
+        SemanticTokenType::TYPE_PARAMETER(),
+        "typeParameter",
+    );
+    try_known(
+        &mut trial,
+        alloc,
+        SemanticTokenType::PARAMETER(),
+        "parameter",
+    );
+    try_known(&mut trial, alloc, SemanticTokenType::VARIABLE(), "variable");
+    try_known(&mut trial, alloc, SemanticTokenType::PROPERTY(), "property");
+    try_known(
+        &mut trial,
+        alloc,
+        SemanticTokenType::ENUM_MEMBER(),
+        "enumMember",
+    );
+    try_known(&mut trial, alloc, SemanticTokenType::EVENT(), "event");
+    try_known(&mut trial, alloc, SemanticTokenType::FUNCTION(), "function");
+    try_known(&mut trial, alloc, SemanticTokenType::METHOD(), "method");
+    try_known(&mut trial, alloc, SemanticTokenType::MACRO(), "macro");
+    try_known(&mut trial, alloc, SemanticTokenType::KEYWORD(), "keyword");
+    try_known(&mut trial, alloc, SemanticTokenType::MODIFIER(), "modifier");
+    try_known(&mut trial, alloc, SemanticTokenType::COMMENT(), "comment");
+    try_known(&mut trial, alloc, SemanticTokenType::STRING(), "string");
+    try_known(&mut trial, alloc, SemanticTokenType::NUMBER(), "number");
+    try_known(&mut trial, alloc, SemanticTokenType::REGEXP(), "regexp");
+    try_known(&mut trial, alloc, SemanticTokenType::OPERATOR(), "operator");
+    try_known(
+        &mut trial,
+        alloc,
+        SemanticTokenType::DECORATOR(),
+        "decorator",
+    );
+    try_known(
+        &mut trial,
+        alloc,
+        SemanticTokenModifier::DECLARATION(),
+        "declaration",
+    );
+    try_known(
+        &mut trial,
+        alloc,
+        SemanticTokenModifier::DEFINITION(),
+        "definition",
+    );
+    try_known(
+        &mut trial,
+        alloc,
+        SemanticTokenModifier::READONLY(),
+        "readonly",
+    );
+    try_known(&mut trial, alloc, SemanticTokenModifier::STATIC(), "static");
+    try_known(
+        &mut trial,
+        alloc,
+        SemanticTokenModifier::DEPRECATED(),
+        "deprecated",
+    );
+    try_known(
+        &mut trial,
+        alloc,
+        SemanticTokenModifier::ABSTRACT(),
+        "abstract",
+    );
+    try_known(&mut trial, alloc, SemanticTokenModifier::ASYNC(), "async");
+    try_known(
+        &mut trial,
+        alloc,
+        SemanticTokenModifier::MODIFICATION(),
+        "modification",
+    );
+    try_known(
+        &mut trial,
+        alloc,
+        SemanticTokenModifier::DOCUMENTATION(),
+        "documentation",
+    );
+    try_known(
+        &mut trial,
+        alloc,
+        SemanticTokenModifier::DEFAULT_LIBRARY(),
+        "defaultLibrary",
+    );
+    trial.end()
+}
+
+#[test]
+fn texts_of_known_names(rt: HostRuntime) -> Result<(), RowError> {
+    let mut trial = Trial::new(rt.alloc());
+    trial.same(
+        "an encoding",
+        PositionEncodingKind::UTF8().as_str(),
+        "utf-8",
+    );
+    trial.same(
+        "an action",
+        CodeActionKind::SOURCE_FIX_ALL().as_str(),
+        "source.fixAll",
+    );
+    trial.same("a format", TokenFormat::RELATIVE().as_str(), "relative");
+    trial.same(
+        "a token",
+        SemanticTokenType::TYPE_PARAMETER().as_str(),
+        "typeParameter",
+    );
+    trial.same(
+        "a modifier",
+        SemanticTokenModifier::READONLY().as_str(),
+        "readonly",
+    );
     trial.end()
 }
 
@@ -146,7 +259,7 @@ fn order(a: &CodeActionKind, b: &CodeActionKind) -> Option<Ordering>
 }
 
 // Two texts, and how the first stands to the second.
-const IN_ORDER: [(&str, &str, Ordering); 6] = [
+const IN_ORDER: &[(&str, &str, Ordering)] = &[
     ("", "quickfix", Ordering::Less),
     ("refactor", "refactor.extract", Ordering::Less),
     ("source", "refactor.rewrite", Ordering::Greater),
@@ -159,7 +272,7 @@ const IN_ORDER: [(&str, &str, Ordering); 6] = [
 fn by_their_texts(rt: HostRuntime) -> Result<(), RowError> {
     let alloc = rt.alloc();
     let mut trial = Trial::new(alloc);
-    for (first, second, wanted) in &IN_ORDER {
+    for (first, second, wanted) in IN_ORDER {
         let known = CodeActionKind::from(*first);
         let owned = CodeActionKind::new(alloc, *second)?;
         let is_equal = *wanted == Ordering::Equal;

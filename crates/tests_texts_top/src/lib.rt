@@ -9,8 +9,10 @@
 #[cfg(test)]
 mod caps_text;
 #[cfg(test)]
+mod initialize;
+#[cfg(test)]
 mod lsif;
 #[cfg(test)]
-mod methods;
-#[cfg(test)]
 mod offer_work;
+#[cfg(test)]
+mod user;

@@ -1,5 +1,4 @@
-// What no clause says, since none can name a constant: each by its number and name. And that the
-// calls succeed.
+// What no clause says: that the calls succeed. And each constant by its number and name, typed again.
 use lsp_kinds::{
     CodeActionTriggerKind, CompletionItemKind, CompletionItemTag, CompletionTriggerKind,
     DiagnosticSeverity, DiagnosticTag, DocumentHighlightKind, FileChangeType, InlayHintKind,
@@ -7,199 +6,147 @@ use lsp_kinds::{
     SignatureHelpTriggerKind, SymbolKind, SymbolTag, TextDocumentSaveReason, TextDocumentSyncKind,
 };
 use lsp_rows::{RowError, Trial};
-use lsp_shape::{Misfit, Wire};
+use lsp_shape::{Wire, read_text};
 use std::alloc::Global;
 use std::fmt::Debug;
 
-const DIAGNOSTIC_SEVERITIES: [(DiagnosticSeverity, &str, &str); 4] = [
-    (DiagnosticSeverity::ERROR, "1", "Error"),
-    (DiagnosticSeverity::WARNING, "2", "Warning"),
-    (DiagnosticSeverity::INFORMATION, "3", "Information"),
-    (DiagnosticSeverity::HINT, "4", "Hint"),
-];
+const DIAGNOSTIC_SEVERITIES: &str = "\
+1 :: Error
+2 :: Warning
+3 :: Information
+4 :: Hint";
 
-const DIAGNOSTIC_TAGS: [(DiagnosticTag, &str, &str); 2] = [
-    (DiagnosticTag::UNNECESSARY, "1", "Unnecessary"),
-    (DiagnosticTag::DEPRECATED, "2", "Deprecated"),
-];
+const DIAGNOSTIC_TAGS: &str = "\
+1 :: Unnecessary
+2 :: Deprecated";
 
-const SYMBOL_KINDS: [(SymbolKind, &str, &str); 26] = [
-    (SymbolKind::FILE, "1", "File"),
-    (SymbolKind::MODULE, "2", "Module"),
-    (SymbolKind::NAMESPACE, "3", "Namespace"),
-    (SymbolKind::PACKAGE, "4", "Package"),
-    (SymbolKind::CLASS, "5", "Class"),
-    (SymbolKind::METHOD, "6", "Method"),
-    (SymbolKind::PROPERTY, "7", "Property"),
-    (SymbolKind::FIELD, "8", "Field"),
-    (SymbolKind::CONSTRUCTOR, "9", "Constructor"),
-    (SymbolKind::ENUM, "10", "Enum"),
-    (SymbolKind::INTERFACE, "11", "Interface"),
-    (SymbolKind::FUNCTION, "12", "Function"),
-    (SymbolKind::VARIABLE, "13", "Variable"),
-    (SymbolKind::CONSTANT, "14", "Constant"),
-    (SymbolKind::STRING, "15", "String"),
-    (SymbolKind::NUMBER, "16", "Number"),
-    (SymbolKind::BOOLEAN, "17", "Boolean"),
-    (SymbolKind::ARRAY, "18", "Array"),
-    (SymbolKind::OBJECT, "19", "Object"),
-    (SymbolKind::KEY, "20", "Key"),
-    (SymbolKind::NULL, "21", "Null"),
-    (SymbolKind::ENUM_MEMBER, "22", "EnumMember"),
-    (SymbolKind::STRUCT, "23", "Struct"),
-    (SymbolKind::EVENT, "24", "Event"),
-    (SymbolKind::OPERATOR, "25", "Operator"),
-    (SymbolKind::TYPE_PARAMETER, "26", "TypeParameter"),
-];
+const SYMBOL_KINDS: &str = "\
+1 :: File
+2 :: Module
+3 :: Namespace
+4 :: Package
+5 :: Class
+6 :: Method
+7 :: Property
+8 :: Field
+9 :: Constructor
+10 :: Enum
+11 :: Interface
+12 :: Function
+13 :: Variable
+14 :: Constant
+15 :: String
+16 :: Number
+17 :: Boolean
+18 :: Array
+19 :: Object
+20 :: Key
+21 :: Null
+22 :: EnumMember
+23 :: Struct
+24 :: Event
+25 :: Operator
+26 :: TypeParameter";
 
-const SYMBOL_TAGS: [(SymbolTag, &str, &str); 1] = [(SymbolTag::DEPRECATED, "1", "Deprecated")];
+const SYMBOL_TAGS: &str = "\
+1 :: Deprecated";
 
-const COMPLETION_ITEM_KINDS: [(CompletionItemKind, &str, &str); 25] = [
-    (CompletionItemKind::TEXT, "1", "Text"),
-    (CompletionItemKind::METHOD, "2", "Method"),
-    (CompletionItemKind::FUNCTION, "3", "Function"),
-    (CompletionItemKind::CONSTRUCTOR, "4", "Constructor"),
-    (CompletionItemKind::FIELD, "5", "Field"),
-    (CompletionItemKind::VARIABLE, "6", "Variable"),
-    (CompletionItemKind::CLASS, "7", "Class"),
-    (CompletionItemKind::INTERFACE, "8", "Interface"),
-    (CompletionItemKind::MODULE, "9", "Module"),
-    (CompletionItemKind::PROPERTY, "10", "Property"),
-    (CompletionItemKind::UNIT, "11", "Unit"),
-    (CompletionItemKind::VALUE, "12", "Value"),
-    (CompletionItemKind::ENUM, "13", "Enum"),
-    (CompletionItemKind::KEYWORD, "14", "Keyword"),
-    (CompletionItemKind::SNIPPET, "15", "Snippet"),
-    (CompletionItemKind::COLOR, "16", "Color"),
-    (CompletionItemKind::FILE, "17", "File"),
-    (CompletionItemKind::REFERENCE, "18", "Reference"),
-    (CompletionItemKind::FOLDER, "19", "Folder"),
-    (CompletionItemKind::ENUM_MEMBER, "20", "EnumMember"),
-    (CompletionItemKind::CONSTANT, "21", "Constant"),
-    (CompletionItemKind::STRUCT, "22", "Struct"),
-    (CompletionItemKind::EVENT, "23", "Event"),
-    (CompletionItemKind::OPERATOR, "24", "Operator"),
-    (CompletionItemKind::TYPE_PARAMETER, "25", "TypeParameter"),
-];
+const COMPLETION_ITEM_KINDS: &str = "\
+1 :: Text
+2 :: Method
+3 :: Function
+4 :: Constructor
+5 :: Field
+6 :: Variable
+7 :: Class
+8 :: Interface
+9 :: Module
+10 :: Property
+11 :: Unit
+12 :: Value
+13 :: Enum
+14 :: Keyword
+15 :: Snippet
+16 :: Color
+17 :: File
+18 :: Reference
+19 :: Folder
+20 :: EnumMember
+21 :: Constant
+22 :: Struct
+23 :: Event
+24 :: Operator
+25 :: TypeParameter";
 
-const COMPLETION_ITEM_TAGS: [(CompletionItemTag, &str, &str); 1] = [(
-    CompletionItemTag::DEPRECATED,
-    "1",
-    "Deprecated",
-)];
+const COMPLETION_ITEM_TAGS: &str = "\
+1 :: Deprecated";
 
-const COMPLETION_TRIGGER_KINDS: [(CompletionTriggerKind, &str, &str); 3] = [
-    (CompletionTriggerKind::INVOKED, "1", "Invoked"),
-    (
-        CompletionTriggerKind::TRIGGER_CHARACTER,
-        "2",
-        "TriggerCharacter",
-    ),
-    (
-        CompletionTriggerKind::TRIGGER_FOR_INCOMPLETE_COMPLETIONS,
-        "3",
-        "TriggerForIncompleteCompletions",
-    ),
-];
+const COMPLETION_TRIGGER_KINDS: &str = "\
+1 :: Invoked
+2 :: TriggerCharacter
+3 :: TriggerForIncompleteCompletions";
 
-const INSERT_TEXT_FORMATS: [(InsertTextFormat, &str, &str); 2] = [
-    (InsertTextFormat::PLAIN_TEXT, "1", "PlainText"),
-    (InsertTextFormat::SNIPPET, "2", "Snippet"),
-];
+const INSERT_TEXT_FORMATS: &str = "\
+1 :: PlainText
+2 :: Snippet";
 
-const INSERT_TEXT_MODES: [(InsertTextMode, &str, &str); 2] = [
-    (InsertTextMode::AS_IS, "1", "AsIs"),
-    (InsertTextMode::ADJUST_INDENTATION, "2", "AdjustIndentation"),
-];
+const INSERT_TEXT_MODES: &str = "\
+1 :: AsIs
+2 :: AdjustIndentation";
 
-const TEXT_DOCUMENT_SYNC_KINDS: [(TextDocumentSyncKind, &str, &str); 3] = [
-    (TextDocumentSyncKind::NONE, "0", "None"),
-    (TextDocumentSyncKind::FULL, "1", "Full"),
-    (TextDocumentSyncKind::INCREMENTAL, "2", "Incremental"),
-];
+const TEXT_DOCUMENT_SYNC_KINDS: &str = "\
+0 :: None
+1 :: Full
+2 :: Incremental";
 
-const TEXT_DOCUMENT_SAVE_REASONS: [(TextDocumentSaveReason, &str, &str); 3] = [
-    (TextDocumentSaveReason::MANUAL, "1", "Manual"),
-    (TextDocumentSaveReason::AFTER_DELAY, "2", "AfterDelay"),
-    (TextDocumentSaveReason::FOCUS_OUT, "3", "FocusOut"),
-];
+const TEXT_DOCUMENT_SAVE_REASONS: &str = "\
+1 :: Manual
+2 :: AfterDelay
+3 :: FocusOut";
 
-const FILE_CHANGE_TYPES: [(FileChangeType, &str, &str); 3] = [
-    (FileChangeType::CREATED, "1", "Created"),
-    (FileChangeType::CHANGED, "2", "Changed"),
-    (FileChangeType::DELETED, "3", "Deleted"),
-];
+const FILE_CHANGE_TYPES: &str = "\
+1 :: Created
+2 :: Changed
+3 :: Deleted";
 
-const MESSAGE_TYPES: [(MessageType, &str, &str); 4] = [
-    (MessageType::ERROR, "1", "Error"),
-    (MessageType::WARNING, "2", "Warning"),
-    (MessageType::INFO, "3", "Info"),
-    (MessageType::LOG, "4", "Log"),
-];
+const MESSAGE_TYPES: &str = "\
+1 :: Error
+2 :: Warning
+3 :: Info
+4 :: Log";
 
-const CODE_ACTION_TRIGGER_KINDS: [(CodeActionTriggerKind, &str, &str); 2] = [
-    (CodeActionTriggerKind::INVOKED, "1", "Invoked"),
-    (CodeActionTriggerKind::AUTOMATIC, "2", "Automatic"),
-];
+const CODE_ACTION_TRIGGER_KINDS: &str = "\
+1 :: Invoked
+2 :: Automatic";
 
-const DOCUMENT_HIGHLIGHT_KINDS: [(DocumentHighlightKind, &str, &str); 3] = [
-    (DocumentHighlightKind::TEXT, "1", "Text"),
-    (DocumentHighlightKind::READ, "2", "Read"),
-    (DocumentHighlightKind::WRITE, "3", "Write"),
-];
+const DOCUMENT_HIGHLIGHT_KINDS: &str = "\
+1 :: Text
+2 :: Read
+3 :: Write";
 
-const INLAY_HINT_KINDS: [(InlayHintKind, &str, &str); 2] = [
-    (InlayHintKind::TYPE, "1", "Type"),
-    (InlayHintKind::PARAMETER, "2", "Parameter"),
-];
+const INLAY_HINT_KINDS: &str = "\
+1 :: Type
+2 :: Parameter";
 
-const PREPARE_SUPPORT_DEFAULT_BEHAVIORS: [(PrepareSupportDefaultBehavior, &str, &str); 1] = [(
-    PrepareSupportDefaultBehavior::IDENTIFIER,
-    "1",
-    "Identifier",
-)];
+const PREPARE_SUPPORT_DEFAULT_BEHAVIORS: &str = "\
+1 :: Identifier";
 
-const SIGNATURE_HELP_TRIGGER_KINDS: [(SignatureHelpTriggerKind, &str, &str); 3] = [
-    (SignatureHelpTriggerKind::INVOKED, "1", "Invoked"),
-    (
-        SignatureHelpTriggerKind::TRIGGER_CHARACTER,
-        "2",
-        "TriggerCharacter",
-    ),
-    (
-        SignatureHelpTriggerKind::CONTENT_CHANGE,
-        "3",
-        "ContentChange",
-    ),
-];
+const SIGNATURE_HELP_TRIGGER_KINDS: &str = "\
+1 :: Invoked
+2 :: TriggerCharacter
+3 :: ContentChange";
 
-// The kind is read from the number and from the name, and written as both.
-fn is_named<K>(
-    alloc: Global,
-    kind: &K,
-    number: &'static str,
-    name: &'static str,
-) -> Result<bool, Misfit>
+// Each kind is read from its number and from its name, and written and shown as those.
+fn try_named<K>(trial: &mut Trial, alloc: Global, kinds: &[K], rows: &'static str)
 where
-    K: Wire + Debug + PartialEq + TryFrom<&'static str, Error = &'static str>,
+    K: Wire + Copy + Debug + PartialEq + TryFrom<&'static str, Error = &'static str>,
 {
-    let value = kind.to_value(alloc)?;
-    let read = K::from_value(alloc, &value)?;
-    let written = value.to_string(alloc)?;
-    let shown = format!(in alloc; "{kind:?}")?;
-    let named = match K::try_from(name) {
-        Ok(named) => named == *kind,
-        Err(_) => false,
-    };
-    Ok(read == *kind && written.as_str() == number && shown.as_str() == name && named)
-}
-
-fn try_named<K>(trial: &mut Trial, alloc: Global, table: &[(K, &'static str, &'static str)])
-where
-    K: Wire + Debug + PartialEq + TryFrom<&'static str, Error = &'static str>,
-{
-    for row in table {
-        trial.same(row.2, is_named(alloc, &row.0, row.1, row.2), Ok(true));
+    trial.holds::<K>(rows);
+    trial.same(rows, rows.lines().count(), kinds.len());
+    for (kind, row) in kinds.iter().zip(rows.lines()) {
+        let (number, name) = row.split_once(" :: ").unwrap_or((row, row));
+        trial.same(row, read_text(alloc, number), Ok(*kind));
+        trial.same(row, K::try_from(name), Ok(*kind));
     }
 }
 
@@ -207,8 +154,18 @@ where
 fn kinds_of_diagnostics(rt: HostRuntime) -> Result<(), RowError> {
     let alloc = rt.alloc();
     let mut trial = Trial::new(alloc);
-    try_named(&mut trial, alloc, &DIAGNOSTIC_SEVERITIES);
-    try_named(&mut trial, alloc, &DIAGNOSTIC_TAGS);
+    try_named(
+        &mut trial,
+        alloc,
+        &DiagnosticSeverity::constants(),
+        DIAGNOSTIC_SEVERITIES,
+    );
+    try_named(
+        &mut trial,
+        alloc,
+        &DiagnosticTag::constants(),
+        DIAGNOSTIC_TAGS,
+    );
     trial.end()
 }
 
@@ -216,8 +173,8 @@ fn kinds_of_diagnostics(rt: HostRuntime) -> Result<(), RowError> {
 fn kinds_of_symbols(rt: HostRuntime) -> Result<(), RowError> {
     let alloc = rt.alloc();
     let mut trial = Trial::new(alloc);
-    try_named(&mut trial, alloc, &SYMBOL_KINDS);
-    try_named(&mut trial, alloc, &SYMBOL_TAGS);
+    try_named(&mut trial, alloc, &SymbolKind::constants(), SYMBOL_KINDS);
+    try_named(&mut trial, alloc, &SymbolTag::constants(), SYMBOL_TAGS);
     trial.end()
 }
 
@@ -225,11 +182,36 @@ fn kinds_of_symbols(rt: HostRuntime) -> Result<(), RowError> {
 fn kinds_of_completions(rt: HostRuntime) -> Result<(), RowError> {
     let alloc = rt.alloc();
     let mut trial = Trial::new(alloc);
-    try_named(&mut trial, alloc, &COMPLETION_ITEM_KINDS);
-    try_named(&mut trial, alloc, &COMPLETION_ITEM_TAGS);
-    try_named(&mut trial, alloc, &COMPLETION_TRIGGER_KINDS);
-    try_named(&mut trial, alloc, &INSERT_TEXT_FORMATS);
-    try_named(&mut trial, alloc, &INSERT_TEXT_MODES);
+    try_named(
+        &mut trial,
+        alloc,
+        &CompletionItemKind::constants(),
+        COMPLETION_ITEM_KINDS,
+    );
+    try_named(
+        &mut trial,
+        alloc,
+        &CompletionItemTag::constants(),
+        COMPLETION_ITEM_TAGS,
+    );
+    try_named(
+        &mut trial,
+        alloc,
+        &CompletionTriggerKind::constants(),
+        COMPLETION_TRIGGER_KINDS,
+    );
+    try_named(
+        &mut trial,
+        alloc,
+        &InsertTextFormat::constants(),
+        INSERT_TEXT_FORMATS,
+    );
+    try_named(
+        &mut trial,
+        alloc,
+        &InsertTextMode::constants(),
+        INSERT_TEXT_MODES,
+    );
     trial.end()
 }
 
@@ -237,8 +219,18 @@ fn kinds_of_completions(rt: HostRuntime) -> Result<(), RowError> {
 fn kinds_of_synchronization(rt: HostRuntime) -> Result<(), RowError> {
     let alloc = rt.alloc();
     let mut trial = Trial::new(alloc);
-    try_named(&mut trial, alloc, &TEXT_DOCUMENT_SYNC_KINDS);
-    try_named(&mut trial, alloc, &TEXT_DOCUMENT_SAVE_REASONS);
+    try_named(
+        &mut trial,
+        alloc,
+        &TextDocumentSyncKind::constants(),
+        TEXT_DOCUMENT_SYNC_KINDS,
+    );
+    try_named(
+        &mut trial,
+        alloc,
+        &TextDocumentSaveReason::constants(),
+        TEXT_DOCUMENT_SAVE_REASONS,
+    );
     trial.end()
 }
 
@@ -246,8 +238,13 @@ fn kinds_of_synchronization(rt: HostRuntime) -> Result<(), RowError> {
 fn kinds_of_the_workspace(rt: HostRuntime) -> Result<(), RowError> {
     let alloc = rt.alloc();
     let mut trial = Trial::new(alloc);
-    try_named(&mut trial, alloc, &FILE_CHANGE_TYPES);
-    try_named(&mut trial, alloc, &MESSAGE_TYPES);
+    try_named(
+        &mut trial,
+        alloc,
+        &FileChangeType::constants(),
+        FILE_CHANGE_TYPES,
+    );
+    try_named(&mut trial, alloc, &MessageType::constants(), MESSAGE_TYPES);
     trial.end()
 }
 
@@ -255,11 +252,36 @@ fn kinds_of_the_workspace(rt: HostRuntime) -> Result<(), RowError> {
 fn kinds_of_language_features(rt: HostRuntime) -> Result<(), RowError> {
     let alloc = rt.alloc();
     let mut trial = Trial::new(alloc);
-    try_named(&mut trial, alloc, &CODE_ACTION_TRIGGER_KINDS);
-    try_named(&mut trial, alloc, &DOCUMENT_HIGHLIGHT_KINDS);
-    try_named(&mut trial, alloc, &INLAY_HINT_KINDS);
-    try_named(&mut trial, alloc, &PREPARE_SUPPORT_DEFAULT_BEHAVIORS);
-    try_named(&mut trial, alloc, &SIGNATURE_HELP_TRIGGER_KINDS);
+    try_named(
+        &mut trial,
+        alloc,
+        &CodeActionTriggerKind::constants(),
+        CODE_ACTION_TRIGGER_KINDS,
+    );
+    try_named(
+        &mut trial,
+        alloc,
+        &DocumentHighlightKind::constants(),
+        DOCUMENT_HIGHLIGHT_KINDS,
+    );
+    try_named(
+        &mut trial,
+        alloc,
+        &InlayHintKind::constants(),
+        INLAY_HINT_KINDS,
+    );
+    try_named(
+        &mut trial,
+        alloc,
+        &PrepareSupportDefaultBehavior::constants(),
+        PREPARE_SUPPORT_DEFAULT_BEHAVIORS,
+    );
+    try_named(
+        &mut trial,
+        alloc,
+        &SignatureHelpTriggerKind::constants(),
+        SIGNATURE_HELP_TRIGGER_KINDS,
+    );
     trial.end()
 }
 

@@ -1,6 +1,6 @@
 // What no clause says: that reading and writing succeed, and what JSON texts of the protocol read
 // as.
-use lsp_rows::{RowError, Trial};
+use lsp_rows::{RowError, Trial, text_of};
 use lsp_shape::{
     Key, Misfit, NoMemory, Reader, TextMisfit, TokenNumbers, WideReader, Wire, Writer, attempt,
     field, find, list_or_empty, members_written, optional, put, put_flat, put_nullable,
@@ -180,68 +180,75 @@ fn texts(rt: HostRuntime) -> Result<(), RowError> {
 
 // The example of section "Formatting options" has further properties, each a boolean, a number or a
 // text.
+fn others_and_named(alloc: Global, options: &Map<String, Value>) -> Result<String, Misfit> {
+    let others: HashMap<String, i32> = rest(alloc, options, &["tabSize", "insertSpaces"])?;
+    let mut whole = members_written(alloc, &others)?;
+    drop(others);
+    put(alloc, &mut whole, "insertSpaces", &true)?;
+    put(alloc, &mut whole, "tabSize", &4u32)?;
+    Ok(text_of(alloc, &whole)?)
+}
+
 #[test]
 fn members_that_are_not_named(rt: HostRuntime) -> Result<(), Fail> {
     let alloc = rt.alloc();
-    let options = object(alloc, "{\"tabSize\":4,\"insertSpaces\":true,\"width\":80}")?;
-    let others: HashMap<String, i32> = rest(alloc, &options, &["tabSize", "insertSpaces"])?;
-    let mut whole = members_written(alloc, &others)?;
-    put(alloc, &mut whole, "insertSpaces", &true)?;
-    put(alloc, &mut whole, "tabSize", &4u32)?;
+    let text = "{\"insertSpaces\":true,\"tabSize\":4,\"width\":80}";
+    let options = object(alloc, text)?;
     let mut trial = Trial::new(alloc);
-    trial.is_written(whole, "{\"insertSpaces\":true,\"tabSize\":4,\"width\":80}");
+    trial.text("all", others_and_named(alloc, &options), text);
+    drop(options);
     Ok(trial.end()?)
+}
+
+const POSITION: &str = "{\"line\":3,\"character\":null,\"on\":true,\"list\":[1]}";
+
+fn try_fields(trial: &mut Trial, alloc: Global, position: &Map<String, Value>) {
+    let unfit = Err(Misfit::Unfit);
+    trial.same("line", field::<u32>(alloc, position, "line"), Ok(3));
+    trial.same("row", field::<u32>(alloc, position, "row"), unfit);
+    trial.same(
+        "character",
+        field::<u32>(alloc, position, "character"),
+        unfit,
+    );
+    trial.same("no row", find(position, "row").is_none(), true);
+    trial.same("on", truth_or_false(alloc, position, "on"), Ok(true));
+    trial.same("off", truth_or_false(alloc, position, "off"), Ok(false));
+    let error = truth_or_false(alloc, position, "line").err();
+    trial.same("no truth", error, Some(Misfit::Unfit));
 }
 
 #[test]
 fn fields_of_an_object(rt: HostRuntime) -> Result<(), Fail> {
     let alloc = rt.alloc();
-    let text = "{\"line\":3,\"character\":null,\"on\":true,\"list\":[1]}";
-    let position = object(alloc, text)?;
-    let unfit = Err(Misfit::Unfit);
+    let position = object(alloc, POSITION)?;
     let mut trial = Trial::new(alloc);
-    trial.same("line", field::<u32>(alloc, &position, "line"), Ok(3));
-    trial.same("row", field::<u32>(alloc, &position, "row"), unfit);
-    trial.same(
-        "character",
-        field::<u32>(alloc, &position, "character"),
-        unfit,
-    );
-    trial.same("no row", find(&position, "row").is_none(), true);
-    trial.same("on", truth_or_false(alloc, &position, "on"), Ok(true));
-    trial.same("off", truth_or_false(alloc, &position, "off"), Ok(false));
-    trial.same(
-        "no truth",
-        truth_or_false(alloc, &position, "line"),
-        Err(Misfit::Unfit),
-    );
+    try_fields(&mut trial, alloc, &position);
+    drop(position);
     Ok(trial.end()?)
+}
+
+fn try_absent(trial: &mut Trial, alloc: Global, position: &Map<String, Value>) {
+    let line = optional::<u32>(alloc, position, "line");
+    trial.same("line", line, Ok(Some(3)));
+    let character = optional::<u32>(alloc, position, "character");
+    trial.same("character", character, Ok(None));
+    trial.same("row", optional::<u32>(alloc, position, "row"), Ok(None));
+    let on = optional::<u32>(alloc, position, "on");
+    trial.same("on", on, Err(Misfit::Unfit));
+    let list = list_or_empty::<u32>(alloc, position, "list");
+    trial.shows("list", list, "Ok([1])");
+    let list = list_or_empty::<u32>(alloc, position, "row");
+    trial.shows("no list", list, "Ok([])");
 }
 
 #[test]
 fn fields_that_may_be_absent(rt: HostRuntime) -> Result<(), Fail> {
     let alloc = rt.alloc();
-    let text = "{\"line\":3,\"character\":null,\"on\":true,\"list\":[1]}";
-    let position = object(alloc, text)?;
+    let position = object(alloc, POSITION)?;
     let mut trial = Trial::new(alloc);
-    for (name, wanted) in [
-        ("line", Ok(Some(3))),
-        ("character", Ok(None)),
-        ("row", Ok(None)),
-        ("on", Err(Misfit::Unfit)),
-    ] {
-        trial.same(name, optional::<u32>(alloc, &position, name), wanted);
-    }
-    trial.shows(
-        "list",
-        list_or_empty::<u32>(alloc, &position, "list"),
-        "Ok([1])",
-    );
-    trial.shows(
-        "no list",
-        list_or_empty::<u32>(alloc, &position, "row"),
-        "Ok([])",
-    );
+    try_absent(&mut trial, alloc, &position);
+    drop(position);
     Ok(trial.end()?)
 }
 
@@ -254,6 +261,14 @@ fn supported_by(alloc: Global, object: &Map<String, Value>, name: &str) -> Resul
 }
 
 // `tagSupport` was a boolean before it was a record.
+const TAG_SUPPORT: &[(&str, &str)] = &[
+    ("no", "none"),
+    ("nil", "none"),
+    ("none", "none"),
+    ("yes", "{\"valueSet\":[]}"),
+    ("set", "{\"valueSet\":[1]}"),
+];
+
 #[test]
 fn tag_support_of_old_editors(rt: HostRuntime) -> Result<(), Fail> {
     let alloc = rt.alloc();
@@ -262,41 +277,40 @@ fn tag_support_of_old_editors(rt: HostRuntime) -> Result<(), Fail> {
         "{\"no\":false,\"yes\":true,\"set\":{\"valueSet\":[1]},\"nil\":null}",
     )?;
     let mut trial = Trial::new(alloc);
-    for (name, wanted) in [
-        ("no", "none"),
-        ("nil", "none"),
-        ("none", "none"),
-        ("yes", "{\"valueSet\":[]}"),
-        ("set", "{\"valueSet\":[1]}"),
-    ] {
-        trial.text(name, supported_by(alloc, &value, name), wanted);
+    for (name, wanted) in TAG_SUPPORT {
+        trial.text(*name, supported_by(alloc, &value, *name), *wanted);
     }
+    drop(value);
     Ok(trial.end()?)
 }
 
-fn all_put(alloc: Global) -> Result<Map<String, Value>, NoMemory> {
+fn put_some(alloc: Global, object: &mut Map<String, Value>) -> Result<(), NoMemory> {
+    put_optional(alloc, object, "a", &Some(1u32))?;
+    put_optional::<u32>(alloc, object, "b", &None)?;
+    put_nullable::<u32>(alloc, object, "c", &None)?;
+    put_nullable(alloc, object, "d", &Some(2u32))?;
+    put_unless_empty::<u32>(alloc, object, "e", &Vec::new(alloc))?;
+    put_unless_false(alloc, object, "g", false)?;
+    put_unless_false(alloc, object, "h", true)?;
+    put_value(alloc, object, "i", Value::Null)
+}
+
+fn all_put(alloc: Global) -> Result<String, NoMemory> {
     let mut object = Map::new(alloc);
-    put_optional(alloc, &mut object, "a", &Some(1u32))?;
-    put_optional::<u32>(alloc, &mut object, "b", &None)?;
-    put_nullable::<u32>(alloc, &mut object, "c", &None)?;
-    put_nullable(alloc, &mut object, "d", &Some(2u32))?;
-    put_unless_empty::<u32>(alloc, &mut object, "e", &Vec::new(alloc))?;
+    put_some(alloc, &mut object)?;
     put_unless_empty(alloc, &mut object, "f", &vec![in alloc; 3u32]?)?;
-    put_unless_false(alloc, &mut object, "g", false)?;
-    put_unless_false(alloc, &mut object, "h", true)?;
-    put_value(alloc, &mut object, "i", Value::Null)?;
-    Ok(object)
+    text_of(alloc, &object)
 }
 
 #[test]
-fn fields_are_put(rt: HostRuntime) -> Result<(), Fail> {
-    let alloc = rt.alloc();
-    let mut trial = Trial::new(alloc);
-    trial.is_written(
-        all_put(alloc)?,
+fn fields_are_put(rt: HostRuntime) -> Result<(), RowError> {
+    let mut trial = Trial::new(rt.alloc());
+    trial.text(
+        "all",
+        all_put(rt.alloc()),
         "{\"a\":1,\"c\":null,\"d\":2,\"f\":[3],\"h\":true,\"i\":null}",
     );
-    Ok(trial.end()?)
+    trial.end()
 }
 
 // What is written of what is read of the value.
@@ -308,18 +322,44 @@ fn written<T: Wire>(alloc: Global, value: &Value) -> Result<String, Misfit> {
 #[test]
 fn numbers_of_tokens(rt: HostRuntime) -> Result<(), Fail> {
     let alloc = rt.alloc();
+    let mut trial = Trial::new(alloc);
+    let tokens = TokenNumbers::new(vec![in alloc; 2u32, 5, 3, 0, 3]?);
+    trial.shows("one token", tokens.as_slice(), "[2, 5, 3, 0, 3]");
+    drop(tokens);
     let text = "[2,5,3,0,3,0,5,4,1,0]";
     let numbers = json(alloc, text)?;
-    let odd = json(alloc, "[2,5,3,0]")?;
-    let tokens = TokenNumbers::new(vec![in alloc; 2u32, 5, 3, 0, 3]?);
-    let mut trial = Trial::new(alloc);
     trial.text("two tokens", written::<TokenNumbers>(alloc, &numbers), text);
+    drop(numbers);
     let null = written::<Option<TokenNumbers>>(alloc, &Value::Null);
     trial.text("no tokens", null, "null");
+    let odd = json(alloc, "[2,5,3,0]")?;
     let error = written::<TokenNumbers>(alloc, &odd).err();
+    drop(odd);
     trial.same("four numbers", error, Some(Misfit::Unfit));
-    trial.shows("one token", tokens.as_slice(), "[2, 5, 3, 0, 3]");
     Ok(trial.end()?)
+}
+
+// What is written of the member, or `none`.
+fn set_read(alloc: Global, object: &Reader) -> Result<String, Misfit> {
+    match object.supported::<Value>("e")? {
+        Some(value) => Ok(text_of(alloc, &value)?),
+        None => Ok(String::from_str(alloc, "none")?),
+    }
+}
+
+fn others_read(alloc: Global, object: &Reader) -> Result<String, Misfit> {
+    let others: HashMap<String, i32> = object.rest(&["b", "c", "d", "e"])?;
+    Ok(text_of(alloc, &others)?)
+}
+
+fn try_read(trial: &mut Trial, alloc: Global, object: &Reader) {
+    trial.same("a", object.field::<u32>("a"), Ok(1));
+    trial.same("optional a", object.optional::<u32>("a"), Ok(Some(1)));
+    trial.same("optional b", object.optional::<u32>("b"), Ok(None));
+    trial.same("c", object.truth_or_false("c"), Ok(true));
+    trial.shows("d", object.list_or_empty::<u32>("d"), "Ok([2])");
+    trial.text("e", set_read(alloc, object), "{\"valueSet\":[3]}");
+    trial.text("others", others_read(alloc, object), "{\"a\":1}");
 }
 
 #[test]
@@ -329,109 +369,154 @@ fn an_object_is_read(rt: HostRuntime) -> Result<(), Fail> {
         alloc,
         "{\"a\":1,\"b\":null,\"c\":true,\"d\":[2],\"e\":{\"valueSet\":[3]}}",
     )?;
-    let object = Reader::new(alloc, &value)?;
     let mut trial = Trial::new(alloc);
-    trial.same("a", object.field::<u32>("a"), Ok(1));
-    trial.same("optional a", object.optional::<u32>("a"), Ok(Some(1)));
-    trial.same("optional b", object.optional::<u32>("b"), Ok(None));
-    trial.same("c", object.truth_or_false("c"), Ok(true));
-    trial.shows("d", object.list_or_empty::<u32>("d"), "Ok([2])");
-    let set = object.supported::<Value>("e")?.ok_or("absent")?;
-    trial.is_written(set, "{\"valueSet\":[3]}");
-    let others: HashMap<String, i32> = object.rest(&["b", "c", "d", "e"])?;
-    trial.is_written(others, "{\"a\":1}");
+    match Reader::new(alloc, &value) {
+        Ok(object) => try_read(&mut trial, alloc, &object),
+        Err(error) => trial.shows("the object", error, "read"),
+    }
     trial.same("null", Reader::new(alloc, &Value::Null).is_err(), true);
+    drop(value);
     Ok(trial.end()?)
 }
 
 // Of a wide record the first misfit is told at the end, and nothing more is read after it.
-#[test]
-fn a_wide_object_is_read(rt: HostRuntime) -> Result<(), Fail> {
-    let alloc = rt.alloc();
-    let value = json(alloc, "{\"a\":1,\"b\":true,\"e\":false}")?;
-    let mut trial = Trial::new(alloc);
-    let mut whole = WideReader::new(alloc, &value)?;
+fn try_wide(trial: &mut Trial, mut whole: WideReader, mut unfit: WideReader) {
     trial.same("a", whole.field::<u32>("a"), Ok(1));
     trial.same("optional a", whole.optional::<u32>("a"), Some(1));
     trial.same("no c", whole.optional::<u32>("c"), None);
     trial.shows("e", whole.supported::<Value>("e"), "None");
     trial.same("end", whole.end(5u32), Ok(5));
-    let mut unfit = WideReader::new(alloc, &value)?;
     trial.same("a is no truth", unfit.optional::<bool>("a"), None);
     trial.same("b after it", unfit.optional::<bool>("b"), None);
     trial.same("its end", unfit.end(5u32), Err(Misfit::Unfit));
+}
+
+#[test]
+fn a_wide_object_is_read(rt: HostRuntime) -> Result<(), Fail> {
+    let alloc = rt.alloc();
+    let value = json(alloc, "{\"a\":1,\"b\":true,\"e\":false}")?;
+    let mut trial = Trial::new(alloc);
+    match (
+        WideReader::new(alloc, &value),
+        WideReader::new(alloc, &value),
+    ) {
+        (Ok(whole), Ok(unfit)) => try_wide(&mut trial, whole, unfit),
+        _ => trial.is_true("the object is read", false),
+    }
     trial.same("null", WideReader::new(alloc, &Value::Null).is_err(), true);
+    drop(value);
     Ok(trial.end()?)
+}
+
+fn object_written(
+    alloc: Global,
+    rest: &Map<String, Value>,
+    flat: &Map<String, Value>,
+) -> Result<String, NoMemory> {
+    let list = vec![in alloc; 3u32]?;
+    let mut object = Writer::with_rest(alloc, rest);
+    object.field("a", &1u32);
+    object.optional("b", &Some(2u32));
+    object.nullable::<u32>("c", &None);
+    object.unless_empty("d", &list);
+    object.unless_false("e", true);
+    object.flat(flat);
+    object.tag("kind", "g");
+    drop(list);
+    text_of(alloc, &object.end()?)
+}
+
+fn nothing_written(alloc: Global) -> Result<String, NoMemory> {
+    text_of(alloc, &Writer::new(alloc).end()?)
 }
 
 #[test]
 fn an_object_is_written(rt: HostRuntime) -> Result<(), Fail> {
     let alloc = rt.alloc();
-    let mut object = Writer::with_rest(alloc, &self::object(alloc, "{\"x\":0}")?);
-    object.field("a", &1u32);
-    object.optional("b", &Some(2u32));
-    object.nullable::<u32>("c", &None);
-    object.unless_empty("d", &vec![in alloc; 3u32]?);
-    object.unless_false("e", true);
-    object.flat(&self::object(alloc, "{\"f\":4}")?);
-    object.tag("kind", "g");
+    let rest = object(alloc, "{\"x\":0}")?;
+    let flat = object(alloc, "{\"f\":4}")?;
     let mut trial = Trial::new(alloc);
-    trial.is_written(
-        object.end()?,
+    trial.text(
+        "an object",
+        object_written(alloc, &rest, &flat),
         "{\"a\":1,\"b\":2,\"c\":null,\"d\":[3],\"e\":true,\"f\":4,\"kind\":\"g\",\"x\":0}",
     );
-    trial.is_written(Writer::new(alloc).end()?, "{}");
+    trial.text("an empty one", nothing_written(alloc), "{}");
+    drop(rest);
+    drop(flat);
     Ok(trial.end()?)
 }
 
 // A boolean, or else null: the first that fits.
+fn try_variants(
+    trial: &mut Trial,
+    alloc: Global,
+    value: Value,
+    truth: Option<bool>,
+    null: Option<()>,
+) {
+    trial.same("a truth", attempt::<bool>(alloc, &value), Ok(truth));
+    trial.same("null", attempt::<()>(alloc, &value), Ok(null));
+}
+
 #[test]
-fn first_variant_that_fits(rt: HostRuntime) -> Result<(), Fail> {
+fn first_variant_that_fits(rt: HostRuntime) -> Result<(), RowError> {
     let alloc = rt.alloc();
     let mut trial = Trial::new(alloc);
-    for (text, truth, null) in [
-        ("true", Ok(Some(true)), Ok(None)),
-        ("null", Ok(None), Ok(Some(()))),
-        ("1", Ok(None), Ok(None)),
-    ] {
-        let value = json(alloc, text)?;
-        trial.same(text, attempt::<bool>(alloc, &value), truth);
-        trial.same(text, attempt::<()>(alloc, &value), null);
-    }
-    Ok(trial.end()?)
+    try_variants(&mut trial, alloc, Value::Bool(true), Some(true), None);
+    try_variants(&mut trial, alloc, Value::Null, None, Some(()));
+    try_variants(&mut trial, alloc, Value::from(1u32), None, None);
+    trial.end()
 }
 
 // Of the section "Resource changes": the member `kind` tells which change it is.
+fn tagged(alloc: Global, file: &Map<String, Value>) -> Result<String, NoMemory> {
+    text_of(alloc, &put_tag(alloc, "kind", "create", file)?)
+}
+
+fn flattened(
+    alloc: Global,
+    mut outer: Map<String, Value>,
+    file: &Map<String, Value>,
+) -> Result<String, NoMemory> {
+    put_flat(alloc, &mut outer, file)?;
+    text_of(alloc, &outer)
+}
+
 #[test]
 fn variants_are_told_by_a_member(rt: HostRuntime) -> Result<(), Fail> {
     let alloc = rt.alloc();
-    let change = json(alloc, "{\"kind\":\"create\",\"uri\":\"file:///a\"}")?;
-    let file = object(alloc, "{\"uri\":\"file:///a\"}")?;
-    let mut outer = object(alloc, "{\"annotationId\":\"b\"}")?;
-    put_flat(alloc, &mut outer, &file)?;
     let mut trial = Trial::new(alloc);
+    let change = json(alloc, "{\"kind\":\"create\",\"uri\":\"file:///a\"}")?;
     trial.shows("kind", tag(&change, "kind"), "Some(\"create\")");
     trial.shows("type", tag(&change, "type"), "None");
-    trial.is_written(
-        put_tag(alloc, "kind", "create", &file)?,
-        "{\"kind\":\"create\",\"uri\":\"file:///a\"}",
-    );
-    trial.is_written(outer, "{\"annotationId\":\"b\",\"uri\":\"file:///a\"}");
+    drop(change);
+    let file = object(alloc, "{\"uri\":\"file:///a\"}")?;
+    let text = "{\"kind\":\"create\",\"uri\":\"file:///a\"}";
+    trial.text("tagged", tagged(alloc, &file), text);
+    let text = "{\"annotationId\":\"b\",\"uri\":\"file:///a\"}";
+    let outer = object(alloc, "{\"annotationId\":\"b\"}")?;
+    trial.text("flattened", flattened(alloc, outer, &file), text);
+    drop(file);
     Ok(trial.end()?)
+}
+
+fn list_written(alloc: Global, list: &Vec<u32>) -> Result<String, NoMemory> {
+    text_of(alloc, &write_value(alloc, list)?)
 }
 
 #[test]
 fn written_and_read(rt: HostRuntime) -> Result<(), Fail> {
     let alloc = rt.alloc();
-    let list: Vec<u32> = read_value(alloc, &json(alloc, "[1,2]")?)?;
-    let empty = json(alloc, "[]")?;
     let mut trial = Trial::new(alloc);
-    trial.is_written(write_value(alloc, &list)?, "[1,2]");
+    let error = read_value::<u32>(alloc, &Value::Array(Vec::new(alloc))).err();
+    trial.same("no number", error, Some(Misfit::Unfit));
+    let value = json(alloc, "[1,2]")?;
+    let list = read_value(alloc, &value);
+    drop(value);
+    let list: Vec<u32> = list?;
+    trial.text("written", list_written(alloc, &list), "[1,2]");
     trial.shows("read back", reads_back(alloc, &list), "Ok([1, 2])");
-    trial.same(
-        "no number",
-        read_value::<u32>(alloc, &empty),
-        Err(Misfit::Unfit),
-    );
+    drop(list);
     Ok(trial.end()?)
 }

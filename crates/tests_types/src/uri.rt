@@ -1,9 +1,8 @@
 // What no clause says: which texts RFC 3986 gives as URI references and which parts they have, and
 // that the calls succeed.
 use lsp_rows::{RowError, Trial};
-use lsp_shape::{Key, Wire};
+use lsp_shape::{Key, read_text};
 use lsp_uri::{Uri, UriError};
-use serde_json::Value;
 use std::alloc::Global;
 use std::collections::HashMap;
 use std::test::Fail;
@@ -203,6 +202,19 @@ fn other_texts_are_refused(rt: HostRuntime) -> Result<(), RowError> {
     trial.end()
 }
 
+fn try_order(trial: &mut Trial, upper: &Uri, lower: &Uri, copy: &Uri) {
+    trial.is_true("two cases are two URIs", upper != lower);
+    trial.is_true("upper case comes first", upper < lower);
+    trial.is_true("a copy is equal", lower == copy);
+}
+
+fn try_printed(trial: &mut Trial, alloc: Global, uri: Uri) {
+    trial.text("displayed", format!(in alloc; "{uri}"), "http://a/");
+    trial.shows("shown", uri, "Uri { text: \"http://a/\" }");
+    let error = format!(in alloc; "{}", UriError::NotUri);
+    trial.text("the error", error, "not a URI reference");
+}
+
 #[test]
 fn compared_and_printed_by_the_text(rt: HostRuntime) -> Result<(), Fail> {
     let alloc = rt.alloc();
@@ -210,16 +222,10 @@ fn compared_and_printed_by_the_text(rt: HostRuntime) -> Result<(), Fail> {
     let lower = Uri::parse(alloc, "http://a/")?;
     let copy = lower.clone()?;
     let mut trial = Trial::new(alloc);
-    trial.is_true("two cases are two URIs", upper != lower);
-    trial.is_true("upper case comes first", upper < lower);
-    trial.is_true("a copy is equal", lower == copy);
-    trial.text("displayed", format!(in alloc; "{lower}"), "http://a/");
-    trial.shows("shown", lower, "Uri { text: \"http://a/\" }");
-    trial.text(
-        "the error",
-        format!(in alloc; "{}", UriError::NotUri),
-        "not a URI reference",
-    );
+    try_order(&mut trial, &upper, &lower, &copy);
+    drop(upper);
+    drop(lower);
+    try_printed(&mut trial, alloc, copy);
     Ok(trial.end()?)
 }
 
@@ -231,18 +237,23 @@ const URIS: &str = r#"
 ! []
 "#;
 
-#[test]
-fn read_and_written(rt: HostRuntime) -> Result<(), Fail> {
-    let alloc = rt.alloc();
-    let text = "{\"file:///a\":[1],\"untitled:Untitled-1\":[]}";
-    let map: HashMap<Uri, Vec<u32>> = HashMap::from_value(alloc, &Value::from_str(alloc, text)?)?;
-    let uri = Uri::from_value(alloc, &Value::from_str(alloc, "\"file:///a\"")?)?;
-    let mut trial = Trial::new(alloc);
+const ENTRIES: &str = "{\"file:///a\":[1],\"untitled:Untitled-1\":[]}";
+
+fn try_key(trial: &mut Trial, map: HashMap<Uri, Vec<u32>>, uri: Uri) {
     trial.same("entries", map.len(), 2);
     trial.is_true("the URI is a key", map.contains_key(&uri));
     trial.same("as a key", uri.as_text(), "file:///a");
-    trial.is_written(map, text);
+    trial.is_written(map, ENTRIES);
+    drop(uri);
+}
+
+#[test]
+fn read_and_written(rt: HostRuntime) -> Result<(), Fail> {
+    let alloc = rt.alloc();
+    let mut trial = Trial::new(alloc);
     trial.holds::<Uri>(URIS);
     trial.clones::<Uri>(URIS);
+    let map = read_text(alloc, ENTRIES)?;
+    try_key(&mut trial, map, Uri::parse(alloc, "file:///a")?);
     Ok(trial.end()?)
 }

@@ -8,10 +8,10 @@ use Rattle.lsp_frame.proofs.next_item.find_next.Given as goal
 abbrev pub invariant-transitions : goal.invariant-transitions
 invariant-transitions l = record {
   in_range : l.place ≤ length l.bytes;
-  same : (last : List Item) (c : List ℕ) → all_from l.limits last l.fn.state (l.bytes ++ c) ≡ all_from l.limits last l.at (drop l.place l.bytes ++ c);
-  silent : GoesSilently (codec_at l.limits l.fn.state l.bytes) (codec_at l.limits l.at (drop l.place l.bytes));
+  same : (last : List Item) (c : List ℕ) → all_from l.settings last l.fn.state (l.bytes ++ c) ≡ all_from l.settings last l.at (drop l.place l.bytes ++ c);
+  silent : GoesSilently (codec_at l.settings l.fn.state l.bytes) (codec_at l.settings l.at (drop l.place l.bytes));
   clear : IsLooked (drop l.place l.bytes) l.reached;
-  allowed : IsAllowed l.limits l.at;
+  allowed : IsAllowed l.settings.limits l.at;
 }
 
 abbrev pub decreases-transitions : goal.decreases-transitions

@@ -7,7 +7,7 @@ use Rattle.lsp_frame.proofs.parts.read_parts.Goals as goal
 
 pub members-init : goal.members-init
 members-init c =
-    (length c.args.reader.now, no_members, omega arith, refl, record { version = refl; id = refl; method = refl; params = refl; outcome = refl; error = refl; clean = refl })
+    (length c.args.reader.now, no_members, omega arith, refl, c.requires)
 
 pub members-preserved : goal.members-preserved
 members-preserved c =
@@ -26,11 +26,11 @@ members-preserved c =
       n - 1,
       put k d old,
       omega (arith, l.invariant.2),
-      l.invariant.3 ∙ member_read p old n k l.reader s r d (omega (arith, l.invariant.2)) named done.value.1,
+      l.invariant.3 ∙ member_read c.args.floats p old n k l.reader s r d (omega (arith, l.invariant.2)) named done.value.1,
       done.value.2 old l.invariant.4,
     )
 
 pub returns : goal.returns
 returns c =
     let l = c.members in
-    record { value = (l.invariant.1, l.invariant.3 ∙ members_over (value 126) l.invariant.1 l.invariant.0 l.reader c.next_key.new.self l.invariant.2 (grind arith), l.invariant.4) }
+    record { value = (l.invariant.1, l.invariant.3 ∙ members_over c.args.floats (value 126) l.invariant.1 l.invariant.0 l.reader c.next_key.new.self l.invariant.2 (grind arith), l.invariant.4) }

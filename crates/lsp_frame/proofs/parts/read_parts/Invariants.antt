@@ -10,7 +10,7 @@ use Rattle.lsp_frame.proofs.parts.read_parts.Given as goal
 abbrev pub invariant-members : goal.invariant-members
 invariant-members l =
     (n : ℕ) × (ms : DataMembers) × (length l.reader ≤ n)
-    × (converted (members_after no_members) (members (value 126) (length l.initial.reader) l.initial.reader) ≡ converted (members_after ms) (members (value 126) n l.reader))
+    × (converted (members_after l.floats no_members) (members (value 126) (length l.initial.reader) l.initial.reader) ≡ converted (members_after l.floats ms) (members (value 126) n l.reader))
     × AreParts l.parts ms
 
 abbrev pub decreases-members : goal.decreases-members

@@ -3,7 +3,8 @@ use Rattle.json.specs.Token.{Token}
 use Rattle.json.specs.Json.{value}
 use Rattle.json.specs.Reads.{token_of}
 use Rattle.serde_json.specs.Data.{string}
-use Rattle.serde_json.specs.Read.{of_json, converted}
+use Rattle.serde_json.specs.Read.{converted}
+use Rattle.lsp_text.specs.Floats.{of_json_by}
 use Rattle.lsp_text.proofs.Tokens.{some_with, string_read}
 use Rattle.lsp_frame.proofs.parts.read_text.Goals as goal
 
@@ -14,4 +15,4 @@ returns-in_ok-from_str-in-String-clause-value c =
     let first : c.args.reader.now ≡ token_of c.in_ok-token.token ∷ rest = grind arith in
     let is : c.args.reader.now ≡ Token.string text ∷ rest = grind (arith, first) in
     let same : string_bytes c.in_ok-from_str-in-String.field-0 ≡ text = search rules in
-    ap (λ ts. converted of_json (value 126 ts)) is ∙ string_read text 126 rest ∙ ap (λ s. some_with (string s) rest) (sym same)
+    λ floats. ap (λ ts. converted (of_json_by floats) (value 126 ts)) is ∙ string_read floats text 126 rest ∙ ap (λ s. some_with (string s) rest) (sym same)

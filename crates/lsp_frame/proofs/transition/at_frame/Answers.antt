@@ -1,22 +1,23 @@
-use Rattle.std.proofs.Common.{◌-◌, ◌≤◌, length, take, sym, subst, ap, ◌∙◌, refl}
-use Rattle.lsp_frame.specs.Kept.{IsLooked, IsClear}
-use Rattle.lsp_frame.proofs.ClearPlaces.{looked_block, looked_all}
+-- A head that is known by its text.
+use Rattle.std.proofs.Common.{◌≤◌, length, sym, ap, ◌∙◌, subst, arith, length-append}
+use Rattle.lsp_frame.specs.Frames.{head_text}
+use Rattle.lsp_frame.specs.Transitions.{at_frame, at_length}
+use Rattle.lsp_frame.proofs.FramesRead.{plain_transition}
 use Rattle.lsp_frame.proofs.transition.at_frame.Goals as goal
 
-pub returns-in-Some-clause-looked : goal.returns-in-Some-clause-looked
-returns-in-Some-clause-looked c =
-    let bs = c.args.bytes.now in
-    let head = c.args.limits.head in
-    let len = c.in-Some.len in
-    let front = c.front-front.ensures in
-    let clear : IsClear (take head bs) (len - 2) = subst (λ t. IsClear t (len - 2)) front c.in-Some.ensures.before in
-    let fits : len ≤ length (take head bs) = subst (λ t. len ≤ length t) front c.in-Some.ensures.within.1 in
-    subst (IsLooked bs) (sym c.saturating_sub.ensures) (looked_block bs head len fits clear)
+pub returns-in-Some-clause-value : goal.returns-in-Some-clause-value
+returns-in-Some-clause-value c =
+    let limits = c.args.limits in
+    let head = c.in-Some.head in
+    let is = c.in-Some.ensures.value in
+    let short : length (head_text head.len) ≤ limits.head = subst (λ q. q ≤ limits.head) is.size c.in-Some.ensures.within in
+    c.at_length.ensures.value
+    ∙ ap (λ q. at_length limits q head.len) is.size
+    ∙ sym (plain_transition limits head.len is.front.0 is.fits short)
+    ∙ ap (at_frame limits) (sym is.front.1)
 
-pub returns-else-bytes-limits-clause-looked : goal.returns-else-bytes-limits-clause-looked
-returns-else-bytes-limits-clause-looked c =
-    let bs = c.args.bytes.now in
-    let head = c.args.limits.head in
-    let front = c.front-front.ensures in
-    let clear : IsClear (take head bs) (length (take head bs)) = subst (λ t. IsClear t (length t)) front (c.in-None.ensures.all refl) in
-    subst (IsLooked bs) (sym (c.saturating_sub-in-None.ensures ∙ ap (λ t. length t - 1) front)) (looked_all bs head clear)
+pub returns-in-Some-clause-within : goal.returns-in-Some-clause-within
+returns-in-Some-clause-within c =
+    let head = c.in-Some.head in
+    let is = c.in-Some.ensures.value in
+    c.at_length.ensures.within (length c.args.bytes.now) (omega (arith, is.size, ap length is.front.1, length-append (head_text head.len) is.front.0))

@@ -3,7 +3,7 @@ use Rattle.std.proofs.Common.{◌≡◌, [], ◌∷◌, List, sym, ◌∙◌, ap
 use Rattle.lsp_frame.specs.Codec.{items_at}
 use Rattle.lsp_session.specs.Item.{ItemData, fault, tick}
 use Rattle.lsp_session.specs.Run.{Order, Step, served}
-use Rattle.lsp_session.specs.SessionView.{session_view}
+use Rattle.lsp_session.specs.SessionView.{session_view, desk_of}
 use Rattle.lsp_server.proofs.KnownLemmas.{on_ok}
 use Rattle.lsp_server.proofs.KnownLemmas.{on_err}
 use Rattle.lsp_server.specs.Items.{all_admitted}
@@ -14,7 +14,7 @@ use Rattle.lsp_server.proofs.RanLemmas.{part_none, part_more, part_after, ran_mo
 use Rattle.lsp_server.proofs.serving.serve_end.Goals as goal
 
 pub returns-in_err-fault-clause-part : goal.returns-in_err-fault-clause-part
-returns-in_err-fault-clause-part g c = err_of _ (part_none _ _ _)
+returns-in_err-fault-clause-part g c = err_of _ (part_none _ _ _ (grown_none g.D.Caller.meaning _))
 
 pub returns-in_err-write_step-in-Some-clause-part : goal.returns-in_err-write_step-in-Some-clause-part
 returns-in_err-write_step-in-Some-clause-part g c =
@@ -24,7 +24,7 @@ returns-in_err-write_step-in-Some-clause-part g c =
     let a = standing sem m c.args.session.now (g.P.Pick.state c.args.pick.now) (g.O.Sink.taken c.args.sink.now) in
     let only : all_admitted (items_at c.args.codec.now) ≡ fault c.code.result ∷ [] =
     ap all_admitted (rw c.in-Some.is at c.in_ok-fault.ensures.items) ∙ ap (λ code. fault code ∷ []) (sym c.code.ensures) in
-    err_of _ (subst (λ (l : List ItemData). RanPart (Step sem order c.args.rounds) a.state a.taken (served (sem.find (session_view sem m c.args.session.now).state.service) l) (g.O.Sink.taken c.write_step.new.sink)) (sym only)
+    err_of _ (subst (λ (l : List ItemData). RanPart (Step sem order c.args.rounds) m a (served (sem.find (session_view sem m c.args.session.now).state.service) l) (desk_of c.write_step.new.session) (g.O.Sink.taken c.write_step.new.sink)) (sym only)
     (part_more (fault c.code.result ∷ []) (tick ∷ []) c.in_err-write_step-in-Some.ensures.part))
 
 pub returns-in_ok-write_step-in-Some-clause-ok : goal.returns-in_ok-write_step-in-Some-clause-ok
@@ -49,8 +49,8 @@ returns-in_ok-write_step-in-Some-clause-part g c =
     let b = standing sem m c.write_step.new.session (g.P.Pick.state c.write_step.new.pick) (g.O.Sink.taken c.write_step.new.sink) in
     let only : all_admitted (items_at c.args.codec.now) ≡ fault c.code.result ∷ [] =
     ap all_admitted (rw c.in-Some.is at c.in_ok-fault.ensures.items) ∙ ap (λ code. fault code ∷ []) (sym c.code.ensures) in
-    on_err c.write_step-in-Some.result (λ part. subst (λ (l : List ItemData). RanPart (Step sem order c.args.rounds) a.state a.taken (served (sem.find (session_view sem m c.args.session.now).state.service) l) (g.O.Sink.taken c.write_step-in-Some.new.sink)) (sym only)
-    (part_after a b (g.O.Sink.taken c.write_step-in-Some.new.sink) (fault c.code.result ∷ []) (tick ∷ []) c.in_ok-write_step-in-Some.ensures.ok part)) c.write_step-in-Some.ensures.part
+    on_err c.write_step-in-Some.result (λ part. subst (λ (l : List ItemData). RanPart (Step sem order c.args.rounds) m a (served (sem.find (session_view sem m c.args.session.now).state.service) l) (desk_of c.write_step-in-Some.new.session) (g.O.Sink.taken c.write_step-in-Some.new.sink)) (sym only)
+    (part_after a b (desk_of c.write_step-in-Some.new.session) (g.O.Sink.taken c.write_step-in-Some.new.sink) (fault c.code.result ∷ []) (tick ∷ []) c.in_ok-write_step-in-Some.ensures.ok part)) c.write_step-in-Some.ensures.part
 
 pub returns-in_ok-write_step-in-Some-clause-grown : goal.returns-in_ok-write_step-in-Some-clause-grown
 returns-in_ok-write_step-in-Some-clause-grown g c =

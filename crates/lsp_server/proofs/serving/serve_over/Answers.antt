@@ -30,13 +30,13 @@ returns-clause-serves g c =
     let order : Order g.P.Pick.State = record { gives = g.P.Pick.gives; later = g.P.Pick.later } in
     let start = moment (g.T.Transport.left c.args.io.now) (g.T.Sink.taken c.args.io.now) (g.T.Sink.flushed c.args.io.now) in
     let now = moment (g.T.Transport.left c.over_reads.new.io) (g.T.Sink.taken c.over_reads.new.io) (g.T.Sink.flushed c.over_reads.new.io) in
-    let a = spot sem m c.args.session.now (g.P.Pick.state c.args.pick.now) c.with_limits-codec.result c.args.rounds in
+    let a = spot sem m c.args.session.now (g.P.Pick.state c.args.pick.now) c.with_settings-codec.result c.args.rounds in
     let b = spot sem m c.over_reads.new.state (g.P.Pick.state c.over_reads.new.consumer.pick.now) c.over_reads.new.consumer.codec.now c.over_reads.new.consumer.rounds in
     let view = session_view sem m c.args.session.now in
     let view_after = session_view sem m c.over_reads.new.state in
-    let all : IfSome (g.T.Transport.left c.args.io.now) (λ bytes. ServesOver (course_from sem m order c.args.rounds c.args.limits view (g.P.Pick.state c.args.pick.now)) bytes start now (g.T.Transport.reads c.args.io.now) (g.T.Transport.reads c.over_reads.new.io) 4096
+    let all : IfSome (g.T.Transport.left c.args.io.now) (λ bytes. ServesOver (course_from sem m order c.args.rounds c.args.settings view (g.P.Pick.state c.args.pick.now)) bytes start now (g.T.Transport.reads c.args.io.now) (g.T.Transport.reads c.over_reads.new.io) 4096
     (picked view_after (g.P.Pick.state c.over_reads.new.consumer.pick.now)) view_after.desk (result_err c.over_reads.result)) =
-    if_told (g.T.Transport.left c.args.io.now) _ (λ bytes is. serves_over sem g.met.H.Handlers.laws m order c.args.limits a c.with_limits-codec.ensures bytes start is b now 4096 (g.T.Transport.reads c.args.io.now) (g.T.Transport.reads c.over_reads.new.io) c.over_reads.result
+    if_told (g.T.Transport.left c.args.io.now) _ (λ bytes is. serves_over sem g.met.H.Handlers.laws m order c.args.settings a c.with_settings-codec.ensures bytes start is b now 4096 (g.T.Transport.reads c.args.io.now) (g.T.Transport.reads c.over_reads.new.io) c.over_reads.result
     (λ ends. seen_last (see_serving sem m g.P.Pick.state) _ _ start now 4096 (last_outcome c.over_reads.result) (c.over_reads.ensures.last ends))
     (if_err c.over_reads.result (λ e took between. seen_took (see_serving sem m g.P.Pick.state) _ _ start now (took between)) c.over_reads.ensures.took)
     (made_in_order (g.T.Transport.reads c.args.io.now) (g.T.Transport.reads c.over_reads.new.io) _ _ (λ n t. seen_all_took (see_serving sem m g.P.Pick.state) _ start n t) c.over_reads.ensures.in_order)) in
@@ -49,7 +49,7 @@ returns-clause-grown g c =
     let order : Order g.P.Pick.State = record { gives = g.P.Pick.gives; later = g.P.Pick.later } in
     let start = moment (g.T.Transport.left c.args.io.now) (g.T.Sink.taken c.args.io.now) (g.T.Sink.flushed c.args.io.now) in
     let now = moment (g.T.Transport.left c.over_reads.new.io) (g.T.Sink.taken c.over_reads.new.io) (g.T.Sink.flushed c.over_reads.new.io) in
-    let a = spot sem m c.args.session.now (g.P.Pick.state c.args.pick.now) c.with_limits-codec.result c.args.rounds in
+    let a = spot sem m c.args.session.now (g.P.Pick.state c.args.pick.now) c.with_settings-codec.result c.args.rounds in
     let b = spot sem m c.over_reads.new.state (g.P.Pick.state c.over_reads.new.consumer.pick.now) c.over_reads.new.consumer.codec.now c.over_reads.new.consumer.rounds in
     all_grown sem m order a b start now 4096 c.over_reads.result
     (λ ends. seen_last (see_serving sem m g.P.Pick.state) _ _ start now 4096 (last_outcome c.over_reads.result) (c.over_reads.ensures.last ends))

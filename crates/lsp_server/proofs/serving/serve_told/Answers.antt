@@ -2,7 +2,7 @@
 use Rattle.std.proofs.Common.{rules, arith, refl, ◌≡◌, length, true, false, ap, [], ◌∷◌}
 use Rattle.std.specs.Prelude.{is_some}
 use Rattle.lsp_session.specs.Item.{show_item}
-use Rattle.lsp_session.specs.SessionView.{session_view}
+use Rattle.lsp_session.specs.SessionView.{session_view, desk_of}
 use Rattle.lsp_server.specs.ServerView.{standing}
 use Rattle.lsp_server.proofs.KnownLemmas.{err_of}
 use Rattle.lsp_server.proofs.CodecLemmas.{next_found, told_now}
@@ -25,7 +25,7 @@ returns-in_err-item-clause-part g c = err_of _ (told_part_none _ _ _ _ c.items.i
 pub returns-in_err-write_step-clause-part : goal.returns-in_err-write_step-clause-part
 returns-in_err-write_step-clause-part g c =
     err_of _ (told_part_step _ _ _ _ c.items.invariant.going g.met.H.Handlers.laws
-    c.next_item.new.codec (show_item c.in-Some.item) (rw c.in-Some.is at c.in_ok-item.ensures.next) (g.O.Sink.taken c.write_step.new.sink) c.in_err-write_step.ensures.part)
+    c.next_item.new.codec (show_item c.in-Some.item) (rw c.in-Some.is at c.in_ok-item.ensures.next) (desk_of c.write_step.new.session) (g.O.Sink.taken c.write_step.new.sink) c.in_err-write_step.ensures.part)
 
 pub returns-then-is_some-clause-ok : goal.returns-then-is_some-clause-ok
 returns-then-is_some-clause-ok g c =

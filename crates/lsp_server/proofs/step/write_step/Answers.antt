@@ -5,19 +5,19 @@ use Rattle.lsp_desk.specs.declared.life.Life.TheVariants.{Exited}
 use Rattle.lsp_session.specs.Item.{show_item}
 use Rattle.lsp_session.specs.Run.{Order, Step, is_exit}
 use Rattle.lsp_session.specs.Session.{SessionView}
-use Rattle.lsp_session.specs.SessionView.{session_view}
-use Rattle.lsp_server.specs.Course.{picked}
-use Rattle.lsp_server.specs.Written.{place, Ran}
+use Rattle.lsp_session.specs.SessionView.{session_view, desk_of}
+use Rattle.lsp_server.specs.ServerView.{standing}
+use Rattle.lsp_server.specs.Written.{place, Ran, RanPart}
 use Rattle.lsp_server.proofs.RanLemmas.{ran_one, part_one, part_none, stepped_lives}
 use Rattle.lsp_server.proofs.step.write_step.Goals as goal
 
 pub returns-in-Err-DeskSpent-clause-part : goal.returns-in-Err-DeskSpent-clause-part
 returns-in-Err-DeskSpent-clause-part g c =
-    part_none (picked (session_view g.H.Handlers.semantics g.D.Caller.meaning c.args.session.now) (g.P.Pick.state c.args.pick.now)) (g.O.Sink.taken c.args.sink.now) (show_item c.args.item ∷ [])
+    part_none (standing g.H.Handlers.semantics g.D.Caller.meaning c.args.session.now (g.P.Pick.state c.args.pick.now) (g.O.Sink.taken c.args.sink.now)) (desk_of c.step.new.session) (show_item c.args.item ∷ []) c.in-Err-DeskSpent.ensures.failed
 
 pub returns-in-Err-NoMemory-clause-part : goal.returns-in-Err-NoMemory-clause-part
 returns-in-Err-NoMemory-clause-part g c =
-    part_none (picked (session_view g.H.Handlers.semantics g.D.Caller.meaning c.args.session.now) (g.P.Pick.state c.args.pick.now)) (g.O.Sink.taken c.args.sink.now) (show_item c.args.item ∷ [])
+    part_none (standing g.H.Handlers.semantics g.D.Caller.meaning c.args.session.now (g.P.Pick.state c.args.pick.now) (g.O.Sink.taken c.args.sink.now)) (desk_of c.step.new.session) (show_item c.args.item ∷ []) c.in-Err-NoMemory.ensures.failed
 
 pub returns-in-Ok-put-clause-ok : goal.returns-in-Ok-put-clause-ok
 returns-in-Ok-put-clause-ok g c =
@@ -44,8 +44,10 @@ returns-in-Err-Failed-clause-part g c =
     let m = g.D.Caller.meaning in
     let order : Order g.P.Pick.State = record { gives = g.P.Pick.gives; later = g.P.Pick.later } in
     let p = c.in-Err-Failed.ensures.part in
-    part_one sem m order c.args.rounds (g.O.Sink.taken c.args.sink.now) (g.O.Sink.taken c.put.new.sink) (session_view sem m c.args.session.now) (session_view sem m c.step.new.session)
-    (g.P.Pick.state c.args.pick.now) (g.P.Pick.state c.step.new.pick) (show_item c.args.item) (map show_message c.take_out-out.result.items) p.0 c.in-Ok.ensures.ok c.requires.ready.taken c.take_out-out.ensures.taken p.1 p.2
+    subst (λ (v : SessionView _ _ sem.Call sem.Task). RanPart (Step sem order c.args.rounds) m (place (session_view sem m c.args.session.now) (g.P.Pick.state c.args.pick.now) (g.O.Sink.taken c.args.sink.now)) (show_item c.args.item ∷ []) v.desk
+    (g.O.Sink.taken c.put.new.sink)) (sym c.take_out-out.ensures.rest)
+    (part_one sem m order c.args.rounds (g.O.Sink.taken c.args.sink.now) (g.O.Sink.taken c.put.new.sink) (session_view sem m c.args.session.now) (session_view sem m c.step.new.session)
+    (g.P.Pick.state c.args.pick.now) (g.P.Pick.state c.step.new.pick) (show_item c.args.item) (map show_message c.take_out-out.result.items) p.0 c.in-Ok.ensures.ok c.requires.ready.taken c.take_out-out.ensures.taken p.1 p.2)
 
 pub returns-clause-part : goal.returns-clause-part
 returns-clause-part g c =
@@ -53,5 +55,7 @@ returns-clause-part g c =
     let m = g.D.Caller.meaning in
     let order : Order g.P.Pick.State = record { gives = g.P.Pick.gives; later = g.P.Pick.later } in
     let p = c.in-Err-NoMemory-put.ensures.part in
-    part_one sem m order c.args.rounds (g.O.Sink.taken c.args.sink.now) (g.O.Sink.taken c.put.new.sink) (session_view sem m c.args.session.now) (session_view sem m c.step.new.session)
-    (g.P.Pick.state c.args.pick.now) (g.P.Pick.state c.step.new.pick) (show_item c.args.item) (map show_message c.take_out-out.result.items) p.0 c.in-Ok.ensures.ok c.requires.ready.taken c.take_out-out.ensures.taken p.1 p.2
+    subst (λ (v : SessionView _ _ sem.Call sem.Task). RanPart (Step sem order c.args.rounds) m (place (session_view sem m c.args.session.now) (g.P.Pick.state c.args.pick.now) (g.O.Sink.taken c.args.sink.now)) (show_item c.args.item ∷ []) v.desk
+    (g.O.Sink.taken c.put.new.sink)) (sym c.take_out-out.ensures.rest)
+    (part_one sem m order c.args.rounds (g.O.Sink.taken c.args.sink.now) (g.O.Sink.taken c.put.new.sink) (session_view sem m c.args.session.now) (session_view sem m c.step.new.session)
+    (g.P.Pick.state c.args.pick.now) (g.P.Pick.state c.step.new.pick) (show_item c.args.item) (map show_message c.take_out-out.result.items) p.0 c.in-Ok.ensures.ok c.requires.ready.taken c.take_out-out.ensures.taken p.1 p.2)

@@ -10,10 +10,6 @@ load-turn-requires g c =
     let share = ap (λ (m : Mine). m.0.share) same in
     (c.loop.invariant.0 ∙ c.requires.here, (let w = c.args.desk.now.words in omega arith), takes_turn _ _ _ _ phase (ap (λ (m : Mine). m.1) same ∙ c.requires.empty) (let s = c.requires.waits.1 in omega arith))
 
-pub loop-preserved-then-looks-lt-LOOKS : goal.loop-preserved-then-looks-lt-LOOKS
-loop-preserved-then-looks-lt-LOOKS g c =
-    (c.load-turn.ensures.0 ∙ c.loop.invariant.0, (c.load-turn.ensures.2 c.args.t (ap (λ (m : Mine). m.0.phase) c.loop.invariant.1 ∙ c.requires.waits.0)).1 c.if-turn-t.false ∙ c.loop.invariant.1)
-
 pub loop-preserved : goal.loop-preserved
 loop-preserved g c =
     (c.load-turn.ensures.0 ∙ c.loop.invariant.0, (c.load-turn.ensures.2 c.args.t (ap (λ (m : Mine). m.0.phase) c.loop.invariant.1 ∙ c.requires.waits.0)).1 c.if-turn-t.false ∙ c.loop.invariant.1)

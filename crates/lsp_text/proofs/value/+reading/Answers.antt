@@ -2,7 +2,8 @@ use Rattle.std.proofs.Common.{◌≡◌, ◌∷◌, ◌++◌, [], ◌-◌, ◌<�
 use Rattle.json.specs.Json.{value, items, members, parse_map, after_end_array, read_key}
 use Rattle.json.proofs.Grammar.{read_key-shorter}
 use Rattle.serde_json.specs.Data.{put}
-use Rattle.serde_json.specs.Read.{of_json, of_items, converted}
+use Rattle.serde_json.specs.Read.{converted}
+use Rattle.lsp_text.specs.Floats.{of_json_by, of_items_by}
 use Rattle.serde_json.specs.View.{view, items_view, members_view}
 use Rattle.lsp_text.proofs.Clean.{push_clean, put_clean}
 use Rattle.lsp_text.proofs.Tokens.{after_values, members_after, item_read, items_over, array_read, member_read, members_over, object_read}
@@ -18,21 +19,21 @@ read_items-items-preserved t c =
     let r = c.read_value.new.reader in
     let unclosed : after_end_array l.reader ≡ None = c.items-test.ensures.0 in
     let same : c.take_end_array.new.self ≡ l.reader = c.items-test.ensures.1 in
-    let read : converted of_json (p l.reader) ≡ Some (view v, r) = ap (λ ts. converted of_json (p ts)) (sym same) ∙ c.in_ok-item.ensures.value in
+    let read : converted (of_json_by c.args.floats) (p l.reader) ≡ Some (view v, r) = ap (λ ts. converted (of_json_by c.args.floats) (p ts)) (sym same) ∙ c.in_ok-item.ensures.value in
     let lesser : length r < length l.reader = omega (arith, c.in_ok-item.ensures.shorter, ap length same) in
     let more : c.push.new.self.items ≡ old ++ v ∷ [] = c.in_ok-push.ensures.items in (
       n - 1,
       omega (arith, l.invariant.1),
       omega (arith, l.invariant.2),
-      l.invariant.3 ∙ item_read p old v n l.reader r (omega (arith, l.invariant.1)) unclosed read ∙ ap (λ vs. parse_map (after_values vs) (converted of_items (items p (n - 1) r))) (sym more),
+      l.invariant.3 ∙ item_read c.args.floats p old v n l.reader r (omega (arith, l.invariant.1)) unclosed read ∙ ap (λ vs. parse_map (after_values vs) (converted (of_items_by c.args.floats) (items p (n - 1) r))) (sym more),
       rw more (push_clean old v l.invariant.4 c.in_ok-item.ensures.clean),
     )
 
 pub read_items-returns-clause-value : goal.read_items-returns-clause-value
 read_items-returns-clause-value t c =
     let l = c.items in
-    array_read c.args.depth c.args.reader.now c.take_end_array.new.self (items_view l.items.items) (omega arith)
-    (l.invariant.3 ∙ items_over (value (c.args.depth - 1)) l.items.items l.invariant.0 l.reader c.take_end_array.new.self l.invariant.1 c.items-test.ensures)
+    array_read c.args.floats c.args.depth c.args.reader.now c.take_end_array.new.self (items_view l.items.items) (omega arith)
+    (l.invariant.3 ∙ items_over c.args.floats (value (c.args.depth - 1)) l.items.items l.invariant.0 l.reader c.take_end_array.new.self l.invariant.1 c.items-test.ensures)
 
 pub read_members-members-preserved : goal.read_members-members-preserved
 read_members-members-preserved t c =
@@ -52,12 +53,12 @@ read_members-members-preserved t c =
       n - 1,
       omega (arith, l.invariant.1),
       omega (arith, l.invariant.2),
-      l.invariant.3 ∙ member_read p old n k l.reader s r (view v) (omega (arith, l.invariant.1)) named c.in_ok-member.ensures.value ∙ ap (λ ms. converted (members_after ms) (members p (n - 1) r)) (sym more),
+      l.invariant.3 ∙ member_read c.args.floats p old n k l.reader s r (view v) (omega (arith, l.invariant.1)) named c.in_ok-member.ensures.value ∙ ap (λ ms. converted (members_after c.args.floats ms) (members p (n - 1) r)) (sym more),
       rw more (put_clean k (view v) old l.invariant.4 c.in_ok-member.ensures.clean),
     )
 
 pub read_members-returns-clause-value : goal.read_members-returns-clause-value
 read_members-returns-clause-value t c =
     let l = c.members in
-    object_read c.args.depth c.args.reader.now c.next_key.new.self (members_view l.members.entries) (omega arith)
-    (l.invariant.3 ∙ members_over (value (c.args.depth - 1)) (members_view l.members.entries) l.invariant.0 l.reader c.next_key.new.self l.invariant.1 (grind arith))
+    object_read c.args.floats c.args.depth c.args.reader.now c.next_key.new.self (members_view l.members.entries) (omega arith)
+    (l.invariant.3 ∙ members_over c.args.floats (value (c.args.depth - 1)) (members_view l.members.entries) l.invariant.0 l.reader c.next_key.new.self l.invariant.1 (grind arith))

@@ -15,19 +15,19 @@ pub returns-clause-more : goal.returns-clause-more
 returns-clause-more c =
     let e = c.in_ok-next.ensures in
     let next = c.in_ok-next.next in
-    let limits = c.self.inside.limits in
+    let settings = c.self.inside.settings in
     alike _ _ _ c.answer_of.ensures.value
-    (none_told limits c.args.self.now c.self.inside.state next.state c.as_slice.result.now _ next.item next.unfinished
-    (ap (codec_at limits c.self.inside.state) c.as_slice.ensures ∙ c.self.view_is) e.goes e.ends)
+    (none_told settings c.args.self.now c.self.inside.state next.state c.as_slice.result.now _ next.item next.unfinished
+    (ap (codec_at settings c.self.inside.state) c.as_slice.ensures ∙ c.self.view_is) e.goes e.ends)
 
 pub returns-clause-held : goal.returns-clause-held
 returns-clause-held c = λ none.
     let e = c.in_ok-next.ensures in
     let next = c.in_ok-next.next in
-    let limits = c.self.inside.limits in
+    let settings = c.self.inside.settings in
     let waits = e.waits (none_found next.item (sym c.answer_of.ensures.value ∙ none)) in
-    subst (λ t. length t ≤ most_held limits) (sym (c.advance.ensures.items ∙ ap (drop next.consumed) (sym c.as_slice.ensures)))
-    (held_at_most limits next.state (drop next.consumed c.as_slice.result.now) waits e.allowed)
+    subst (λ t. length t ≤ most_held settings.limits) (sym (c.advance.ensures.items ∙ ap (drop next.consumed) (sym c.as_slice.ensures)))
+    (held_at_most settings next.state (drop next.consumed c.as_slice.result.now) waits e.allowed)
 
 alike_places : (a b c d : At) (x y : Option Item) → a ≡ c → x ≡ y → b ≡ d → ComesTo a x b → ComesTo c y d
 alike_places a b c d x y from item to comes =
@@ -36,9 +36,9 @@ alike_places a b c d x y from item to comes =
 pub returns-clause-place : goal.returns-clause-place
 returns-clause-place c =
     let next = c.in_ok-next.next in
-    let limits = c.self.inside.limits in
-    alike_places _ _ _ _ _ _ (ap (codec_at limits c.self.inside.state) c.as_slice.ensures ∙ c.self.view_is) (sym c.answer_of.ensures.value)
-    (ap (codec_at limits next.state) (sym (c.advance.ensures.items ∙ ap (drop next.consumed) (sym c.as_slice.ensures))))
+    let settings = c.self.inside.settings in
+    alike_places _ _ _ _ _ _ (ap (codec_at settings c.self.inside.state) c.as_slice.ensures ∙ c.self.view_is) (sym c.answer_of.ensures.value)
+    (ap (codec_at settings next.state) (sym (c.advance.ensures.items ∙ ap (drop next.consumed) (sym c.as_slice.ensures))))
     c.in_ok-next.ensures.place
 
 pub returns-clause-rest : goal.returns-clause-rest

@@ -9,16 +9,16 @@ pub returns-then-next-clause-items : goal.returns-then-next-clause-items
 returns-then-next-clause-items c =
     let e = c.in_ok-next.ensures in
     let next = c.in_ok-next.next in
-    let limits = c.self.inside.limits in
-    items_left limits c.args.self.now c.self.inside.state next.state c.as_slice.result.now _ next.item next.unfinished
-    (ap (codec_at limits c.self.inside.state) c.as_slice.ensures ∙ c.self.view_is) e.goes e.ends c.requires
+    let settings = c.self.inside.settings in
+    items_left settings c.args.self.now c.self.inside.state next.state c.as_slice.result.now _ next.item next.unfinished
+    (ap (codec_at settings c.self.inside.state) c.as_slice.ensures ∙ c.self.view_is) e.goes e.ends c.requires
     ∙ ap (λ b. cond b (fault Rest ∷ []) []) c.if-next.true
 
 pub returns-clause-items : goal.returns-clause-items
 returns-clause-items c =
     let e = c.in_ok-next.ensures in
     let next = c.in_ok-next.next in
-    let limits = c.self.inside.limits in
-    items_left limits c.args.self.now c.self.inside.state next.state c.as_slice.result.now _ next.item next.unfinished
-    (ap (codec_at limits c.self.inside.state) c.as_slice.ensures ∙ c.self.view_is) e.goes e.ends c.requires
+    let settings = c.self.inside.settings in
+    items_left settings c.args.self.now c.self.inside.state next.state c.as_slice.result.now _ next.item next.unfinished
+    (ap (codec_at settings c.self.inside.state) c.as_slice.ensures ∙ c.self.view_is) e.goes e.ends c.requires
     ∙ ap (λ b. cond b (fault Rest ∷ []) []) c.if-next.false

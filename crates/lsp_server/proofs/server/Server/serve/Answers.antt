@@ -1,6 +1,6 @@
 -- What the loop over the reads comes to, and what is handed back.
 use Rattle.std.proofs.Common.{rules, ◌≡◌, ◌∙◌, ◌≤◌, ◌+◌, ◌*◌, ℕ, List, ◌++◌, length, refl, sym, subst}
-use Rattle.std.specs.Prelude.{None, IfOk, IfSome, OnOk, OnErr}
+use Rattle.std.specs.Prelude.{None, IfOk, IfErr, IfSome, OnOk}
 use Rattle.lsp_desk.specs.Meaning.{Grown}
 use Rattle.lsp_session.specs.Run.{Order, served}
 use Rattle.lsp_session.specs.Session.{SessionView}
@@ -13,7 +13,7 @@ use Rattle.lsp_server.specs.Served.{call_bytes, RanFrom, IsServed, ReadEnough, R
 use Rattle.lsp_server.specs.ServedView.{show_served}
 use Rattle.lsp_server.specs.ServerView.{setting, server_desk}
 use Rattle.lsp_server.specs.declared.step.ServeError.TheVariants.{DeskSpent, NoMemory}
-use Rattle.lsp_server.proofs.KnownLemmas.{on_any_ok, err_of, if_ok, if_err, if_some, if_told, some_at, left_told}
+use Rattle.lsp_server.proofs.KnownLemmas.{on_any_ok, if_ok, if_err, if_some, if_told, some_at, left_told}
 use Rattle.lsp_server.proofs.ErrorLemmas.{never_alone, unfailed}
 use Rattle.lsp_server.proofs.HandedLemmas.{opened, is_served}
 use Rattle.lsp_server.proofs.server.Server.serve.Goals as goal
@@ -24,11 +24,11 @@ returns-in-Ok-clause-headline g c =
     let m = g.D.Caller.meaning in
     let order : Order g.P.Pick.State = record { gives = g.P.Pick.gives; later = g.P.Pick.later } in
     let set : Setting _ _ _ = setting c.args.self c.args.service (g.P.Pick.state c.args.pick.now) c.args.rounds in
-    let first = opened set _ (session_view sem m c.waiting_limit-session.result) c.into_desk-desk.result c.into_desk-desk.ensures c.new.ensures.view c.waiting_limit-session.ensures.view in
+    let first = opened set (session_view sem m c.open-session.result) c.into_desk-desk.result c.into_desk-desk.ensures c.open-session.ensures.view in
     let after = session_view sem m c.serve_over.new.session in
     let p2 = g.P.Pick.state c.serve_over.new.pick in
     let bytes_of = λ (bytes : List ℕ). call_bytes bytes (g.I.Source.left c.serve_over.new.io.source.now) (g.O.Sink.taken c.args.sink.now) (g.O.Sink.taken c.serve_over.new.io.sink.now) in
-    let ran = subst (λ (v : SessionView _ _ sem.Call sem.Task). IfSome (g.I.Source.left c.args.source.now) (λ bytes. RanFrom (course_from sem m order c.args.rounds c.args.self.limits v (g.P.Pick.state c.args.pick.now)) (bytes_of bytes) (served (sem.find v.state.service) (stream_items c.args.self.limits bytes)) (picked after p2) after.desk)) first (if_some (g.I.Source.left c.args.source.now) (λ bytes s. s.ok) c.in-Ok.ensures.serves) in
+    let ran = subst (λ (v : SessionView _ _ sem.Call sem.Task). IfSome (g.I.Source.left c.args.source.now) (λ bytes. RanFrom (course_from sem m order c.args.rounds c.args.self.settings v (g.P.Pick.state c.args.pick.now)) (bytes_of bytes) (served (sem.find v.state.service) (stream_items c.args.self.settings bytes)) (picked after p2) after.desk)) first (if_some (g.I.Source.left c.args.source.now) (λ bytes s. s.ok) c.in-Ok.ensures.serves) in
     let done : IfOk c.hand_back.result (λ served_now. IfSome (g.I.Source.left c.args.source.now) (λ bytes. IsServed (course sem m order set) (bytes_of bytes) (show_served served_now) p2)) =
     if_ok c.hand_back.result (λ served_now e. if_some (g.I.Source.left c.args.source.now) (λ bytes ran_now. subst (λ v. IsServed (course sem m order set) (bytes_of bytes) v p2) (sym e)
     (is_served g.met.H.Handlers.laws m order set (bytes_of bytes) after p2 ran_now refl)) ran) c.hand_back.ensures.handed in
@@ -40,10 +40,10 @@ returns-in-Ok-clause-enough g c =
     let m = g.D.Caller.meaning in
     let order : Order g.P.Pick.State = record { gives = g.P.Pick.gives; later = g.P.Pick.later } in
     let set : Setting _ _ _ = setting c.args.self c.args.service (g.P.Pick.state c.args.pick.now) c.args.rounds in
-    let first = opened set _ (session_view sem m c.waiting_limit-session.result) c.into_desk-desk.result c.into_desk-desk.ensures c.new.ensures.view c.waiting_limit-session.ensures.view in
+    let first = opened set (session_view sem m c.open-session.result) c.into_desk-desk.result c.into_desk-desk.ensures c.open-session.ensures.view in
     let bytes_of = λ (bytes : List ℕ). call_bytes bytes (g.I.Source.left c.serve_over.new.io.source.now) (g.O.Sink.taken c.args.sink.now) (g.O.Sink.taken c.serve_over.new.io.sink.now) in
     let enough : OnOk c.hand_back.result (IfSome (g.I.Source.left c.args.source.now) (λ bytes. ReadEnough (course sem m order set) (bytes_of bytes) 4096)) =
-    on_any_ok c.hand_back.result (subst (λ (v : SessionView _ _ sem.Call sem.Task). IfSome (g.I.Source.left c.args.source.now) (λ bytes. ReadEnough (course_from sem m order c.args.rounds c.args.self.limits v (g.P.Pick.state c.args.pick.now)) (bytes_of bytes) 4096)) first (if_some (g.I.Source.left c.args.source.now) (λ bytes s. s.enough) c.in-Ok.ensures.serves)) in
+    on_any_ok c.hand_back.result (subst (λ (v : SessionView _ _ sem.Call sem.Task). IfSome (g.I.Source.left c.args.source.now) (λ bytes. ReadEnough (course_from sem m order c.args.rounds c.args.self.settings v (g.P.Pick.state c.args.pick.now)) (bytes_of bytes) 4096)) first (if_some (g.I.Source.left c.args.source.now) (λ bytes s. s.enough) c.in-Ok.ensures.serves)) in
     search rules
 
 pub returns-in-Ok-clause-part : goal.returns-in-Ok-clause-part
@@ -52,10 +52,12 @@ returns-in-Ok-clause-part g c =
     let m = g.D.Caller.meaning in
     let order : Order g.P.Pick.State = record { gives = g.P.Pick.gives; later = g.P.Pick.later } in
     let set : Setting _ _ _ = setting c.args.self c.args.service (g.P.Pick.state c.args.pick.now) c.args.rounds in
-    let first = opened set _ (session_view sem m c.waiting_limit-session.result) c.into_desk-desk.result c.into_desk-desk.ensures c.new.ensures.view c.waiting_limit-session.ensures.view in
+    let first = opened set (session_view sem m c.open-session.result) c.into_desk-desk.result c.into_desk-desk.ensures c.open-session.ensures.view in
     let bytes_of = λ (bytes : List ℕ). call_bytes bytes (g.I.Source.left c.serve_over.new.io.source.now) (g.O.Sink.taken c.args.sink.now) (g.O.Sink.taken c.serve_over.new.io.sink.now) in
-    let part : OnErr c.hand_back.result (IfSome (g.I.Source.left c.args.source.now) (λ bytes. WrotePart (course sem m order set) (bytes_of bytes) 4096)) =
-    err_of c.hand_back.result (subst (λ (v : SessionView _ _ sem.Call sem.Task). IfSome (g.I.Source.left c.args.source.now) (λ bytes. WrotePart (course_from sem m order c.args.rounds c.args.self.limits v (g.P.Pick.state c.args.pick.now)) (bytes_of bytes) 4096)) first (if_some (g.I.Source.left c.args.source.now) (λ bytes s. s.part) c.serve_over.ensures.serves)) in
+    let after = session_view sem m c.serve_over.new.session in
+    let part : IfErr c.hand_back.result (λ stopped. IfSome (g.I.Source.left c.args.source.now) (λ bytes. WrotePart (course sem m order set) (bytes_of bytes) 4096 stopped.desk)) =
+    if_err c.hand_back.result (λ stopped e. subst (λ desk. IfSome (g.I.Source.left c.args.source.now) (λ bytes. WrotePart (course sem m order set) (bytes_of bytes) 4096 desk)) (sym e.1)
+    (subst (λ (v : SessionView _ _ sem.Call sem.Task). IfSome (g.I.Source.left c.args.source.now) (λ bytes. WrotePart (course_from sem m order c.args.rounds c.args.self.settings v (g.P.Pick.state c.args.pick.now)) (bytes_of bytes) 4096 after.desk)) first (if_some (g.I.Source.left c.args.source.now) (λ bytes s. s.part) c.serve_over.ensures.serves))) c.hand_back.ensures.stopped in
     search rules
 
 pub returns-in-Err-clause-part : goal.returns-in-Err-clause-part
@@ -64,10 +66,11 @@ returns-in-Err-clause-part g c =
     let m = g.D.Caller.meaning in
     let order : Order g.P.Pick.State = record { gives = g.P.Pick.gives; later = g.P.Pick.later } in
     let set : Setting _ _ _ = setting c.args.self c.args.service (g.P.Pick.state c.args.pick.now) c.args.rounds in
-    let first = opened set _ (session_view sem m c.waiting_limit-session.result) c.into_desk-desk.result c.into_desk-desk.ensures c.new.ensures.view c.waiting_limit-session.ensures.view in
+    let first = opened set (session_view sem m c.open-session.result) c.into_desk-desk.result c.into_desk-desk.ensures c.open-session.ensures.view in
     let bytes_of = λ (bytes : List ℕ). call_bytes bytes (g.I.Source.left c.serve_over.new.io.source.now) (g.O.Sink.taken c.args.sink.now) (g.O.Sink.taken c.serve_over.new.io.sink.now) in
-    let part : IfSome (g.I.Source.left c.args.source.now) (λ bytes. WrotePart (course sem m order set) (bytes_of bytes) 4096) =
-    subst (λ (v : SessionView _ _ sem.Call sem.Task). IfSome (g.I.Source.left c.args.source.now) (λ bytes. WrotePart (course_from sem m order c.args.rounds c.args.self.limits v (g.P.Pick.state c.args.pick.now)) (bytes_of bytes) 4096)) first (if_some (g.I.Source.left c.args.source.now) (λ bytes s. s.part) c.serve_over.ensures.serves) in
+    let after = session_view sem m c.serve_over.new.session in
+    let part : IfSome (g.I.Source.left c.args.source.now) (λ bytes. WrotePart (course sem m order set) (bytes_of bytes) 4096 after.desk) =
+    subst (λ (v : SessionView _ _ sem.Call sem.Task). IfSome (g.I.Source.left c.args.source.now) (λ bytes. WrotePart (course_from sem m order c.args.rounds c.args.self.settings v (g.P.Pick.state c.args.pick.now)) (bytes_of bytes) 4096 after.desk)) first (if_some (g.I.Source.left c.args.source.now) (λ bytes s. s.part) c.serve_over.ensures.serves) in
     search rules
 
 pub returns-in-Err-clause-exact : goal.returns-in-Err-clause-exact
@@ -76,12 +79,12 @@ returns-in-Err-clause-exact g c between =
     let m = g.D.Caller.meaning in
     let order : Order g.P.Pick.State = record { gives = g.P.Pick.gives; later = g.P.Pick.later } in
     let set : Setting _ _ _ = setting c.args.self c.args.service (g.P.Pick.state c.args.pick.now) c.args.rounds in
-    let first = opened set _ (session_view sem m c.waiting_limit-session.result) c.into_desk-desk.result c.into_desk-desk.ensures c.new.ensures.view c.waiting_limit-session.ensures.view in
+    let first = opened set (session_view sem m c.open-session.result) c.into_desk-desk.result c.into_desk-desk.ensures c.open-session.ensures.view in
     let after = session_view sem m c.serve_over.new.session in
     let bytes_of = λ (bytes : List ℕ). call_bytes bytes (g.I.Source.left c.serve_over.new.io.source.now) (g.O.Sink.taken c.args.sink.now) (g.O.Sink.taken c.serve_over.new.io.sink.now) in
     let last = picked after (g.P.Pick.state c.serve_over.new.pick) in
     let told : IfSome (g.I.Source.left c.args.source.now) (λ bytes. RanTold (course sem m order set) (bytes_of bytes) last after.desk) =
-    subst (λ (v : SessionView _ _ sem.Call sem.Task). IfSome (g.I.Source.left c.args.source.now) (λ bytes. RanTold (course_from sem m order c.args.rounds c.args.self.limits v (g.P.Pick.state c.args.pick.now)) (bytes_of bytes) last after.desk)) first (if_some (g.I.Source.left c.args.source.now) (λ bytes s. s.exact (subst IsBetweenReads c.stop.ensures.error between)) c.in-Err.ensures.serves) in
+    subst (λ (v : SessionView _ _ sem.Call sem.Task). IfSome (g.I.Source.left c.args.source.now) (λ bytes. RanTold (course_from sem m order c.args.rounds c.args.self.settings v (g.P.Pick.state c.args.pick.now)) (bytes_of bytes) last after.desk)) first (if_some (g.I.Source.left c.args.source.now) (λ bytes s. s.exact (subst IsBetweenReads c.stop.ensures.error between)) c.in-Err.ensures.serves) in
     let exact : IfSome (g.I.Source.left c.args.source.now) (λ bytes. WroteTold (course sem m order set) (bytes_of bytes) after.desk) =
     if_told (g.I.Source.left c.args.source.now) _ (λ bytes is. record { last = last; told = some_at (g.I.Source.left c.args.source.now) _ bytes is told }) in
     search rules
@@ -92,7 +95,7 @@ returns-in-Err-clause-complete g c =
     let m = g.D.Caller.meaning in
     let order : Order g.P.Pick.State = record { gives = g.P.Pick.gives; later = g.P.Pick.later } in
     let set : Setting _ _ _ = setting c.args.self c.args.service (g.P.Pick.state c.args.pick.now) c.args.rounds in
-    let first = opened set _ (session_view sem m c.waiting_limit-session.result) c.into_desk-desk.result c.into_desk-desk.ensures c.new.ensures.view c.waiting_limit-session.ensures.view in
+    let first = opened set (session_view sem m c.open-session.result) c.into_desk-desk.result c.into_desk-desk.ensures c.open-session.ensures.view in
     let after = session_view sem m c.serve_over.new.session in
     let bytes_of = λ (bytes : List ℕ). call_bytes bytes (g.I.Source.left c.serve_over.new.io.source.now) (g.O.Sink.taken c.args.sink.now) (g.O.Sink.taken c.serve_over.new.io.sink.now) in
     let left = g.I.Source.left c.serve_over.new.io.source.now in
@@ -126,7 +129,7 @@ returns-in-Ok-clause-grown g c =
     let m = g.D.Caller.meaning in
     let order : Order g.P.Pick.State = record { gives = g.P.Pick.gives; later = g.P.Pick.later } in
     let set : Setting _ _ _ = setting c.args.self c.args.service (g.P.Pick.state c.args.pick.now) c.args.rounds in
-    let first = opened set _ (session_view sem m c.waiting_limit-session.result) c.into_desk-desk.result c.into_desk-desk.ensures c.new.ensures.view c.waiting_limit-session.ensures.view in
+    let first = opened set (session_view sem m c.open-session.result) c.into_desk-desk.result c.into_desk-desk.ensures c.open-session.ensures.view in
     let after = session_view sem m c.serve_over.new.session in
     let grown : Grown m (server_desk c.args.self) after.desk = subst (λ (v : SessionView _ _ sem.Call sem.Task). Grown m v.desk after.desk) first c.serve_over.ensures.grown in
     if_ok c.hand_back.result (λ served_now e. subst (λ (v : ServedView _ _). Grown m (server_desk c.args.self) v.desk) (sym e) grown) c.hand_back.ensures.handed
@@ -137,7 +140,7 @@ returns-in-Ok-clause-grown_stopped g c =
     let m = g.D.Caller.meaning in
     let order : Order g.P.Pick.State = record { gives = g.P.Pick.gives; later = g.P.Pick.later } in
     let set : Setting _ _ _ = setting c.args.self c.args.service (g.P.Pick.state c.args.pick.now) c.args.rounds in
-    let first = opened set _ (session_view sem m c.waiting_limit-session.result) c.into_desk-desk.result c.into_desk-desk.ensures c.new.ensures.view c.waiting_limit-session.ensures.view in
+    let first = opened set (session_view sem m c.open-session.result) c.into_desk-desk.result c.into_desk-desk.ensures c.open-session.ensures.view in
     let after = session_view sem m c.serve_over.new.session in
     let grown : Grown m (server_desk c.args.self) after.desk = subst (λ (v : SessionView _ _ sem.Call sem.Task). Grown m v.desk after.desk) first c.serve_over.ensures.grown in
     if_err c.hand_back.result (λ stopped s. subst (λ d. Grown m (server_desk c.args.self) d) (sym s.1) grown) c.hand_back.ensures.stopped
@@ -152,7 +155,7 @@ returns-in-Err-clause-never_alone g c =
     let m = g.D.Caller.meaning in
     let order : Order g.P.Pick.State = record { gives = g.P.Pick.gives; later = g.P.Pick.later } in
     let set : Setting _ _ _ = setting c.args.self c.args.service (g.P.Pick.state c.args.pick.now) c.args.rounds in
-    let first = opened set _ (session_view sem m c.waiting_limit-session.result) c.into_desk-desk.result c.into_desk-desk.ensures c.new.ensures.view c.waiting_limit-session.ensures.view in
+    let first = opened set (session_view sem m c.open-session.result) c.into_desk-desk.result c.into_desk-desk.ensures c.open-session.ensures.view in
     let after = session_view sem m c.serve_over.new.session in
     let grown : Grown m (server_desk c.args.self) after.desk = subst (λ (v : SessionView _ _ sem.Call sem.Task). Grown m v.desk after.desk) first c.serve_over.ensures.grown in
     λ alone n e. never_alone m g.met.D.Caller.laws (server_desk c.args.self) after.desk grown c.in-Err.error c.in-Err.ensures.desk_spent alone n (sym c.stop.ensures.error ∙ e)

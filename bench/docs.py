@@ -1,0 +1,101 @@
+#!/usr/bin/env python3
+"""Measures changes of one character in an open document of lsp_documents.
+
+--build makes a small program over the crate, bench/out/docs_bench. It opens a document with the text that comes on
+standard input, and types so many letters, one change each, from a line and a character on. What a change takes is
+what the run takes longer than one with no change.
+
+Usage: bench/docs.py [PROGRAM [PROGRAM]]
+       bench/docs.py --build     (`rt` has to be on the path)
+"""
+import sys
+
+import built
+import measured
+from measured import Figure, Row
+
+CRATES = ["no_memory", "lsp_rpc", "lsp_shape", "lsp_uri", "lsp_kinds", "lsp_base", "lsp_documents"]
+
+SOURCE = """//! Types letters into an open document, one change each.
+#![tactic(auto)]
+
+use lsp_base::{Position, Range, TextDocumentContentChangeEvent};
+use lsp_documents::Documents;
+use std::io::Read;
+use std::process::ExitCode;
+use std::{env, io};
+
+// The number that an argument writes, or 0.
+fn number(arguments: &Vec<String>, i: usize) -> u32 {
+    match arguments.get(i) {
+        Some(argument) => argument.parse::<u32>().unwrap_or(0),
+        None => 0,
+    }
+}
+
+fn run(rt: &HostRuntime) -> io::Result<bool> {
+    let alloc = rt.alloc();
+    let mut arguments = Vec::new(alloc);
+    for argument in env::args(rt)?.skip(1) {
+        arguments.push(argument)?;
+    }
+    let line = number(&arguments, 0);
+    let character = number(&arguments, 1);
+    let text = io::read_to_string(alloc, rt.stdin())?;
+    let mut documents = Documents::new(alloc);
+    let mut all_made = documents.open("file:///a", 0, text).is_ok();
+    for k in 0..number(&arguments, 2) {
+        let position = Position::new(line, character.saturating_add(k));
+        let change = [TextDocumentContentChangeEvent {
+            range: Some(Range::new(position, position)),
+            range_length: None,
+            text: String::from_str(alloc, "x")?,
+        }];
+        all_made = all_made && documents.change("file:///a", 1, &change).is_ok();
+    }
+    Ok(all_made)
+}
+
+fn main(rt: HostRuntime) -> ExitCode {
+    match run(&rt) {
+        Ok(true) => ExitCode::from(0),
+        _ => ExitCode::from(1),
+    }
+}
+"""
+
+LINE = "fn line() -> u32 { 40 } // 漢é a line\n".encode()
+
+
+def lines(size):
+    return LINE * (size // len(LINE))
+
+
+def rows_of(title, text, line, character, changes):
+    """The rows of a text and a place."""
+    def time(program, path):
+        words = [program, str(line), str(character)]
+        return [(measured.spent(words + [str(changes)], path)[0] - measured.spent(words + ["0"], path)[0])
+                * 1e6 / changes]
+
+    def memory(program, path):
+        return [measured.most_memory([program, str(line), str(character), "10"], path)]
+    write = lambda file: file.write(text())
+    yield Row("docs/time", "docs_bench", [Figure(title, "us a change")], time, [write])
+    yield Row("docs/memory", "docs_bench", [Figure(title, "peak KiB", max)], memory, [write], 1)
+
+
+def rows(_):
+    for size, changes in ((10_000, 10_000), (1_000_000, 10_000), (10_000_000, 500)):
+        count = size // len(LINE)
+        for place, line in (("start", 0), ("middle", count // 2), ("end", count)):
+            yield from rows_of("{:,} bytes, {}".format(size, place), lambda size=size: lines(size), line, 0, changes)
+    yield from rows_of("10,000,000 bytes in one line, end", lambda: b"a" * 10_000_000, 0, 10_000_000, 50)
+    yield from rows_of("10,000,000 empty lines, end", lambda: b"\n" * 10_000_000, 10_000_000, 0, 50)
+
+
+if __name__ == "__main__":
+    if sys.argv[1:] == ["--build"]:
+        built.build("docs_bench", CRATES, ["lsp_documents", "lsp_base"], SOURCE, "0", "0", "1")
+    else:
+        measured.main(rows, __doc__)

@@ -1,0 +1,313 @@
+#!/usr/bin/env python3
+"""Measures queries over an index of a program, and compares the answers with those of a plain script.
+
+The dumps have documents with ranges, result sets, chains of edges `next` that are 1,000 long, and items that
+lead to 1,000 ranges. A row tells lines a second and the most memory that was held, and beside it the same of
+this script's own plain queries, which read with json and look up in dicts. `--compare` makes random dumps, in
+which ids are repeated, missing, numbers or texts, and edges lead in circles, and asks both. With `--large` all
+queries are over one dump of 10,000 entries.
+
+Usage: bench/index.py PROGRAM [LINES..]             rows; lines are 10000 100000 1000000 unless given
+       bench/index.py --compare [--large] PROGRAM [QUERIES [SEED]]
+       bench/index.py --plain WORDS.. <DUMP          the plain script alone
+"""
+import json
+import os
+import random
+import subprocess
+import sys
+import tempfile
+
+# ---- The plain queries, by lists and dicts.
+
+
+def same(id):
+    """A number and a text are different ids."""
+    return (isinstance(id, str), id)
+
+
+class Dump:
+    def __init__(self, lines, request):
+        self.vertices, self.contained, self.nexts, self.results, self.items = {}, [], {}, {}, {}
+        for line in lines:
+            if not line.strip("\n"):
+                continue
+            entry = json.loads(line)
+            label = entry["label"]
+            if entry["type"] == "vertex":
+                self.vertices.setdefault(same(entry["id"]), entry)
+            elif label == "contains":
+                self.contained.append(entry)
+            elif label == "next":
+                self.nexts.setdefault(same(entry["outV"]), entry["inV"])
+            elif label == "textDocument/" + request:
+                self.results.setdefault(same(entry["outV"]), entry["inV"])
+            elif label == "item":
+                self.items.setdefault(same(entry["outV"]), []).append(entry)
+
+    def vertex(self, id, label):
+        entry = self.vertices.get(same(id))
+        return entry if entry is not None and entry["label"] == label else None
+
+    def chosen(self, uri, position):
+        named = set()
+        for edge in self.contained:
+            document = self.vertex(edge["outV"], "document")
+            if document is not None and document["uri"] == uri:
+                named.update(map(same, edge["inVs"]))
+        best = None
+        for key, entry in self.vertices.items():
+            if entry["label"] != "range" or key not in named:
+                continue
+            start, end = at(entry["start"]), at(entry["end"])
+            if start <= position < end and (best is None or start > best[0] or (start == best[0] and end < best[1])):
+                best = (start, end, entry["id"])
+        return None if best is None else best[2]
+
+    def reached(self, vertex):
+        passed = set()
+        while same(vertex) not in passed:
+            passed.add(same(vertex))
+            if same(vertex) in self.results:
+                return self.results[same(vertex)]
+            if same(vertex) not in self.nexts:
+                return None
+            vertex = self.nexts[same(vertex)]
+        return None
+
+    def add_locations(self, found, item):
+        document = self.vertex(item["document"], "document")
+        for id in item["inVs"] if document is not None else []:
+            place = self.vertex(id, "range")
+            if place is not None:
+                whole = {"range": {"end": tidy(place["end"]), "start": tidy(place["start"])}, "uri": document["uri"]}
+                found.setdefault(json.dumps(whole), whole)
+
+    def definition(self, result):
+        found = {}
+        for item in self.items.get(same(result), []):
+            self.add_locations(found, item)
+        return list(found.values())
+
+    def references(self, result):
+        results, found = {same(result): result}, {}
+        queue = [result]
+        for member in queue:
+            for item in self.items.get(same(member), []):
+                for id in item["inVs"] if item.get("property") == "referenceResults" else []:
+                    if same(id) not in results:
+                        results[same(id)] = id
+                        queue.append(id)
+        for member in queue:
+            for item in self.items.get(same(member), []):
+                if item.get("property") in ("declarations", "definitions", "references"):
+                    self.add_locations(found, item)
+        return list(found.values())
+
+
+def at(position):
+    return (position["line"], position["character"])
+
+
+def tidy(position):
+    return {"character": position["character"], "line": position["line"]}
+
+
+def asked(lines, request, uri, line, character):
+    return answered(Dump(lines, request), request, uri, line, character)
+
+
+def answered(dump, request, uri, line, character):
+    start = dump.chosen(uri, (int(line), int(character)))
+    result = None if start is None else dump.reached(start)
+    if request == "hover":
+        hover = None if result is None else dump.vertex(result, "hoverResult")
+        return None if hover is None else hover["result"]
+    if result is None:
+        return []
+    return dump.definition(result) if request == "definition" else dump.references(result)
+
+
+def text(value):
+    return json.dumps(value, separators=(",", ":"), ensure_ascii=False, sort_keys=True)
+
+
+# ---- Dumps.
+
+
+class Writer:
+    def __init__(self, file):
+        self.file, self.id, self.lines = file, 0, 0
+
+    def put(self, **entry):
+        self.id += 1
+        self.lines += 1
+        self.file.write(json.dumps({"id": self.id, **entry}, separators=(",", ":")) + "\n")
+        return self.id
+
+    def vertex(self, label, **rest):
+        return self.put(type="vertex", label=label, **rest)
+
+    def edge(self, label, out, **rest):
+        return self.put(type="edge", label=label, outV=out, **rest)
+
+
+def big(file, lines):
+    """Documents of 1,000 ranges; each third has a chain of 1,000 edges `next`, and an item of 1,000 ranges."""
+    writer, documents = Writer(file), 0
+    while writer.lines < lines:
+        document = writer.vertex("document", uri="file:///src/module_%d.rs" % documents, languageId="rust")
+        ranges = []
+        for n in range(1000):
+            ranges.append(writer.vertex("range", start={"line": n, "character": 4}, end={"line": n, "character": 12 + n % 9}))
+        definition = writer.vertex("definitionResult")
+        references = writer.vertex("referenceResult")
+        hover = writer.vertex("hoverResult", result={"contents": {"kind": "markdown", "value": "fn module_%d()" % documents}})
+        sets = [writer.vertex("resultSet")]
+        for n in range(999 if documents % 3 == 0 else 10):
+            sets.append(writer.vertex("resultSet"))
+            writer.edge("next", sets[-2], inV=sets[-1])
+        for each in ranges:
+            writer.edge("next", each, inV=sets[0])
+        for label, result in (("definition", definition), ("references", references), ("hover", hover)):
+            writer.edge("textDocument/" + label, sets[-1], inV=result)
+        writer.edge("item", definition, inVs=ranges[:1], document=document)
+        writer.edge("item", references, inVs=ranges, document=document, property="references")
+        writer.edge("contains", document, inVs=ranges)
+        documents += 1
+    return documents
+
+
+def any_dump(draw, lines, spread=3):
+    """Entries of all kinds, in any order, over few ids. Most edges lead between vertices of the labels that fit."""
+    ids = list(range(draw.choice([8, 20, 60] if lines < 1000 else [200, 2000]))) + [str(n) for n in range(4)]
+    first = {}
+
+    def id(*labels):
+        fit = [each for each in ids if first.get(same(each)) in labels]
+        return draw.choice(fit if fit and draw.random() < 0.85 else ids)
+
+    def some(label, most):
+        return [id(label) for _ in range(draw.randrange(most))]
+
+    def place(last):
+        return {"line": draw.randrange(spread) + last, "character": draw.randrange(6)}
+
+    out = []
+    for _ in range(lines):
+        kind = draw.choice(["document", "document", "range", "range", "range", "resultSet", "definitionResult", "referenceResult", "hoverResult",
+                            "next", "next", "next", "contains", "contains", "definition", "references", "hover", "item", "item", "item", "moniker"])
+        entry = {"id": draw.choice(ids)}
+        if kind in ("document", "range", "resultSet") or kind.endswith("Result"):
+            entry.update(type="vertex", label=kind)
+            first.setdefault(same(entry["id"]), kind)
+            if kind == "document":
+                entry.update(uri="file:///%s" % draw.choice("aab"), languageId="x")
+            elif kind == "range":
+                entry.update(start=place(0), end=place(1))
+            elif kind == "hoverResult":
+                entry.update(result={"contents": {"kind": "plaintext", "value": "h%s" % entry["id"]}})
+        elif kind == "next":
+            entry.update(type="edge", label=kind, outV=id("range", "resultSet"), inV=id("resultSet"))
+        elif kind == "contains":
+            entry.update(type="edge", label=kind, outV=id("document"), inVs=some("range", 9))
+        elif kind == "item":
+            role = draw.choice([None, "declarations", "definitions", "references", "referenceResults", "implementationResults"])
+            linked = role == "referenceResults"
+            entry.update(type="edge", label=kind, outV=id("referenceResult", "definitionResult"), document=id("document"),
+                         inVs=some("referenceResult" if linked else "range", 5))
+            if role is not None:
+                entry["property"] = role
+        elif kind == "moniker":
+            entry.update(type="edge", label=kind, outV=id("range"), inV=id("resultSet"))
+        else:
+            result = {"definition": "definitionResult", "references": "referenceResult", "hover": "hoverResult"}[kind]
+            entry.update(type="edge", label="textDocument/" + kind, outV=id("range", "resultSet"), inV=id(result))
+        out.append(json.dumps(entry) + draw.choice(["\n", "\n", "\r\n", "\n\n"]))
+    return out
+
+
+# ---- What is told.
+
+
+def measured(command, dump):
+    """The processor's seconds and the KiB of a run, its status, and what it printed."""
+    with open(dump, "rb") as source, tempfile.NamedTemporaryFile("r") as told:
+        run = subprocess.run(["/usr/bin/time", "-o", told.name, "-f", "%U %S %M"] + command, stdin=source, stdout=subprocess.PIPE)
+        user, system, kib = told.read().split()[-3:]
+        return float(user) + float(system), int(kib), run.returncode, run.stdout
+
+
+def rows(program, sizes):
+    for size in sizes:
+        with tempfile.NamedTemporaryFile("w", suffix=".lsif", delete=False) as file:
+            documents = big(file, size)
+        bytes_in = os.path.getsize(file.name)
+        with open(file.name) as dump:
+            lines = sum(1 for _ in dump)
+        for request in ("definition", "references", "hover"):
+            words = [request, "file:///src/module_%d.rs" % (documents // 3 * 3 if documents % 3 else documents - 3), "500", "6"]
+            told = [measured([program] + words, file.name) for _ in range(3)]
+            plain = measured([sys.executable, __file__, "--plain"] + words, file.name)
+            seconds, kib = max(0.005, min(each[0] for each in told)), max(each[1] for each in told)
+            same_answer = told[0][3] == plain[3] and told[0][2] == 0
+            print("%s of %d lines, %.1f MB: %.0f lines a second, %.1f MB a second, %d KiB (%.2f of the dump); "
+                  "plain %.0f lines a second, %d KiB; answers %s"
+                  % (request, lines, bytes_in / 1e6, lines / seconds, bytes_in / 1e6 / seconds, kib, kib * 1024 / bytes_in,
+                     lines / plain[0], plain[1], "agree" if same_answer else "DIFFER"), flush=True)
+        os.unlink(file.name)
+
+
+def compare_large(program, queries, seed):
+    """Queries over one dump, which the plain script reads once for each request."""
+    draw, failed, answers, spread = random.Random(seed), 0, 0, 100
+    lines = any_dump(draw, 10_000, spread)
+    told = [line.replace("\r", "") for line in "".join(lines).split("\n")]
+    dumps = {request: Dump(told, request) for request in ("definition", "references", "hover")}
+    with tempfile.TemporaryFile() as file:
+        file.write("".join(lines).encode())
+        for _ in range(queries):
+            words = [draw.choice(list(dumps)), "file:///%s" % draw.choice("aab"), str(draw.randrange(spread)), str(draw.randrange(6))]
+            wanted = text(answered(dumps[words[0]], *words)) + "\n"
+            file.seek(0)
+            given = subprocess.run([program] + words, stdin=file, stdout=subprocess.PIPE)
+            answers += wanted not in ("[]\n", "null\n")
+            if given.returncode != 0 or given.stdout.decode() != wanted:
+                failed += 1
+                print("%s: status %d, %s for %s" % (" ".join(words), given.returncode, given.stdout[:300], wanted[:300]))
+    print("%d queries over one dump of %d entries, %d of them with an answer, %d differ" % (queries, len(lines), answers, failed))
+    return failed
+
+
+def compare(program, queries, seed):
+    draw, failed, answers = random.Random(seed), 0, 0
+    for n in range(queries):
+        lines = any_dump(draw, draw.choice([10, 30, 100, 400, 10_000] if n % 50 == 0 else [10, 30, 100, 400]))
+        words = [draw.choice(["definition", "references", "hover"]), "file:///%s" % draw.choice("aab"), str(draw.randrange(4)), str(draw.randrange(6))]
+        wanted = text(asked([line.replace("\r", "") for line in "".join(lines).split("\n")], *words)) + "\n"
+        given = subprocess.run([program] + words, input="".join(lines).encode(), stdout=subprocess.PIPE)
+        answers += wanted not in ("[]\n", "null\n")
+        if given.returncode != 0 or given.stdout.decode() != wanted:
+            failed += 1
+            print("%s: status %d, %s for %s" % (" ".join(words), given.returncode, given.stdout[:300], wanted[:300]))
+            with open("/tmp/index-differs-%d.lsif" % n, "w") as file:
+                file.writelines(lines)
+    print("%d queries, %d of them with an answer, %d differ" % (queries, answers, failed))
+    return failed
+
+
+def main(words):
+    if words[:1] == ["--plain"]:
+        print(text(asked(sys.stdin, *words[1:])))
+    elif words[:1] == ["--compare"]:
+        way = compare_large if words[1:2] == ["--large"] else compare
+        words = [word for word in words if word != "--large"]
+        sys.exit(way(words[1], int((words[2:3] or ["2000"])[0]), int((words[3:4] or ["1"])[0])) != 0)
+    elif words:
+        rows(words[0], [int(each) for each in words[1:]] or [10_000, 100_000, 1_000_000])
+    else:
+        sys.exit(__doc__)
+
+
+if __name__ == "__main__":
+    main(sys.argv[1:])

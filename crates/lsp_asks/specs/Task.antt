@@ -1,0 +1,12 @@
+-- The calls that the server's tasks go on with.
+use Rattle.lsp_asks.specs.declared.asks.Task.{Task}
+use Rattle.lsp_asks.specs.declared.asks.Task.TheVariants as tasks
+use Rattle.lsp_service.specs.declared.call.Call.TheVariants as calls
+use Rattle.lsp_service.specs.declared.call.LifeCall.TheVariants as life_calls
+use Rattle.lsp_service.specs.declared.call.WorkCall.TheVariants as work_calls
+use Rattle.lsp_service.specs.Calls.{show_call}
+use Rattle.lsp_service.specs.Data.{MethodCall}
+
+abbrev pub task_call : Task → MethodCall
+task_call (tasks.Folders ticket) = show_call (calls.Life (life_calls.Initialized (record {})))
+task_call (tasks.Command params) = show_call (calls.Work (work_calls.ExecuteCommand params))

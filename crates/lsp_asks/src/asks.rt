@@ -1,0 +1,103 @@
+// The server: it asks for the folders of the workspace, marks what is opened, and reports how far a
+// command is.
+use crate::params::{begun, ended, folders_line, greeting, offers};
+use lsp_client::{Answered, Asked, Client, Ticket};
+use lsp_desk::{Caller, DeskFault};
+use lsp_service::{
+    Asking, Call, LifeCall, LifeReply, NoMemory, Reply, Started, SyncCall, WorkCall, WorkReply,
+    initialize_reply, let_go, not_found_for,
+};
+use lsp_types::notification::Progress;
+use lsp_types::request::WorkspaceFoldersRequest;
+use lsp_types::{ExecuteCommandParams, MessageType};
+use serde_json::Value;
+use std::alloc::Global;
+
+#[derive(Drop)]
+pub struct Asks;
+
+/// What is left of a call that goes on.
+#[derive(Drop)]
+pub enum Task {
+    /// `initialized`, until the folders of the workspace have come.
+    Folders(Ticket<WorkspaceFoldersRequest>),
+    /// `workspace/executeCommand`, until it is polled again.
+    Command(ExecuteCommandParams),
+}
+
+impl<D: Caller> Asking<D> for Asks {
+    ghost use Rattle.lsp_asks.specs.Task.{task_call};
+
+    type Task = Task;
+
+    ghost call_of = { task_call };
+
+    fn call(
+        &mut self,
+        alloc: Global,
+        call: Call,
+        client: &mut D,
+    ) -> Result<Started<Task>, DeskFault> {
+        match call {
+            Call::Life(LifeCall::Initialized(_)) => {
+                let_go(call);
+                client.log_message(alloc, MessageType::INFO, "Which folders are open?")?;
+                match client.workspace_folders(alloc)? {
+                    Asked::Ticket(ticket) => Ok(Started::Later(Task::Folders(ticket))),
+                    Asked::Refused(error) => Ok(Started::Now(Reply::Error(error))),
+                }
+            }
+            Call::Sync(SyncCall::DidOpen(params)) => {
+                let document = params.text_document;
+                let found = greeting(alloc, &document)?;
+                client.publish_diagnostics(alloc, document.uri, found, Some(document.version))?;
+                Ok(Started::Now(Reply::Noted))
+            }
+            Call::Work(WorkCall::ExecuteCommand(params)) => match begun(alloc, &params)? {
+                Some(progress) => {
+                    client.send_notification::<Progress>(alloc, progress)?;
+                    Ok(Started::Later(Task::Command(params)))
+                }
+                None => Ok(Started::Later(Task::Command(params))),
+            },
+            other => Ok(Started::Now(reply(alloc, other)?)),
+        }
+    }
+
+    fn resume(
+        &mut self,
+        alloc: Global,
+        task: Task,
+        client: &mut D,
+    ) -> Result<Started<Task>, DeskFault> {
+        match task {
+            Task::Folders(ticket) => match client.poll_answer(alloc, ticket)? {
+                Answered::Value(folders) => {
+                    let line = folders_line(alloc, folders)?;
+                    client.log_message(alloc, MessageType::INFO, &line)?;
+                    Ok(Started::Now(Reply::Noted))
+                }
+                Answered::Error(error) => Ok(Started::Now(Reply::Error(error))),
+                Answered::Pending(ticket) => Ok(Started::Later(Task::Folders(ticket))),
+            },
+            Task::Command(params) => match ended(params) {
+                Some(progress) => {
+                    client.send_notification::<Progress>(alloc, progress)?;
+                    Ok(Started::Now(Reply::Work(WorkReply::ExecuteCommand(Ok(None)))))
+                }
+                None => Ok(Started::Now(Reply::Work(WorkReply::ExecuteCommand(Ok(None))))),
+            },
+        }
+    }
+}
+
+// The replies to calls that need no client.
+fn reply(alloc: Global, call: Call) -> Result<Reply, NoMemory> {
+    match call {
+        Call::Life(LifeCall::Initialize(params)) => Ok(initialize_reply(params, offers())),
+        Call::Life(LifeCall::Shutdown) => Ok(Reply::Life(LifeReply::Shutdown(Ok(())))),
+        Call::Custom(_, Some(params)) => Ok(Reply::Custom(Ok(params))),
+        Call::Custom(_, None) => Ok(Reply::Custom(Ok(Value::Null))),
+        other => not_found_for(alloc, other),
+    }
+}

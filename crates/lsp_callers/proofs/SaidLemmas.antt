@@ -1,0 +1,74 @@
+-- One call more of a caller, and its seat taken in.
+use Rattle.std.proofs.Common.{◌≡◌, ◌+◌, ℕ, List, [], ◌∷◌, ◌++◌, length, refl, sym, ap, ◌∙◌, Bool, true, false, true≢false, arith, append_assoc, Result, Ok, Err, inl, inr}
+use Rattle.std.specs.Prelude.{Option, Some, OnOk, IfOk, IsOk, ◌||◌, ◌⊎◌}
+use Rattle.std.specs.List.{flat_map}
+use Rattle.std.proofs.lemmas.List.Concat.{flat_map-cons}
+use Rattle.lsp_desk.specs.declared.call.ClientCall.{ClientCall}
+use Rattle.lsp_desk.specs.declared.call.ClientReply.{ClientReply}
+use Rattle.lsp_desk.specs.declared.call.ClientReply.TheVariants as client_replies
+use Rattle.lsp_desk.specs.declared.call.DeskFault.{DeskFault}
+use Rattle.lsp_desk.specs.declared.call.DeskFault.TheVariants as faults
+use Rattle.lsp_desk.specs.Call.{Call}
+use Rattle.lsp_desk.specs.Shown.{show_client_call, show_client_reply}
+use Rattle.lsp_desk.specs.Trace.{DeskEntry, AllBelow}
+use Rattle.lsp_shared.specs.declared.view.Asked.TheVariants as asked
+use Rattle.lsp_shared.specs.declared.view.Item.{Item}
+use Rattle.lsp_shared.specs.declared.view.View.{View}
+use Rattle.lsp_shared.specs.Rule.{AllClient}
+use Rattle.lsp_shared.specs.Steps.{Turned, AddsClients, item_for, by_client}
+use Rattle.lsp_callers.specs.declared.caller.Heard.{Heard}
+use Rattle.lsp_callers.specs.Said.{call_said, entry_said}
+use Rattle.lsp_callers.specs.Made.{entries_made}
+use Rattle.lsp_callers.specs.Callers.{said_of, all_said_of}
+use Rattle.lsp_callers.proofs.MadeLemmas.{made_turned}
+
+pub said_turned : {A E : Type 0} (v w : View) (call : ClientCall) (reply : ClientReply) (caller n : ℕ) (r : Result A E) → AllBelow (length v.seen) v.made
+    → Turned v (item_for by_client (asked.Client call) (Ok reply)) w → show_client_call call ≡ call_said caller n → OnOk r (reply ≡ client_replies.Sent)
+    → OnOk r (entries_made w ≡ entries_made v ++ entry_said caller n ∷ [])
+said_turned v w call reply caller n (Ok x) inside t is sent =
+    made_turned v w _ inside t
+    ∙ ap (λ (k : Call). let e : DeskEntry = record { call = k; reply = Some (show_client_reply reply) } in entries_made v ++ e ∷ []) is
+    ∙ ap (λ (k : ClientReply). let e : DeskEntry = record { call = call_said caller n; reply = Some (show_client_reply k) } in entries_made v ++ e ∷ []) sent
+said_turned v w call reply caller n (Err e) inside t is sent = tt
+
+-- ---- a seat is taken in
+
+-- both numbers together, or the first fault
+pub both_said : (start : List DeskEntry) (v w u : View) (h : Heard) (rest : List Heard) (all one sum : Result ℕ DeskFault) → OnOk sum (IsOk all × IsOk one)
+    → OnOk all (entries_made v ++ all_said_of (h ∷ rest) ≡ start) → IfOk one (λ n. (n ≡ h.messages) × (entries_made w ≡ said_of h)) → entries_made u ≡ entries_made v ++ entries_made w
+    → OnOk sum (entries_made u ++ all_said_of rest ≡ start)
+both_said start v w u h rest (Ok a) (Ok b) (Ok n) both was said made =
+    let s = all_said_of rest in
+    ap (λ l. l ++ s) made ∙ append_assoc (entries_made v) (entries_made w) s ∙ ap (λ l. entries_made v ++ (l ++ s)) said.1
+    ∙ ap (λ l. entries_made v ++ l) (sym (flat_map-cons said_of h rest)) ∙ was
+both_said start v w u h rest (Ok a) (Err e) (Ok n) both was said made = absurd (true≢false (sym both.1))
+both_said start v w u h rest (Err e) (Ok b) (Ok n) both was said made = absurd (true≢false (sym both.0))
+both_said start v w u h rest (Err e) (Err f) (Ok n) both was said made = absurd (true≢false (sym both.0))
+both_said start v w u h rest all one (Err f) both was said made = tt
+
+pub both_sent : (P : ℕ → Type 0) (total messages left left2 : ℕ) (all one sum : Result ℕ DeskFault) → OnOk sum (IsOk all × IsOk one) → IfOk sum (λ n. IfOk all (λ a. IfOk one (λ b. n ≡ a + b)))
+    → IfOk all (λ a. a + left ≡ total) → IfOk one (λ b. (b ≡ messages) × P b) → left ≡ messages + left2 → IfOk sum (λ n. n + left2 ≡ total)
+both_sent P total messages left left2 (Ok a) (Ok b) (Ok n) both adds was said next = omega (arith, adds, was, said.0, next)
+both_sent P total messages left left2 (Ok a) (Err e) (Ok n) both adds was said next = absurd (true≢false (sym both.1))
+both_sent P total messages left left2 (Err e) (Ok b) (Ok n) both adds was said next = absurd (true≢false (sym both.0))
+both_sent P total messages left left2 (Err e) (Err f) (Ok n) both adds was said next = absurd (true≢false (sym both.0))
+both_sent P total messages left left2 all one (Err f) both adds was said next = tt
+
+pub or_left : (a b : Bool) → a ≡ true → a || b ≡ true
+or_left a b is = ap (λ c. c || b) is
+
+pub or_right : (a b : Bool) → b ≡ true → a || b ≡ true
+or_right true b is = refl
+or_right false b is = is
+
+pub joined_spent_by : {A B : Type 0} (a b : Bool) → A ⊎ B → (A → a ≡ true) → (B → b ≡ true) → a || b ≡ true
+joined_spent_by a b (inl x) f h = or_left a b (f x)
+joined_spent_by a b (inr y) f h = or_right a b (h y)
+
+AllClient-append : (a b : List Item) → AllClient a → AllClient b → AllClient (a ++ b)
+AllClient-append [] b p q = q
+AllClient-append (x ∷ a) b p q = (p.0, AllClient-append a b p.1 q)
+
+pub clients_on : (a b c : List Item) → AddsClients a b → AddsClients b c → AddsClients a c
+clients_on a b c one two =
+    (one.0 ++ two.0, two.1 ∙ ap (λ l. l ++ two.0) one.1 ∙ append_assoc a one.0 two.0, AllClient-append one.0 two.0 one.2 two.2)

@@ -1,0 +1,152 @@
+-- What a server that keeps its client's open documents does (LSP 3.17, "Text Document Synchronization").
+use Rattle.std.specs.Prelude.{◌≡◌, ℕ, pos, Bool, true, false, List, [], codes, Option, Some, None, option_map, unwrap_or, is_none, string_bytes, Result, Ok, Err}
+use Rattle.std.specs.Option.{option_and_then}
+use Rattle.std.specs.Str.{chars, encode_utf8_all}
+use Rattle.std.specs.FinMap as map
+use Rattle.serde_json.specs.Data.{Data, null, string, number, object, member, no_members}
+use Rattle.serde_json.specs.Find.{get, as_str, of_integer}
+use Rattle.serde_json.specs.View.{view}
+use Rattle.lsp_rpc.specs.declared.code.ErrorCode.TheVariants.{InvalidParams, MethodNotFound}
+use Rattle.lsp_rpc.specs.Message.{ErrorData, error_with_code}
+use Rattle.lsp_desk.specs.Call.{Call as DeskCall}
+use Rattle.lsp_desk.specs.Trace.{DeskEntry}
+use Rattle.lsp_uri.specs.Uri.{uri_text}
+use Rattle.lsp_initialize.specs.declared.server.ServerCapabilities.{ServerCapabilities}
+use Rattle.lsp_initialize.specs.Server.{initialize_result_row}
+use Rattle.lsp_offer_text.specs.declared.sync.TextDocumentSyncCapability.TheVariants as sync_capability
+use Rattle.lsp_offer_text.specs.declared.sync.TextDocumentSyncOptions.{TextDocumentSyncOptions}
+use Rattle.lsp_work.specs.declared.document.DidChangeTextDocumentParams.{DidChangeTextDocumentParams}
+use Rattle.lsp_work.specs.declared.document.DidCloseTextDocumentParams.{DidCloseTextDocumentParams}
+use Rattle.lsp_work.specs.declared.document.DidOpenTextDocumentParams.{DidOpenTextDocumentParams}
+use Rattle.lsp_documents.specs.Documents.{DocumentMap, Notification, Opened, Changed, Closed, accepted}
+use Rattle.lsp_documents.specs.OpenDocument.{OpenDocument, document_of}
+use Rattle.lsp_methods.specs.declared.method.Method.TheVariants as methods
+use Rattle.lsp_methods.specs.declared.method.LifeMethod.TheVariants as life
+use Rattle.lsp_client.specs.declared.answers.Told.{Told}
+use Rattle.lsp_client.specs.Client.{IsTold}
+use Rattle.lsp_client.specs.Methods.{log_message_call}
+use Rattle.lsp_service.specs.declared.call.Call.{Call}
+use Rattle.lsp_service.specs.declared.call.Call.TheVariants as calls
+use Rattle.lsp_service.specs.declared.call.LifeCall.TheVariants as life_calls
+use Rattle.lsp_service.specs.declared.call.SyncCall.TheVariants as sync_calls
+use Rattle.lsp_service.specs.declared.server.NoTask.{NoTask}
+use Rattle.lsp_service.specs.Calls.{show_call}
+use Rattle.lsp_service.specs.Data.{MethodCall, MethodReply, answer, custom_answer, refusal, noted, nil_row}
+use Rattle.lsp_service.specs.declared.reply.Reply.{Reply}
+use Rattle.lsp_service.specs.Open.{no_call}
+use Rattle.lsp_service.specs.Replies.{show_reply}
+use Rattle.lsp_service.specs.Server.{Start, Now, Later, ServerSemantics}
+use Rattle.lsp_docs.specs.declared.docs.DocsServer.{DocsServer}
+
+-- ---- what a notification tells of a document
+
+abbrev pub opening_of : DidOpenTextDocumentParams → Notification
+opening_of p = Opened (uri_text p.text_document.uri) (document_of p.text_document.version (chars (string_bytes p.text_document.text)))
+
+abbrev pub change_of : DidChangeTextDocumentParams → Notification
+change_of p = Changed (uri_text p.text_document.uri) p.text_document.version p.content_changes.items
+
+abbrev pub closing_of : DidCloseTextDocumentParams → Notification
+closing_of p = Closed (uri_text p.text_document.uri)
+
+-- ---- `docs/text`
+
+-- the params are an object with a string `uri`
+abbrev pub requested_uri : Option Data → Option (List ℕ)
+requested_uri params = option_and_then as_str (option_and_then (get (codes "uri")) params)
+
+abbrev pub document_data : OpenDocument → Data
+document_data d = object (member (codes "text") (string (encode_utf8_all d.text)) (member (codes "version") (number (of_integer d.version)) no_members))
+
+-- null where the document isn't open
+abbrev pub found_data : Option OpenDocument → Data
+found_data None = null
+found_data (Some d) = document_data d
+
+abbrev pub text_answer : DocumentMap → Option (List ℕ) → Result Data ErrorData
+text_answer ds None = Err (error_with_code InvalidParams)
+text_answer ds (Some uri) = Ok (found_data (map.get ds uri))
+
+-- ---- what a call comes to
+
+-- a reply to `initialize`; another reply; or a notification of a document
+pub data DocsTurn : Type 0 where
+  offers : DocsTurn
+  replies : MethodReply → DocsTurn
+  tells : Notification → DocsTurn
+
+abbrev pub docs_turn : DocumentMap → Call → DocsTurn
+docs_turn ds (calls.Life (life_calls.Initialize p)) = offers
+docs_turn ds (calls.Life life_calls.Shutdown) = replies (answer (methods.Life life.Shutdown) (Ok (nil_row.shown tt)))
+docs_turn ds (calls.Sync (sync_calls.DidOpen p)) = tells (opening_of p)
+docs_turn ds (calls.Sync (sync_calls.DidChange p)) = tells (change_of p)
+docs_turn ds (calls.Sync (sync_calls.DidClose p)) = tells (closing_of p)
+docs_turn ds (calls.Custom n params) = replies (custom_answer (text_answer ds (requested_uri (option_map view params))))
+docs_turn ds c = replies (refusal (error_with_code MethodNotFound))
+
+-- documents are to be told when they are opened, changed and closed, and changes in ranges
+abbrev pub wanted_sync : TextDocumentSyncOptions
+wanted_sync = record { open_close = Some true; change = Some (pos 2); will_save = None; will_save_wait_until = None; save = None }
+
+pub record OffersSync (reply : MethodReply) : Type 0 where
+  pub capabilities : ServerCapabilities
+  pub sync : capabilities.text_document_sync ≡ Some (sync_capability.Options wanted_sync)
+  pub is : reply ≡ answer (methods.Life life.Initialize) (Ok (initialize_result_row.shown (record { capabilities = capabilities; server_info = None })))
+
+-- the documents and the reply then
+abbrev pub TurnsTo : DocsTurn → DocumentMap → DocumentMap → MethodReply → Type 0
+TurnsTo offers ds ds2 reply = (ds2 ≡ ds) × OffersSync reply
+TurnsTo (replies r) ds ds2 reply = (ds2 ≡ ds) × (reply ≡ r)
+TurnsTo (tells n) ds ds2 reply = (ds2 ≡ unwrap_or (accepted n ds) ds) × (reply ≡ noted)
+
+-- whether it is a notification that isn't accepted
+abbrev pub is_refused : DocsTurn → DocumentMap → Bool
+is_refused offers ds = false
+is_refused (replies r) ds = false
+is_refused (tells n) ds = is_none (accepted n ds)
+
+-- what the code has to reply; none, where the notification isn't accepted
+abbrev pub Turned : DocsTurn → DocumentMap → DocumentMap → Option Reply → Type 0
+Turned turn ds ds2 (Some reply) = (is_refused turn ds ≡ false) × TurnsTo turn ds ds2 (show_reply reply)
+Turned turn ds ds2 None = (is_refused turn ds ≡ true) × TurnsTo turn ds ds2 noted
+
+-- that is logged, once, as an error; nothing else is asked of the client
+abbrev pub refused_call : DeskCall
+refused_call = log_message_call (pos 1) (codes "refused")
+
+abbrev pub LogsRefusal : Bool → List DeskEntry → Type 0
+LogsRefusal true asked = (told : Told) × IsTold refused_call told asked
+LogsRefusal false asked = asked ≡ []
+
+-- ---- the server
+
+-- the call, as the code has it, came to this
+pub record DocsPoll (s : DocsServer) (c : MethodCall) (asked : List DeskEntry) (s2 : DocsServer) (start : Start NoTask) : Type 0 where
+  pub call : Call
+  pub shows : c ≡ show_call call
+  pub reply : MethodReply
+  pub is : start ≡ Now reply
+  pub turns : TurnsTo (docs_turn s.documents call) s.documents s2.documents reply
+  pub logs : LogsRefusal (is_refused (docs_turn s.documents call) s.documents) asked
+
+-- a task, of which none is ever made, goes on
+pub record DocsGoesOn (s : DocsServer) (t : NoTask) (asked : List DeskEntry) (s2 : DocsServer) (start : Start NoTask) : Type 0 where
+  pub asks : asked ≡ []
+  pub same : s2 ≡ s
+  pub is : start ≡ Later t
+
+pub record DocsAnswers (c : MethodCall) (r : MethodReply) : Type 0 where
+  pub before : DocsServer
+  pub asked : List DeskEntry
+  pub after : DocsServer
+  pub polled : DocsPoll before c asked after (Now r)
+
+abbrev pub docs_semantics : ServerSemantics DocsServer NoTask
+docs_semantics = record {
+  Task = NoTask;
+  show_task = λ t. t;
+  call_of = no_call;
+  begins = DocsPoll;
+  resumes = DocsGoesOn;
+  answers = DocsAnswers;
+}

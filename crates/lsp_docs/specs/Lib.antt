@@ -1,0 +1,4 @@
+pub mod Begun
+pub mod Docs
+pub mod DocsLaws
+pub mod Notices

@@ -1,0 +1,201 @@
+// The server.
+ghost use Rattle.std.specs.Prelude.{◌≡◌, IfOk, OnErr, Some, option_map};
+ghost use Rattle.std.specs.FinMap as map;
+ghost use Rattle.std.specs.Str.{encode_utf8_all};
+ghost use Rattle.serde_json.specs.View.{view};
+ghost use Rattle.lsp_service.specs.Data.{custom_answer};
+ghost use Rattle.lsp_service.specs.Replies.{show_reply};
+ghost use Rattle.lsp_docs.specs.Docs.{docs_turn, requested_uri as requested_uri_lem, text_answer, found_data, opening_of, change_of, closing_of, tells, OffersSync, Turned};
+
+use lsp_client::Client;
+use lsp_desk::{Caller, DeskFault};
+use lsp_documents::{ChangeError, Document, Documents, OpenError};
+use lsp_initialize::{InitializeParams, ServerCapabilities};
+use lsp_kinds::{MessageType, TextDocumentSyncKind};
+use lsp_offer_text::TextDocumentSyncOptions;
+use lsp_rpc::{Error, ErrorCode};
+use lsp_service::{
+    Call, LanguageServer, LifeCall, LifeReply, NoMemory, NoTask, Reply, Started, SyncCall,
+    initialize_reply, not_found_for,
+};
+use lsp_work::{
+    DidChangeTextDocumentParams, DidCloseTextDocumentParams, DidOpenTextDocumentParams,
+};
+use serde_json::{Value, json};
+use std::alloc::Global;
+
+/// Keeps the open documents of its client, and tells their texts: `docs/text`, which is the one
+/// custom method.
+#[derive(Drop)]
+pub struct DocsServer {
+    documents: Documents,
+}
+
+impl DocsServer {
+    /// No document is open.
+    pub fn new(alloc: Global) -> DocsServer
+        ensures { result.documents ≡ map.empty }
+    {
+        DocsServer {
+            documents: Documents::new(alloc),
+        }
+    }
+
+    /// The text of the open document of a URI.
+    pub fn text(&self, uri: &str) -> Option<&str>
+        ensures { option_map (λ t. t.now) result
+            ≡ option_map (λ d. encode_utf8_all d.text) (map.get self.now.documents uri.now) }
+    {
+        match self.documents.get(uri) {
+            Some(document) => Some(document.text()),
+            None => None,
+        }
+    }
+
+    // What a call comes to: its reply; or none, where it is a notification that isn't accepted.
+    fn answer(&mut self, alloc: Global, call: Call) -> Result<Option<Reply>, NoMemory>
+        ensures turned { IfOk result (Turned (docs_turn self.old.documents call)
+            self.old.documents self.new.documents) }
+        ensures err { OnErr result (self.new ≡ self.old) }
+    {
+        match call {
+            Call::Life(LifeCall::Initialize(params)) => Ok(Some(initialize(params))),
+            Call::Life(LifeCall::Shutdown) => { Ok(Some(Reply::Life(LifeReply::Shutdown(Ok(()))))) }
+            Call::Sync(SyncCall::DidOpen(params)) => self.open(params),
+            Call::Sync(SyncCall::DidChange(params)) => self.change(params),
+            Call::Sync(SyncCall::DidClose(params)) => Ok(self.close(params)),
+            Call::Custom(_, params) => Ok(Some(self.text_reply(alloc, params)?)),
+            other => Ok(Some(not_found_for(alloc, other)?)),
+        }
+    }
+
+    fn open(&mut self, params: DidOpenTextDocumentParams) -> Result<Option<Reply>, NoMemory>
+        ensures turned { IfOk result (Turned (tells (opening_of params)) self.old.documents
+            self.new.documents) }
+        ensures err { OnErr result (self.new ≡ self.old) }
+    {
+        let document = params.text_document;
+        let text = document.text;
+        match self
+            .documents
+            .open(document.uri.as_str(), document.version, text)
+        {
+            Ok(()) => Ok(Some(Reply::Noted)),
+            Err(OpenError::AlreadyOpen) => Ok(None),
+            Err(OpenError::NoMemory) => Err(NoMemory),
+        }
+    }
+
+    fn change(&mut self, params: DidChangeTextDocumentParams) -> Result<Option<Reply>, NoMemory>
+        ensures turned { IfOk result (Turned (tells (change_of params)) self.old.documents
+            self.new.documents) }
+        ensures err { OnErr result (self.new ≡ self.old) }
+    {
+        let document = &params.text_document;
+        match self.documents.change(
+            document.uri.as_str(),
+            document.version,
+            params.content_changes.as_slice(),
+        ) {
+            Ok(()) => Ok(Some(Reply::Noted)),
+            Err(ChangeError::NotOpen | ChangeError::StartBehindEnd) => Ok(None),
+            Err(ChangeError::NoMemory) => Err(NoMemory),
+        }
+    }
+
+    fn close(&mut self, params: DidCloseTextDocumentParams) -> Option<Reply>
+        ensures { Turned (tells (closing_of params)) self.old.documents self.new.documents result }
+    {
+        match self.documents.close(params.text_document.uri.as_str()) {
+            Some(_) => Some(Reply::Noted),
+            None => None,
+        }
+    }
+
+    // The reply to `docs/text`.
+    fn text_reply(&self, alloc: Global, params: Option<Value>) -> Result<Reply, NoMemory>
+        ensures { IfOk result (λ reply. show_reply reply ≡ custom_answer
+            (text_answer self.now.documents (requested_uri_lem (option_map view params)))) }
+    {
+        let uri = match &params {
+            Some(params) => requested_uri(params),
+            None => None,
+        };
+        match uri {
+            Some(uri) => Ok(Reply::Custom(Ok(document_value(alloc, self.documents.get(uri))?))),
+            None => Ok(Reply::Custom(Err(Error::new(alloc, ErrorCode::InvalidParams)?))),
+        }
+    }
+}
+
+impl<D: Caller> LanguageServer<D> for DocsServer {
+    ghost use Rattle.lsp_docs.specs.Docs.{docs_semantics};
+    ghost use Rattle.lsp_docs.specs.DocsLaws.{docs_laws};
+
+    type Task = NoTask;
+
+    ghost semantics = { docs_semantics };
+
+    ghost laws = { docs_laws };
+
+    fn call(
+        &mut self,
+        alloc: Global,
+        call: Call,
+        client: &mut D,
+    ) -> Result<Started<NoTask>, DeskFault> {
+        match self.answer(alloc, call)? {
+            Some(reply) => Ok(Started::Now(reply)),
+            None => {
+                client.log_message(alloc, MessageType::ERROR, "refused")?;
+                Ok(Started::Now(Reply::Noted))
+            }
+        }
+    }
+
+    fn resume(
+        &mut self,
+        _alloc: Global,
+        task: NoTask,
+        _client: &mut D,
+    ) -> Result<Started<NoTask>, DeskFault> {
+        Ok(Started::Later(task))
+    }
+}
+
+// Documents are to be told when they are opened, changed and closed, and changes in ranges.
+fn initialize(params: InitializeParams) -> Reply
+    ensures { OffersSync (show_reply result) }
+{
+    let mut capabilities = ServerCapabilities::default();
+    let wanted = TextDocumentSyncOptions {
+        open_close: Some(true),
+        change: Some(TextDocumentSyncKind::INCREMENTAL),
+        will_save: None,
+        will_save_wait_until: None,
+        save: None,
+    };
+    capabilities.text_document_sync = Some(wanted.into());
+    initialize_reply(params, capabilities)
+}
+
+// The params of `docs/text` are an object with a string `uri`.
+fn requested_uri(params: &Value) -> Option<&str>
+    ensures { option_map (λ uri. uri.now) result ≡ requested_uri_lem (Some (view params.now)) }
+{
+    params.get("uri").and_then(Value::as_str)
+}
+
+// What `docs/text` gives.
+fn document_value(alloc: Global, document: Option<&Document>) -> Result<Value, NoMemory>
+    ensures { IfOk result (λ value. view value
+        ≡ found_data (option_map (λ d. d.now) document.entry)) }
+{
+    let Some(document) = document else {
+        return Ok(Value::Null);
+    };
+    match json!(in alloc; {"text": document.text(), "version": document.version()}) {
+        Ok(value) => Ok(value),
+        Err(_) => Err(NoMemory),
+    }
+}

@@ -1,0 +1,5 @@
+pub mod Blocks
+pub mod Documents
+pub mod Lines
+pub mod OpenDocument
+pub mod Views

@@ -1,0 +1,79 @@
+// Changes of a text.
+ghost use Rattle.std.specs.Prelude.{◌≡◌, ◌≢◌, Some, None, Err, OnOk, OnErr, string_bytes};
+ghost use Rattle.std.specs.Str.{chars};
+ghost use Rattle.lsp_documents.specs.Documents.{changed, changed_in, all_changed};
+
+use crate::error::ChangeError;
+use crate::place::offsets;
+use lsp_base::{Range, TextDocumentContentChangeEvent};
+use std::alloc::AllocError;
+
+// Puts another text in place of the whole.
+fn replace_all(text: &mut String, new: &str) -> Result<(), AllocError>
+    ensures ok { OnOk result (string_bytes text.new ≡ new.now) }
+    ensures err { OnErr result (string_bytes text.new ≡ string_bytes text.old) }
+{
+    let end = text.len();
+    text.replace_range(0..end, new)
+}
+
+// Puts another text in place of what is between two positions.
+fn replace(text: &mut String, range: Range, new: &str) -> Result<(), ChangeError>
+    ensures ok { let before = chars (string_bytes text.old) in
+        OnOk result (changed_in (Some range) (chars new.now) before
+        ≡ Some (chars (string_bytes text.new))) }
+    ensures behind { result ≡ Err ChangeError.StartBehindEnd
+        → changed_in (Some range) (chars new.now) (chars (string_bytes text.old)) ≡ None }
+    ensures causes { result ≢ Err ChangeError.NotOpen }
+    ensures err { OnErr result (string_bytes text.new ≡ string_bytes text.old) }
+{
+    let (start, end) = offsets(
+        text.as_str(),
+        (range.start.line, range.start.character),
+        (range.end.line, range.end.character),
+    );
+    if end < start {
+        return Err(ChangeError::StartBehindEnd);
+    }
+    text.replace_range(start..end, new)?;
+    Ok(())
+}
+
+// Makes one change.
+fn apply(text: &mut String, change: &TextDocumentContentChangeEvent) -> Result<(), ChangeError>
+    ensures ok { OnOk result (changed change.now (chars (string_bytes text.old))
+        ≡ Some (chars (string_bytes text.new))) }
+    ensures behind { result ≡ Err ChangeError.StartBehindEnd
+        → changed change.now (chars (string_bytes text.old)) ≡ None }
+    ensures causes { result ≢ Err ChangeError.NotOpen }
+    ensures err { OnErr result (string_bytes text.new ≡ string_bytes text.old) }
+{
+    match change.range {
+        None => replace_all(text, change.text.as_str())?,
+        Some(range) => replace(text, range, change.text.as_str())?,
+    }
+    Ok(())
+}
+
+// Makes changes in order, or none: several are made in a copy of the text.
+pub(crate) fn apply_all(
+    text: &mut String,
+    changes: &[TextDocumentContentChangeEvent],
+) -> Result<(), ChangeError>
+    ensures ok { OnOk result (all_changed changes.now (chars (string_bytes text.old))
+        ≡ Some (chars (string_bytes text.new))) }
+    ensures behind { result ≡ Err ChangeError.StartBehindEnd
+        → all_changed changes.now (chars (string_bytes text.old)) ≡ None }
+    ensures causes { result ≢ Err ChangeError.NotOpen }
+    ensures err { OnErr result (string_bytes text.new ≡ string_bytes text.old) }
+{
+    if let [change] = changes {
+        return apply(text, change);
+    }
+    let mut draft = text.clone()?;
+    for change in changes {
+        apply(&mut draft, change)?;
+    }
+    *text = draft;
+    Ok(())
+}

@@ -1,0 +1,75 @@
+// Why the editor's notifications are not accepted.
+ghost use Rattle.std.specs.Prelude.{◌≡◌, Some, codes};
+ghost use Rattle.lsp_documents.specs.declared.error.ChangeError.TheVariants as change_errors;
+ghost use Rattle.lsp_documents.specs.declared.error.OpenError.TheVariants as open_errors;
+
+use std::alloc::{AllocError, AllocFailed};
+use std::error::Error;
+use std::fmt;
+
+/// Why a document is not opened.
+#[derive(Clone, Copy, Debug, PartialEq, Eq)]
+pub enum OpenError {
+    /// A document of this URI is open.
+    AlreadyOpen,
+    /// Out of memory.
+    NoMemory,
+}
+
+impl From<AllocError> for OpenError {
+    ghost from_gives = { λ _ e. e ≡ open_errors.NoMemory };
+
+    fn from(_error: AllocError) -> OpenError {
+        OpenError::NoMemory
+    }
+}
+
+impl<T: Drop> From<AllocFailed<T>> for OpenError {
+    ghost from_gives = { λ _ e. e ≡ open_errors.NoMemory };
+
+    fn from(_error: AllocFailed<T>) -> OpenError {
+        OpenError::NoMemory
+    }
+}
+
+impl fmt::Display for OpenError {
+    fn fmt<W: fmt::Write>(&self, f: &mut fmt::Formatter<W>) -> fmt::Result {
+        match self {
+            OpenError::AlreadyOpen => f.write_str("the document is open"),
+            OpenError::NoMemory => f.write_str("out of memory"),
+        }
+    }
+}
+
+impl Error for OpenError {}
+
+/// Why a document is not changed.
+#[derive(Clone, Copy, Debug, PartialEq, Eq)]
+pub enum ChangeError {
+    /// No document of this URI is open.
+    NotOpen,
+    /// A change has a range whose start is behind its end.
+    StartBehindEnd,
+    /// Out of memory.
+    NoMemory,
+}
+
+impl From<AllocError> for ChangeError {
+    ghost from_gives = { λ _ e. e ≡ change_errors.NoMemory };
+
+    fn from(_error: AllocError) -> ChangeError {
+        ChangeError::NoMemory
+    }
+}
+
+impl fmt::Display for ChangeError {
+    fn fmt<W: fmt::Write>(&self, f: &mut fmt::Formatter<W>) -> fmt::Result {
+        match self {
+            ChangeError::NotOpen => f.write_str("the document is not open"),
+            ChangeError::StartBehindEnd => f.write_str("a range has its start behind its end"),
+            ChangeError::NoMemory => f.write_str("out of memory"),
+        }
+    }
+}
+
+impl Error for ChangeError {}

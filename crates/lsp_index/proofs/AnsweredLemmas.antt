@@ -1,0 +1,200 @@
+-- What reading a dump comes to over a call.
+use Rattle.std.proofs.Common.{◌≡◌, ℕ, List, [], ◌∷◌, ◌++◌, Bool, true, false, ◌⊎◌, inl, inr, refl, sym, ◌∙◌, ap, subst, append_assoc}
+use Rattle.std.specs.Prelude.{◌≢◌, Option, Some, Ok, not}
+use Rattle.std.specs.Bool.{MatchBool}
+use Rattle.std.specs.Io.KnownBytes.{Consumes, Appends}
+use Rattle.std.proofs.lemmas.List.{append-nil}
+use Rattle.lsp_server.specs.declared.step.ServeError.{ServeError}
+use Rattle.lsp_server.specs.declared.step.ServeError.TheVariants.{ReadFault, WriteFault, ReadsSpent, DeskSpent, NoMemory}
+use Rattle.lsp_server.specs.Errors.{IsInStep, IsBetweenReads, ComesOfSink}
+use Rattle.lsp_server.specs.Reads.{Moment}
+use Rattle.lsp_server.specs.Served.{call_bytes}
+use Rattle.lsp_server.specs.Written.{IsPrefixOf}
+use Rattle.lsp_server.specs.Consuming.{Given, piece, end, ConsumerOutcome, goes_on, done, stops, IsLawfulConsumer, Did, Took, bytes_of, IsTimely, TookLast, consumer_outcome}
+use Rattle.lsp_server.proofs.KnownLemmas.{appends_none, appends_more, consumes_more, what_is_left, all_read, end_before, prefix_all}
+use Rattle.lsp_index.specs.declared.lines.Lines.{Lines}
+use Rattle.lsp_index.specs.declared.lines.Search.{Search}
+use Rattle.lsp_index.specs.Graph.{Graph, graph_of}
+use Rattle.lsp_index.specs.Queries.{QueryData, IsAnswer}
+use Rattle.lsp_index.specs.Entries.{HasBadLine}
+use Rattle.lsp_index.specs.Shown.{show_query}
+use Rattle.lsp_index.specs.Kept.{IsKept}
+use Rattle.lsp_index.specs.Answered.{IsAnswerLine, IsQueryAnswered, IsRefused, WroteBegun, WroteNone}
+use Rattle.lsp_index.specs.Reading.{IsAfter, TookMore, TookEnd, TookEndPart, TookGood, TookBad, TookBytes, Reads, dump_reading}
+use Rattle.lsp_index.proofs.LineLemmas.{bad_stays, bad_ended, entries_good}
+use Rattle.lsp_index.proofs.ReadingLemmas.{took_last_bad, answer_line}
+
+-- ---- the laws
+
+reads_none : (a : Lines × Search) → Reads a (piece []) goes_on [] a
+reads_none a = (refl, λ q before after. subst (λ l. IsAfter q l a) (sym (append-nil before)) after)
+
+pub took_both : (a b c : Lines × Search) (xs ys : List ℕ) → TookMore a xs b → TookMore b ys c → TookMore a (xs ++ ys) c
+took_both a b c xs ys p r = λ q before after. subst (λ l. IsAfter q l c) (append_assoc before xs ys) (r q (before ++ xs) (p q before after))
+
+reads_more : (a b c : Lines × Search) (xs ys ws vs : List ℕ) → Reads a (piece xs) goes_on ws b → Reads b (piece ys) goes_on vs c → Reads a (piece (xs ++ ys)) goes_on (ws ++ vs) c
+reads_more a b c xs ys ws vs p r = (ap (λ l. l ++ vs) p.0 ∙ r.0, took_both a b c xs ys p.1 r.1)
+
+abbrev EndPart : QueryData → List ℕ → List ℕ → Type 0
+EndPart q bytes written = (written ≡ []) ⊎ ((line : List ℕ) × IsAnswerLine q bytes line × IsPrefixOf written line)
+
+end_part : (q : QueryData) (bytes written : List ℕ) (t : Bool) → MatchBool t (HasBadLine bytes × (written ≡ [])) (IsAnswerLine q bytes written) → EndPart q bytes written
+end_part q bytes written true p = inl p.1
+end_part q bytes written false p = inr (written, p, prefix_all written)
+
+pub took_end_part : (a b : Lines × Search) (written : List ℕ) → TookEnd a written b → TookEndPart a written
+took_end_part a b written p = λ q bytes after. end_part q bytes written b.1.is_bad (p q bytes after)
+
+reads_refused : (a b : Lines × Search) (given : Given) (outcome : ConsumerOutcome) (written : List ℕ) (e : ServeError) → Reads a given outcome written b → ComesOfSink e → Reads a given (stops e) written b
+reads_refused a b (piece bytes) goes_on written e p sink = (sink, p.0)
+reads_refused a b (piece bytes) done written e p sink = (sink, p.0)
+reads_refused a b (piece bytes) (stops e0) written e p sink = (sink, p.1)
+reads_refused a b end goes_on written e p sink = absurd p
+reads_refused a b end done written e p sink = (sink, took_end_part a b written p)
+reads_refused a b end (stops e0) written e p sink = (sink, p.1)
+
+pub reading_lawful : IsLawfulConsumer dump_reading
+reading_lawful = record { opens = λ a b given written p. tt; none = λ a is. reads_none a; more = reads_more; refused = reads_refused }
+
+-- ---- what the consumer did
+
+pub did_piece : (a b : Lines × Search) (bytes : List ℕ) (taken : Option (List ℕ)) (good : Bool) → TookBytes a bytes good b → Did dump_reading a (piece bytes) (consumer_outcome (Ok (not good))) taken taken b
+did_piece a b bytes taken true t = record { written = []; does = (refl, t); writes = appends_none taken }
+did_piece a b bytes taken false t = record { written = []; does = (refl, t); writes = appends_none taken }
+
+pub did_nothing : (a b : Lines × Search) (bytes : List ℕ) (taken : Option (List ℕ)) (e : ServeError) → ComesOfSink e → Did dump_reading a (piece bytes) (stops e) taken taken b
+did_nothing a b bytes taken e sink = record { written = []; does = (sink, refl); writes = appends_none taken }
+
+pub did_no_end : (a b : Lines × Search) (taken : Option (List ℕ)) (e : ServeError) → ComesOfSink e → Did dump_reading a end (stops e) taken taken b
+did_no_end a b taken e sink = record { written = []; does = (sink, λ q bytes after. inl refl); writes = appends_none taken }
+
+-- the last line is bad
+pub did_bad_end : (lines : Lines) (search new : Search) (taken : Option (List ℕ)) → TookBad search lines.part.items new → Did dump_reading (lines, search) end done taken taken (lines, new)
+did_bad_end lines search new taken t =
+    let nothing : List ℕ = [] in
+    let same : nothing ≡ nothing = refl in
+    record {
+      written = nothing;
+      does = λ q bytes after. subst (λ b. MatchBool b (HasBadLine bytes × (nothing ≡ [])) (IsAnswerLine q bytes nothing)) (sym t.is_bad) (took_last_bad q bytes lines search after new t, same);
+      writes = appends_none taken;
+    }
+
+abbrev Answers : Search → List ℕ → Type 0
+Answers new line = (g : Graph) → IsKept g new.index → (text : List ℕ) × IsAnswer (show_query new.query) g text × (line ≡ text ++ 10 ∷ [])
+
+-- the line of the answer was written
+pub did_end : (lines : Lines) (search new : Search) (line : List ℕ) (taken taken_after : Option (List ℕ)) → TookGood search lines.part.items new → Answers new line → Appends taken taken_after line
+    → Did dump_reading (lines, search) end done taken taken_after (lines, new)
+did_end lines search new line taken taken_after t answers writes = record {
+  written = line;
+  does = λ q bytes after. subst (λ b. MatchBool b (HasBadLine bytes × (line ≡ [])) (IsAnswerLine q bytes line)) (sym (t.good ∙ after.good)) (answer_line q bytes lines search after new t line answers);
+  writes = writes;
+}
+
+-- some of it was written
+pub did_end_part : (lines : Lines) (search new : Search) (line : List ℕ) (taken taken_after : Option (List ℕ)) (e : ServeError) → ComesOfSink e → TookGood search lines.part.items new → Answers new line
+    → (written : List ℕ) × IsPrefixOf written line × Appends taken taken_after written → Did dump_reading (lines, search) end (stops e) taken taken_after (lines, new)
+did_end_part lines search new line taken taken_after e sink t answers part = record {
+  written = part.0;
+  does = (sink, λ q bytes after. inr (line, answer_line q bytes lines search after new t line answers, part.1));
+  writes = part.2;
+}
+
+-- ---- a call
+
+pub after_none : (lines : Lines) (search : Search) → lines.part.items ≡ [] → search.is_bad ≡ false → IsKept (graph_of []) search.index → IsAfter (show_query search.query) [] (lines, search)
+after_none lines search empty good kept = record { query = refl; good = good; part = empty; es = []; values = refl; kept = kept }
+
+of_sink : (a b : Lines × Search) (given : Given) (e : ServeError) (written : List ℕ) → Reads a given (stops e) written b → ComesOfSink e
+of_sink a b (piece bytes) e written d = d.0
+of_sink a b end e written d = d.0
+
+pub no_desk_of : (a b : Lines × Search) (begin now : Moment) (size : ℕ) (e : ServeError) → (IsInStep e → TookLast dump_reading a begin now size (stops e) b) → (n : ℕ) → e ≢ DeskSpent n
+no_desk_of a b begin now size (DeskSpent n) last = let t = last tt in absurd (of_sink t.mid b t.last (DeskSpent n) t.did.written t.did.does)
+no_desk_of a b begin now size ReadFault last = λ n is. absurd (cc)
+no_desk_of a b begin now size WriteFault last = λ n is. absurd (cc)
+no_desk_of a b begin now size ReadsSpent last = λ n is. absurd (cc)
+no_desk_of a b begin now size NoMemory last = λ n is. absurd (cc)
+
+module _ (q : QueryData) (a : Lines × Search) (start : IsAfter q [] a) (bytes : List ℕ) (begin : Moment) (is : begin.left ≡ Some bytes) where
+  -- nothing is written between two reads
+  quiet : (b : Lines × Search) (now : Moment) → Took dump_reading a begin now b → Appends begin.taken now.taken []
+  quiet b now t = subst (λ l. Appends begin.taken now.taken l) t.did.does.0 t.did.writes
+
+  pub between : (b : Lines × Search) (now : Moment) → Took dump_reading a begin now b → WroteNone (call_bytes bytes now.left begin.taken now.taken)
+  between b now t = record { read = t.read; gives = subst (λ l. Consumes l now.left t.read) is t.gives; writes = quiet b now t }
+
+  module _ (mid : Lines × Search) (middle : Moment) (took : Took dump_reading a begin middle mid) where
+    gave : Consumes (Some bytes) middle.left took.read
+    gave = subst (λ l. Consumes l middle.left took.read) is took.gives
+
+    after : IsAfter q took.read mid
+    after = took.did.does.1 q [] start
+
+    more_written : (now : Moment) (written : List ℕ) → Appends middle.taken now.taken written → Appends begin.taken now.taken written
+    more_written now written writes = appends_more begin.taken middle.taken now.taken [] written (quiet mid middle took) writes
+
+    module _ (b : Lines × Search) (now : Moment) where
+      refused_at : (xs : List ℕ) → Consumes middle.left now.left xs → Did dump_reading mid (piece xs) done middle.taken now.taken b → IsRefused (call_bytes bytes now.left begin.taken now.taken)
+      refused_at xs gives d =
+          let left = what_is_left bytes now.left (took.read ++ xs) (consumes_more (Some bytes) middle.left now.left took.read xs gave gives) in
+          record {
+            bad = subst HasBadLine (sym left.2) (bad_ended ((took.read ++ xs) ++ left.0) (bad_stays (took.read ++ xs) left.0 (d.does.1.1 q took.read after)));
+            writes = more_written now [] (subst (λ l. Appends middle.taken now.taken l) d.does.0 d.writes);
+          }
+
+      whole : Consumes middle.left now.left [] → IsTimely end begin.left now.left → (bytes ≡ took.read) × (now.left ≡ Some [])
+      whole gives timely =
+          let last : now.left ≡ Some [] = rw is at timely in
+          (all_read bytes took.read middle.left gave (end_before bytes took.read middle.left now.left gave gives last), last)
+
+      ended_at : Consumes middle.left now.left [] → IsTimely end begin.left now.left → (t : Bool) (written : List ℕ)
+          → MatchBool t (HasBadLine took.read × (written ≡ [])) (IsAnswerLine q took.read written) → Appends middle.taken now.taken written
+          → MatchBool t (IsRefused (call_bytes bytes now.left begin.taken now.taken)) (IsQueryAnswered q (call_bytes bytes now.left begin.taken now.taken))
+      ended_at gives timely true written p writes =
+          let w = whole gives timely in
+          record { bad = subst HasBadLine (sym w.0) p.0; writes = more_written now [] (subst (λ l. Appends middle.taken now.taken l) p.1 writes) }
+      ended_at gives timely false written p writes =
+          let w = whole gives timely in
+          let answers : IsAnswerLine q bytes written = subst (λ l. IsAnswerLine q l written) (sym w.0) p in
+          record { good = entries_good bytes answers.es answers.entries; ends = w.1; line = written; answers = answers; writes = more_written now written writes }
+
+      ended : (last : Given) → Consumes middle.left now.left (bytes_of last) → IsTimely last begin.left now.left → Did dump_reading mid last done middle.taken now.taken b
+          → MatchBool b.1.is_bad (IsRefused (call_bytes bytes now.left begin.taken now.taken)) (IsQueryAnswered q (call_bytes bytes now.left begin.taken now.taken))
+      ended (piece xs) gives timely d =
+          subst (λ t. MatchBool t (IsRefused (call_bytes bytes now.left begin.taken now.taken)) (IsQueryAnswered q (call_bytes bytes now.left begin.taken now.taken))) (sym d.does.1.0) (refused_at xs gives d)
+      ended end gives timely d = ended_at gives timely b.1.is_bad d.written (d.does q took.read after) d.writes
+
+      begun : (last : Given) (e : ServeError) → Consumes middle.left now.left (bytes_of last) → IsTimely last begin.left now.left → Did dump_reading mid last (stops e) middle.taken now.taken b
+          → WroteBegun q (call_bytes bytes now.left begin.taken now.taken)
+      begun (piece xs) e gives timely d = record { written = d.written; begins = inl d.does.1; writes = more_written now d.written d.writes }
+      begun end e gives timely d =
+          let w = whole gives timely in
+          record {
+            written = d.written;
+            begins = subst (λ l. EndPart q l d.written) (sym w.0) (d.does.1 q took.read after);
+            writes = more_written now d.written d.writes;
+          }
+
+  module _ (b : Lines × Search) (now : Moment) (size : ℕ) where
+    pub done_all : TookLast dump_reading a begin now size done b → MatchBool b.1.is_bad (IsRefused (call_bytes bytes now.left begin.taken now.taken)) (IsQueryAnswered q (call_bytes bytes now.left begin.taken now.taken))
+    done_all t = ended t.mid t.middle t.took b now t.last t.gives t.timely t.did
+
+    pub begun_last : (e : ServeError) → TookLast dump_reading a begin now size (stops e) b → WroteBegun q (call_bytes bytes now.left begin.taken now.taken)
+    begun_last e t = begun t.mid t.middle t.took b now t.last e t.gives t.timely t.did
+
+    pub begun_between : Took dump_reading a begin now b → WroteBegun q (call_bytes bytes now.left begin.taken now.taken)
+    begun_between t = record { written = []; begins = inl refl; writes = quiet b now t }
+
+    -- what was written at any error
+    pub begun_any : (e : ServeError) → (IsInStep e → TookLast dump_reading a begin now size (stops e) b) → (IsBetweenReads e → Took dump_reading a begin now b) → WroteBegun q (call_bytes bytes now.left begin.taken now.taken)
+    begun_any ReadFault last took = begun_between (took tt)
+    begun_any WriteFault last took = begun_last WriteFault (last tt)
+    begun_any ReadsSpent last took = begun_between (took tt)
+    begun_any (DeskSpent n) last took = begun_last (DeskSpent n) (last tt)
+    begun_any NoMemory last took = begun_last NoMemory (last tt)
+
+-- whether no line is bad
+pub flipped : (bad : Bool) (P Q : Type 0) → MatchBool bad P Q → MatchBool (not bad) Q P
+flipped true P Q p = p
+flipped false P Q p = p

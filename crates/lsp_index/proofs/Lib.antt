@@ -1,0 +1,9 @@
+pub mod TableLemmas
+pub mod ReachLemmas
+pub mod KeptLemmas
+pub mod SetLemmas
+pub mod ValueLemmas
+pub mod HoverLemmas
+pub mod LineLemmas
+pub mod ReadingLemmas
+pub mod AnsweredLemmas

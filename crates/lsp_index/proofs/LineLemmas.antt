@@ -1,0 +1,132 @@
+-- The lines that end in bytes, and the last one.
+use Rattle.std.proofs.Common.{◌≡◌, ◌==◌, ℕ, length, List, [], ◌∷◌, ◌++◌, Bool, true, false, cond, ◌||◌, not, Option, Some, None, map, filter, refl, sym, ◌∙◌, ap, subst, append_assoc, true≢false}
+use Rattle.std.specs.Prelude.{is_none}
+use Rattle.std.specs.List.{list_any, slice_split, onto_first}
+use Rattle.std.specs.Str.Lines.{lines, lines_of_parts, strip_carriage_return}
+use Rattle.std.proofs.lemmas.List.{append-nil, map-append}
+use Rattle.std.proofs.lemmas.List.Elements.{filter-append}
+use Rattle.std.proofs.lemmas.List.Folds.{list_any-append}
+use Rattle.lsp_shape.specs.Plain.{Plain}
+use Rattle.lsp_lsif.specs.Entry.{entry_row}
+use Rattle.lsp_lsif.specs.declared.entry.Entry.{Entry}
+use Rattle.lsp_index.specs.Entries.{value_of_line, entry_lines, AreEntries, HasBadLine}
+use Rattle.lsp_index.specs.Reading.{ended_lines, part_after, filled, values_of, shown_all, has_bad, HasBadEnded}
+
+-- ---- bytes after bytes
+
+pub ended-append : (p xs ys : List ℕ) → ended_lines p (xs ++ ys) ≡ ended_lines p xs ++ ended_lines (part_after p xs) ys
+ended-append p [] ys = refl
+ended-append p (b ∷ xs) ys = at (b == 10) (ended-append [] xs ys) (ended-append (p ++ b ∷ []) xs ys)
+  where
+    at : (t : Bool) → ended_lines [] (xs ++ ys) ≡ ended_lines [] xs ++ ended_lines (part_after [] xs) ys
+        → ended_lines (p ++ b ∷ []) (xs ++ ys) ≡ ended_lines (p ++ b ∷ []) xs ++ ended_lines (part_after (p ++ b ∷ []) xs) ys
+        → cond t (strip_carriage_return p ∷ ended_lines [] (xs ++ ys)) (ended_lines (p ++ b ∷ []) (xs ++ ys))
+        ≡ cond t (strip_carriage_return p ∷ ended_lines [] xs) (ended_lines (p ++ b ∷ []) xs) ++ ended_lines (cond t (part_after [] xs) (part_after (p ++ b ∷ []) xs)) ys
+    at true h k = ap (λ l. strip_carriage_return p ∷ l) h
+    at false h k = k
+
+pub part-append : (p xs ys : List ℕ) → part_after p (xs ++ ys) ≡ part_after (part_after p xs) ys
+part-append p [] ys = refl
+part-append p (b ∷ xs) ys = at (b == 10) (part-append [] xs ys) (part-append (p ++ b ∷ []) xs ys)
+  where
+    at : (t : Bool) → part_after [] (xs ++ ys) ≡ part_after (part_after [] xs) ys → part_after (p ++ b ∷ []) (xs ++ ys) ≡ part_after (part_after (p ++ b ∷ []) xs) ys
+        → cond t (part_after [] (xs ++ ys)) (part_after (p ++ b ∷ []) (xs ++ ys)) ≡ part_after (cond t (part_after [] xs) (part_after (p ++ b ∷ []) xs)) ys
+    at true h k = h
+    at false h k = k
+
+-- ---- all lines
+
+last_of : List ℕ → List (List ℕ)
+last_of p = cond (length p == 0) [] (p ∷ [])
+
+abbrev prefixed : List ℕ → List (List ℕ) → List (List ℕ)
+prefixed p [] = p ∷ []
+prefixed p (x ∷ xs) = (p ++ x) ∷ xs
+
+split_some : (bs : List ℕ) → (y : List ℕ) × (more : List (List ℕ)) × (slice_split (λ b. b == 10) bs ≡ y ∷ more)
+split_some [] = ([], [], refl)
+split_some (b ∷ bs) = let s = split_some bs in at (b == 10) s.0 s.1 s.2
+  where
+    at : (t : Bool) (y : List ℕ) (more : List (List ℕ)) → slice_split (λ b. b == 10) bs ≡ y ∷ more
+        → (z : List ℕ) × (rest : List (List ℕ)) × (cond t ([] ∷ slice_split (λ b. b == 10) bs) (onto_first b (slice_split (λ b. b == 10) bs)) ≡ z ∷ rest)
+    at true y more e = ([], slice_split (λ b. b == 10) bs, refl)
+    at false y more e = (b ∷ y, more, ap (onto_first b) e)
+
+ended_first : (p y : List ℕ) (more : List (List ℕ)) → lines_of_parts ((p ++ []) ∷ y ∷ more) ≡ strip_carriage_return p ∷ lines_of_parts (prefixed [] (y ∷ more))
+ended_first p y more = ap (λ q. strip_carriage_return q ∷ lines_of_parts (y ∷ more)) (append-nil p)
+
+unended_first : (p y : List ℕ) (b : ℕ) (more : List (List ℕ)) → lines_of_parts (prefixed p (onto_first b (y ∷ more))) ≡ lines_of_parts (prefixed (p ++ b ∷ []) (y ∷ more))
+unended_first p y b more = ap (λ q. lines_of_parts (q ∷ more)) (sym (append_assoc p (b ∷ []) y))
+
+lines_from : (p bs : List ℕ) → lines_of_parts (prefixed p (slice_split (λ b. b == 10) bs)) ≡ ended_lines p bs ++ last_of (part_after p bs)
+unfolding last_of
+lines_from p [] = ap (λ q. lines_of_parts (q ∷ [])) (append-nil p)
+lines_from p (b ∷ bs) = let s = split_some bs in at (b == 10) s.0 s.1 s.2 (lines_from [] bs) (lines_from (p ++ b ∷ []) bs)
+  where
+    at : (t : Bool) (y : List ℕ) (more : List (List ℕ)) → slice_split (λ b. b == 10) bs ≡ y ∷ more
+        → lines_of_parts (prefixed [] (slice_split (λ b. b == 10) bs)) ≡ ended_lines [] bs ++ last_of (part_after [] bs)
+        → lines_of_parts (prefixed (p ++ b ∷ []) (slice_split (λ b. b == 10) bs)) ≡ ended_lines (p ++ b ∷ []) bs ++ last_of (part_after (p ++ b ∷ []) bs)
+        → lines_of_parts (prefixed p (cond t ([] ∷ slice_split (λ b. b == 10) bs) (onto_first b (slice_split (λ b. b == 10) bs))))
+        ≡ cond t (strip_carriage_return p ∷ ended_lines [] bs) (ended_lines (p ++ b ∷ []) bs) ++ last_of (cond t (part_after [] bs) (part_after (p ++ b ∷ []) bs))
+    at true y more e h k =
+        ap (λ S. lines_of_parts ((p ++ []) ∷ S)) e ∙ ended_first p y more ∙ ap (λ S. strip_carriage_return p ∷ lines_of_parts (prefixed [] S)) (sym e)
+        ∙ ap (λ l. strip_carriage_return p ∷ l) h
+    at false y more e h k =
+        ap (λ S. lines_of_parts (prefixed p (onto_first b S))) e ∙ unended_first p y b more ∙ ap (λ S. lines_of_parts (prefixed (p ++ b ∷ []) S)) (sym e) ∙ k
+
+unprefixed : (bs : List ℕ) → prefixed [] (slice_split (λ b. b == 10) bs) ≡ slice_split (λ b. b == 10) bs
+unprefixed bs = let s = split_some bs in ap (prefixed []) s.2 ∙ sym s.2
+
+lines_are : (bytes : List ℕ) → lines bytes ≡ ended_lines [] bytes ++ last_of (part_after [] bytes)
+lines_are bytes = ap lines_of_parts (sym (unprefixed bytes)) ∙ lines_from [] bytes
+
+-- ---- what lines tell
+
+pub values-append : (xs ys : List (List ℕ)) → values_of (xs ++ ys) ≡ values_of xs ++ values_of ys
+values-append xs ys = ap (map value_of_line) (filter-append (λ l. not (length l == 0)) xs ys) ∙ map-append value_of_line (filled xs) (filled ys)
+
+pub bad-append : (xs ys : List (List ℕ)) → has_bad (xs ++ ys) ≡ (has_bad xs || has_bad ys)
+bad-append xs ys = ap (list_any (λ l. is_none (value_of_line l))) (filter-append (λ l. not (length l == 0)) xs ys) ∙ list_any-append (λ l. is_none (value_of_line l)) (filled xs) (filled ys)
+
+pub or_right : (a b : Bool) → b ≡ true → (a || b) ≡ true
+or_right true b h = refl
+or_right false b h = h
+
+-- an empty last line tells nothing
+last_filled : (p : List ℕ) → filled (last_of p) ≡ filled (p ∷ [])
+unfolding last_of
+last_filled p = at (length p == 0) refl
+  where
+    at : (t : Bool) → (length p == 0) ≡ t → filled (cond t [] (p ∷ [])) ≡ filled (p ∷ [])
+    at true h = sym (ap (λ b. cond (not b) (p ∷ []) []) h)
+    at false h = refl
+
+pub all_values : (bytes : List ℕ) → map value_of_line (entry_lines bytes) ≡ values_of (ended_lines [] bytes) ++ values_of (part_after [] bytes ∷ [])
+all_values bytes =
+    ap values_of (lines_are bytes) ∙ values-append (ended_lines [] bytes) (last_of (part_after [] bytes))
+    ∙ ap (λ l. values_of (ended_lines [] bytes) ++ map value_of_line l) (last_filled (part_after [] bytes))
+
+pub bad_end : (bytes : List ℕ) → has_bad (part_after [] bytes ∷ []) ≡ true → HasBadLine bytes
+bad_end bytes h =
+    ap has_bad (lines_are bytes) ∙ bad-append (ended_lines [] bytes) (last_of (part_after [] bytes))
+    ∙ or_right (has_bad (ended_lines [] bytes)) (has_bad (last_of (part_after [] bytes))) (ap (list_any (λ l. is_none (value_of_line l))) (last_filled (part_after [] bytes)) ∙ h)
+
+pub bad_stays : (xs ys : List ℕ) → HasBadEnded xs → HasBadEnded (xs ++ ys)
+bad_stays xs ys h =
+    ap has_bad (ended-append [] xs ys) ∙ bad-append (ended_lines [] xs) (ended_lines (part_after [] xs) ys) ∙ ap (λ b. b || has_bad (ended_lines (part_after [] xs) ys)) h
+
+pub bad_ended : (bytes : List ℕ) → HasBadEnded bytes → HasBadLine bytes
+bad_ended bytes h =
+    ap has_bad (lines_are bytes) ∙ bad-append (ended_lines [] bytes) (last_of (part_after [] bytes)) ∙ ap (λ b. b || has_bad (last_of (part_after [] bytes))) h
+
+any-values : (ls : List (List ℕ)) → list_any (λ l. is_none (value_of_line l)) ls ≡ list_any is_none (map value_of_line ls)
+any-values [] = refl
+any-values (l ∷ ls) = ap (λ b. is_none (value_of_line l) || b) (any-values ls)
+
+none_bad : (es : List Entry) → list_any is_none (shown_all es) ≡ false
+none_bad [] = refl
+none_bad (e ∷ es) = none_bad es
+
+-- where entries stand in all lines, none is bad
+pub entries_good : (bytes : List ℕ) (es : List Entry) → AreEntries bytes es → HasBadLine bytes → ⊥
+entries_good bytes es are bad = true≢false (sym bad ∙ any-values (entry_lines bytes) ∙ ap (list_any is_none) are ∙ none_bad es)

@@ -1,0 +1,99 @@
+-- Sets that keep the order in which their members came.
+use Rattle.std.proofs.Common.{◌≡◌, ℕ, ◌+◌, ◌<◌, inl, inr, length, take, List, [], ◌∷◌, ◌++◌, Bool, true, false, cond, map, fold, get_or, sym, ◌∙◌, ap, subst, zero, suc, add-one, arith}
+use Rattle.std.specs.Prelude.{Option, Some, None, slice_get, option_map, option_and_then}
+use Rattle.std.specs.List.{list_any}
+use Rattle.std.proofs.Math.Nat.{suc-add}
+use Rattle.std.proofs.lemmas.List.{map-append}
+use Rattle.std.proofs.lemmas.List.Sums.{fold_more}
+use Rattle.std.proofs.lemmas.List.Folds.{fold-map}
+use Rattle.std.proofs.lemmas.Option.{slice_get_cases, slice_get_past, slice_get-map}
+use Rattle.indexmap.specs.IndexSet.{insert_key}
+use Rattle.lsp_rpc.specs.Message.{IdData}
+use Rattle.lsp_rpc.specs.Ids.{same_id}
+use Rattle.lsp_rpc.specs.Shown.{show_id}
+use Rattle.lsp_rpc.specs.declared.id.Id.{Id}
+use Rattle.lsp_base.specs.declared.position.Position.{Position}
+use Rattle.lsp_base.specs.declared.position.Range.{Range}
+use Rattle.lsp_index.specs.declared.graph.Node.{Node}
+use Rattle.lsp_index.specs.Graph.{Graph}
+use Rattle.lsp_index.specs.Queries.{with_new_id, with_results, with_results_of, results_after, AreResults, candidate_in, with_candidate, closest_of, range_holding, range_in}
+use Rattle.lsp_index.specs.Shown.{show_node, show_vertex_of}
+use Rattle.lsp_index.specs.Kept.{same_key}
+use Rattle.lsp_index.proofs.TableLemmas.{any-shown}
+
+-- a fold over the members that a list shows, with one more
+pub fold_shown_more : {X A B : Type 0} (f : B → A → B) (show : X → A) (b : B) (xs : List X) (i : ℕ) (x : X) → i < length xs → x ≡ get_or xs i x
+    → fold f b (map show (take (i + 1) xs)) ≡ f (fold f b (map show (take i xs))) (show x)
+fold_shown_more {X} f show b xs i x within is =
+    sym_map (take (i + 1) xs) ∙ fold_more (λ b x. f b (show x)) b xs i x within ∙ ap (λ y. f (fold (λ b x. f b (show x)) b (take i xs)) (show y)) (sym is)
+    ∙ ap (λ a. f a (show x)) (sym (sym_map (take i xs)))
+  where
+    sym_map : (ys : List X) → fold f b (map show ys) ≡ fold (λ b x. f b (show x)) b ys
+    sym_map ys = fold-map f show b ys
+
+-- an id was put in, where it is new
+pub insert-shown : (keys new : List Id) (k : Id) (i : IdData) → show_id k ≡ i → new ≡ insert_key same_key keys k → map show_id new ≡ with_new_id (map show_id keys) i
+insert-shown keys new k i same is =
+    ap (map show_id) is ∙ at (list_any (same_key k) keys) (list_any (same_id (show_id k)) (map show_id keys)) (any-shown k keys) ∙ ap (with_new_id (map show_id keys)) same
+  where
+    at : (b d : Bool) → d ≡ b → map show_id (cond b keys (keys ++ k ∷ [])) ≡ cond d (map show_id keys) (map show_id keys ++ show_id k ∷ [])
+    at true d e = sym (ap (λ t. cond t (map show_id keys) (map show_id keys ++ show_id k ∷ [])) e)
+    at false d e = map-append show_id keys (k ∷ []) ∙ sym (ap (λ t. cond t (map show_id keys) (map show_id keys ++ show_id k ∷ [])) e)
+
+-- ---- results, with all that they include
+
+-- one more was gone through
+pub results_more : (g : Graph) (r : IdData) (keys : List Id) (new : List IdData) (i : ℕ) (x : Id) → results_after g r i ≡ map show_id keys → Some x ≡ slice_get keys i
+    → new ≡ with_results g (map show_id keys) (show_id x) → results_after g r (i + 1) ≡ new
+results_more g r keys new i x so_far here is =
+    ap (results_after g r) (add-one i) ∙ ap (λ l. with_results_of g l (slice_get l i)) so_far
+    ∙ ap (with_results_of g (map show_id keys)) (slice_get-map show_id keys i ∙ ap (option_map show_id) (sym here)) ∙ sym is
+
+-- none is left
+pub results_end : (g : Graph) (r : IdData) (keys : List Id) (i : ℕ) → results_after g r i ≡ map show_id keys → None ≡ slice_get keys i → AreResults g r (map show_id keys)
+results_end g r keys i so_far none = (i, so_far, slice_get-map show_id keys i ∙ ap (option_map show_id) (sym none))
+
+none_later : {X : Type 0} (xs : List X) (i k : ℕ) → slice_get xs i ≡ None → slice_get xs (k + i) ≡ None
+none_later {X} xs i k none = elim (slice_get_cases xs i).1 [ inl s ↦ absurd (differ s.0 (sym s.2 ∙ none)) | inr p ↦ slice_get_past xs (k + i) (omega (arith, p.0)) ]
+  where
+    differ : (x : X) → Some x ≡ None → ⊥
+    differ x e = cc
+
+-- then nothing is appended
+results_stay : (g : Graph) (r : IdData) (n k : ℕ) → slice_get (results_after g r n) n ≡ None → results_after g r (k + n) ≡ results_after g r n
+results_stay g r n zero none = let same : 0 + n ≡ n = omega arith in ap (results_after g r) same
+results_stay g r n (suc k) none =
+    ap (results_after g r) (suc-add k n) ∙ ap (λ l. with_results_of g l (slice_get l (k + n))) (results_stay g r n k none)
+    ∙ ap (with_results_of g (results_after g r n)) (none_later (results_after g r n) n k none)
+
+results_later : (g : Graph) (r : IdData) (rs : List IdData) (k : ℕ) (p : AreResults g r rs) → results_after g r (k + p.0) ≡ rs
+results_later g r rs k p = results_stay g r p.0 k (subst (λ l. slice_get l p.0 ≡ None) (sym p.1) p.2) ∙ p.1
+
+-- so they are one list
+pub results_only : (g : Graph) (r : IdData) (rs ss : List IdData) → AreResults g r rs → AreResults g r ss → rs ≡ ss
+results_only g r rs ss p q =
+    let same : q.0 + p.0 ≡ p.0 + q.0 = omega arith in
+    sym (results_later g r rs q.0 p) ∙ ap (results_after g r) same ∙ results_later g r ss p.0 q
+
+-- ---- the closest range
+
+pub closest_more : (named : List IdData) (p : Position) (es : List (Id × Node)) (i : ℕ) (old other new : Option (IdData × Range)) → i < length es
+    → old ≡ fold (with_candidate named p) None (map show_vertex_of (take i es))
+    → other ≡ option_and_then (λ e. candidate_in named p (show_vertex_of e)) (slice_get es i) → new ≡ closest_of old other
+    → new ≡ fold (with_candidate named p) None (map show_vertex_of (take (i + 1) es))
+closest_more named p es i old other new within so_far candidate is =
+    elim (slice_get_cases es i).1 [
+      | inl s ↦ is ∙ ap (closest_of old) (candidate ∙ ap (option_and_then (λ e. candidate_in named p (show_vertex_of e))) s.2) ∙ ap (λ o. with_candidate named p o (show_vertex_of s.0)) so_far
+          ∙ sym (fold_shown_more (with_candidate named p) show_vertex_of None es i s.0 within (sym s.3))
+      | inr past ↦ absurd (omega (arith, past.0, within))
+    ]
+
+pub candidate_yes : (keys : List Id) (p : Position) (id : Id) (node : Node) (b : Bool) → b ≡ list_any (same_key id) keys → b ≡ true
+    → candidate_in (map show_id keys) p (show_vertex_of (id, node)) ≡ range_holding (show_id id) p (range_in (show_node node))
+candidate_yes keys p id node b is there =
+    ap (λ t. cond t (range_holding (show_id id) p (range_in (show_node node))) None) (any-shown id keys ∙ sym is ∙ there)
+
+pub candidate_no : (keys : List Id) (p : Position) (id : Id) (node : Node) (b : Bool) → b ≡ list_any (same_key id) keys → b ≡ false
+    → candidate_in (map show_id keys) p (show_vertex_of (id, node)) ≡ None
+candidate_no keys p id node b is out =
+    ap (λ t. cond t (range_holding (show_id id) p (range_in (show_node node))) None) (any-shown id keys ∙ sym is ∙ out)

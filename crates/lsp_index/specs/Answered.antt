@@ -1,0 +1,48 @@
+-- What a program writes for a query over the bytes of a dump.
+use Rattle.std.specs.Prelude.{◌≡◌, ◌⊎◌, ℕ, List, [], ◌∷◌, ◌++◌, map, Option, Some, IfSome, String}
+use Rattle.std.specs.Io.KnownBytes.{Appends, Consumes}
+use Rattle.std.specs.declared.alloc.Global.{Global}
+use Rattle.lsp_server.specs.Served.{CallBytes}
+use Rattle.lsp_server.specs.Written.{IsPrefixOf}
+use Rattle.lsp_lsif.specs.declared.entry.Entry.{Entry}
+use Rattle.lsp_index.specs.Graph.{graph_of}
+use Rattle.lsp_index.specs.Queries.{QueryData, IsAnswer}
+use Rattle.lsp_index.specs.Entries.{AreEntries, HasBadLine, entry_data}
+use Rattle.lsp_index.specs.Words.{query_asked}
+
+-- the line that answers a query over a dump: the text of the answer, and LF
+pub record IsAnswerLine (q : QueryData) (bytes line : List ℕ) : Type 0 where
+  pub es : List Entry
+  pub entries : AreEntries bytes es
+  pub text : List ℕ
+  pub answers : IsAnswer q (graph_of (map (entry_data q.request) es)) text
+  pub line_is : line ≡ text ++ 10 ∷ []
+
+-- no line is bad, all bytes were read, and the line of the answer was written
+pub record IsQueryAnswered (q : QueryData) (call : CallBytes) : Type 0 where
+  pub good : ¬ HasBadLine call.bytes
+  pub ends : call.left ≡ Some []
+  pub line : List ℕ
+  pub answers : IsAnswerLine q call.bytes line
+  pub writes : Appends call.taken call.taken_after line
+
+-- a line is bad, and nothing was written
+pub record IsRefused (call : CallBytes) : Type 0 where
+  pub bad : HasBadLine call.bytes
+  pub writes : Appends call.taken call.taken_after []
+
+-- nothing was written, or what begins the line
+pub record WroteBegun (q : QueryData) (call : CallBytes) : Type 0 where
+  pub written : List ℕ
+  pub begins : (written ≡ []) ⊎ ((line : List ℕ) × IsAnswerLine q call.bytes line × IsPrefixOf written line)
+  pub writes : Appends call.taken call.taken_after written
+
+-- the words ask a query, over a source that tells its bytes: this holds of both
+abbrev pub WhereAsked : List (String Global) → Option (List ℕ) → (QueryData → List ℕ → Type 0) → Type 0
+WhereAsked words left P = IfSome (query_asked words) (λ q. IfSome left (P q))
+
+-- these bytes were read, and nothing was written
+pub record WroteNone (call : CallBytes) : Type 0 where
+  pub read : List ℕ
+  pub gives : Consumes (Some call.bytes) call.left read
+  pub writes : Appends call.taken call.taken_after []

@@ -1,0 +1,191 @@
+// A dump as a graph, as far as a query looks at it.
+ghost use Rattle.std.specs.Prelude.{◌≡◌, OnOk, [], map, option_map, string_bytes};
+ghost use Rattle.lsp_rpc.specs.Shown.{show_id};
+ghost use Rattle.lsp_uri.specs.Uri.{uri_text};
+ghost use Rattle.lsp_index.specs.Graph.{Graph, graph_of};
+ghost use Rattle.lsp_index.specs.Kept.{IsKept, with_entry};
+ghost use Rattle.lsp_index.specs.Queries.{document_in, range_in, hover_in, document_at, range_at, hover_at, items_from};
+ghost use Rattle.lsp_index.specs.Shown.{show_node, show_item_edge, show_seen};
+
+use crate::table::{put_first, put_item};
+use indexmap::IndexMap;
+use lsp_base::Range;
+use lsp_rpc::{Id, NoMemory};
+use lsp_uri::Uri;
+use std::alloc::Global;
+use std::collections::HashMap;
+
+/// A vertex.
+#[derive(Drop)]
+pub(crate) enum Node {
+    Document(Uri),
+    Range(Range),
+    /// The text of what a hover answers.
+    Hover(String),
+    /// One of a label that no query looks at. Its id is taken all the same.
+    Other,
+}
+
+impl Node {
+    pub(crate) fn document(&self) -> Option<&Uri>
+        ensures { option_map (λ u. uri_text u.now) result ≡ document_in (show_node self.now) }
+    {
+        match self {
+            Node::Document(uri) => Some(uri),
+            Node::Range(_) => None,
+            Node::Hover(_) => None,
+            Node::Other => None,
+        }
+    }
+
+    pub(crate) fn range(&self) -> Option<Range>
+        ensures { result ≡ range_in (show_node self.now) }
+    {
+        match self {
+            Node::Document(_) => None,
+            Node::Range(range) => Some(*range),
+            Node::Hover(_) => None,
+            Node::Other => None,
+        }
+    }
+
+    pub(crate) fn hover(&self) -> Option<&String>
+        ensures { option_map (λ s. string_bytes s.now) result ≡ hover_in (show_node self.now) }
+    {
+        match self {
+            Node::Document(_) => None,
+            Node::Range(_) => None,
+            Node::Hover(text) => Some(text),
+            Node::Other => None,
+        }
+    }
+}
+
+/// What the vertices that an edge `item` leads to are to the result.
+#[derive(Clone, Copy, Debug, PartialEq, Eq)]
+pub(crate) enum Role {
+    /// Where the symbol is declared, defined or used.
+    Place,
+    /// Further results that it includes.
+    Linked,
+    /// Nothing that references ask for.
+    Neither,
+}
+
+/// An edge `item`, from its result on.
+#[derive(Drop)]
+pub(crate) struct Item {
+    pub(crate) targets: Vec<Id>,
+    pub(crate) document: Id,
+    pub(crate) role: Role,
+}
+
+/// An edge `contains`.
+#[derive(Drop)]
+pub(crate) struct Outgoing {
+    pub(crate) from: Id,
+    pub(crate) targets: Vec<Id>,
+}
+
+/// An entry.
+#[derive(Drop)]
+pub(crate) enum Seen {
+    Vertex(Id, Node),
+    Contains(Outgoing),
+    Next(Id, Id),
+    /// An edge of the label that the query asks for.
+    Result(Id, Id),
+    Item(Id, Item),
+    /// An edge that the query never looks at.
+    Unseen,
+}
+
+/// What is kept of a dump.
+#[derive(Drop)]
+pub(crate) struct Index {
+    pub(crate) alloc: Global,
+    /// The first vertex of each id.
+    pub(crate) vertices: IndexMap<Id, Node>,
+    pub(crate) contained: Vec<Outgoing>,
+    /// Where the first edge `next` from each vertex leads.
+    pub(crate) nexts: IndexMap<Id, Id>,
+    /// The same for the label that is asked for.
+    pub(crate) results: IndexMap<Id, Id>,
+    /// The items of each result.
+    pub(crate) items: HashMap<Id, Vec<Item>>,
+}
+
+impl Index {
+    /// An index of no entries.
+    pub(crate) fn new(alloc: Global) -> Index
+        ensures { IsKept (graph_of []) result }
+    {
+        Index {
+            alloc,
+            vertices: IndexMap::new(alloc),
+            contained: Vec::new(alloc),
+            nexts: IndexMap::new(alloc),
+            results: IndexMap::new(alloc),
+            items: HashMap::new(alloc),
+        }
+    }
+
+    /// The URI of the document under an id.
+    pub(crate) fn document(&self, id: &Id) -> Option<&Uri>
+        ensures { (g : Graph) → IsKept g self.now
+            → option_map (λ u. uri_text u.now) result ≡ document_at g (show_id id.now) }
+    {
+        match self.vertices.get(id) {
+            Some(node) => node.document(),
+            None => None,
+        }
+    }
+
+    /// The range under an id.
+    pub(crate) fn range(&self, id: &Id) -> Option<Range>
+        ensures { (g : Graph) → IsKept g self.now → result ≡ range_at g (show_id id.now) }
+    {
+        match self.vertices.get(id) {
+            Some(node) => node.range(),
+            None => None,
+        }
+    }
+
+    /// The text of the hover under an id.
+    pub(crate) fn hover(&self, id: &Id) -> Option<&String>
+        ensures { (g : Graph) → IsKept g self.now
+            → option_map (λ s. string_bytes s.now) result ≡ hover_at g (show_id id.now) }
+    {
+        match self.vertices.get(id) {
+            Some(node) => node.hover(),
+            None => None,
+        }
+    }
+
+    /// The items of a result, in the order of the dump.
+    pub(crate) fn items_of(&self, id: &Id) -> &[Item]
+        ensures { (g : Graph) → IsKept g self.now
+            → map show_item_edge result.now ≡ items_from g (show_id id.now) }
+    {
+        match self.items.get(id) {
+            Some(items) => items.as_slice(),
+            None => &[],
+        }
+    }
+
+    /// Keeps one more entry.
+    pub(crate) fn keep(&mut self, entry: Seen) -> Result<(), NoMemory>
+        ensures { OnOk result ((g : Graph) → IsKept g self.old
+            → IsKept (with_entry g (show_seen entry)) self.new) }
+    {
+        match entry {
+            Seen::Vertex(id, node) => put_first(&mut self.vertices, id, node)?,
+            Seen::Contains(outgoing) => self.contained.push(outgoing)?,
+            Seen::Next(from, to) => put_first(&mut self.nexts, from, to)?,
+            Seen::Result(from, to) => put_first(&mut self.results, from, to)?,
+            Seen::Item(from, item) => put_item(self.alloc, &mut self.items, from, item)?,
+            Seen::Unseen => {}
+        }
+        Ok(())
+    }
+}

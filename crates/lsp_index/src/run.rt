@@ -1,0 +1,183 @@
+// The program but for its `main`.
+ghost use Rattle.std.specs.Prelude.{◌≡◌, ◌≢◌, ℕ, ◌≤◌, ◌<◌, ◌⊎◌, ◌↔◌, ◌+◌, ◌-◌, ◌^◌, None, length, IfOk, IfErr, OnErr, IfSome};
+ghost use Rattle.std.specs.Bool.{MatchBool};
+ghost use Rattle.std.specs.Result.{result_err};
+ghost use Rattle.lsp_server.specs.Errors.{IsBetweenReads};
+ghost use Rattle.lsp_server.specs.Leaves.{StaysFlushed, TellsFaults, WithinReads};
+ghost use Rattle.lsp_server.specs.SourceSink.{CountRose, IsFlushed};
+ghost use Rattle.lsp_server.specs.Served.{call_bytes};
+ghost use Rattle.lsp_index.specs.Answered.{IsQueryAnswered, IsRefused, WroteBegun, WroteNone, WhereAsked};
+ghost use Rattle.lsp_index.specs.Shown.{show_query};
+ghost use Rattle.lsp_index.specs.Words.{query_asked};
+
+use crate::Query;
+use crate::graph::Index;
+use crate::lines::{Lines, Search};
+use crate::words::read_words;
+use lsp_program::{Status, status_of};
+use lsp_rpc::NoMemory;
+use lsp_server::{Ends, ServeError, Sink, Source, Transport, over_reads};
+use std::alloc::Global;
+
+/// Answers the query that the words ask over the dump that the source holds, as one line of JSON,
+/// and gives the program's exit status.
+///
+/// With other words nothing is read or written.
+pub fn answer<I: Source, O: Sink>(
+    alloc: Global,
+    words: &Vec<String>,
+    source: &mut I,
+    sink: &mut O,
+) -> u8
+    ensures known { (result ≤ 8) × (result ≢ 1) × (result ≢ 7) }
+
+    // The words.
+    ensures usage { (result ≡ 2) ↔ (query_asked words.now.items ≡ None) }
+    ensures untouched { query_asked words.now.items ≡ None
+        → (source.new ≡ source.old) × (sink.new ≡ sink.old) }
+
+    // No line is bad, and the line of the answer was written.
+    ensures done { result ≡ 0 → WhereAsked words.now.items (I.left source.old) (λ q bytes.
+        IsQueryAnswered q (call_bytes bytes (I.left source.new) (O.taken sink.old) (O.taken sink.new))) }
+
+    // A line is bad, and nothing was written.
+    ensures bad { result ≡ 8 → WhereAsked words.now.items (I.left source.old) (λ q bytes.
+        IsRefused (call_bytes bytes (I.left source.new) (O.taken sink.old) (O.taken sink.new))) }
+
+    // What was written is flushed.
+    ensures flushed { (result ≡ 0) ⊎ (result ≡ 3) ⊎ (result ≡ 5) ⊎ (result ≡ 8)
+        → IsFlushed (O.taken sink.old) (O.flushed sink.old)
+        → IsFlushed (O.taken sink.new) (O.flushed sink.new) }
+
+    // Each failure has its cause, and is told.
+    ensures read { result ≡ 3 → CountRose (I.faults source.old) (I.faults source.new) }
+    ensures write { result ≡ 4 → CountRose (O.faults sink.old) (O.faults sink.new) }
+    ensures spent { result ≡ 5 → IfSome (I.left source.old) (λ bytes.
+        IfSome (I.left source.new) (λ rest. 2 ^ 64 - 1 + length rest ≤ length bytes)) }
+    ensures read_told { I.faults source.old < I.faults source.new → result ≡ 3 }
+    ensures write_told { O.faults sink.old < O.faults sink.new → result ≡ 4 }
+
+    // So with no failure, and with fewer bytes than reads, only these may come.
+    ensures complete { WhereAsked words.now.items (I.left source.old) (λ _ bytes.
+        length bytes < 2 ^ 64 - 1
+        → ¬ CountRose (I.faults source.old) (I.faults source.new)
+        → ¬ CountRose (O.faults sink.old) (O.faults sink.new)
+        → (result ≡ 0) ⊎ (result ≡ 6) ⊎ (result ≡ 8)) }
+
+    // What was written by then.
+    ensures unwritten { (result ≡ 3) ⊎ (result ≡ 5)
+        → WhereAsked words.now.items (I.left source.old) (λ q bytes.
+        WroteNone (call_bytes bytes (I.left source.new) (O.taken sink.old) (O.taken sink.new))) }
+    ensures part { (result ≡ 4) ⊎ (result ≡ 6) → WhereAsked words.now.items (I.left source.old) (λ q bytes.
+        WroteBegun q (call_bytes bytes (I.left source.new) (O.taken sink.old) (O.taken sink.new))) }
+{
+    match read_words(alloc, words) {
+        Ok(Some(query)) => answer_query(alloc, query, source, sink),
+        Ok(None) => Status::Usage as u8,
+        Err(NoMemory) => Status::NoMemory as u8,
+    }
+}
+
+// Answers a query, with all the reads that can be counted. No desk could be spent.
+#[tactic(auto, using(lsp_program::proofs::StatusLemmas::status_known))]
+fn answer_query<I: Source, O: Sink>(alloc: Global, query: Query, source: &mut I, sink: &mut O) -> u8
+    ensures known { (result ≤ 8) × (result ≢ 1) × (result ≢ 2) × (result ≢ 7) }
+    ensures done { result ≡ 0 → IfSome (I.left source.old) (λ bytes. IsQueryAnswered (show_query query)
+        (call_bytes bytes (I.left source.new) (O.taken sink.old) (O.taken sink.new))) }
+    ensures bad { result ≡ 8 → IfSome (I.left source.old) (λ bytes. IsRefused
+        (call_bytes bytes (I.left source.new) (O.taken sink.old) (O.taken sink.new))) }
+    ensures flushed { (result ≡ 0) ⊎ (result ≡ 3) ⊎ (result ≡ 5) ⊎ (result ≡ 8)
+        → IsFlushed (O.taken sink.old) (O.flushed sink.old)
+        → IsFlushed (O.taken sink.new) (O.flushed sink.new) }
+    ensures read { result ≡ 3 → CountRose (I.faults source.old) (I.faults source.new) }
+    ensures write { result ≡ 4 → CountRose (O.faults sink.old) (O.faults sink.new) }
+    ensures spent { result ≡ 5 → IfSome (I.left source.old) (λ bytes.
+        IfSome (I.left source.new) (λ rest. 2 ^ 64 - 1 + length rest ≤ length bytes)) }
+    ensures read_told { I.faults source.old < I.faults source.new → result ≡ 3 }
+    ensures write_told { O.faults sink.old < O.faults sink.new → result ≡ 4 }
+    ensures complete { IfSome (I.left source.old) (λ bytes. length bytes < 2 ^ 64 - 1
+        → ¬ CountRose (I.faults source.old) (I.faults source.new)
+        → ¬ CountRose (O.faults sink.old) (O.faults sink.new)
+        → (result ≡ 0) ⊎ (result ≡ 6) ⊎ (result ≡ 8)) }
+    ensures unwritten { (result ≡ 3) ⊎ (result ≡ 5)
+        → IfSome (I.left source.old) (λ bytes. WroteNone
+        (call_bytes bytes (I.left source.new) (O.taken sink.old) (O.taken sink.new))) }
+    ensures part { (result ≡ 4) ⊎ (result ≡ 6)
+        → IfSome (I.left source.old) (λ bytes. WroteBegun (show_query query)
+        (call_bytes bytes (I.left source.new) (O.taken sink.old) (O.taken sink.new))) }
+{
+    match answer_ends(alloc, query, source, sink, u64::MAX) {
+        Ok(true) => Status::Done as u8,
+        Ok(false) => Status::BadInput as u8,
+        Err(error) => status_of(error),
+    }
+}
+
+// Answers a query over a source and a sink, and says whether no line is bad.
+fn answer_ends<I: Source, O: Sink>(
+    alloc: Global,
+    query: Query,
+    source: &mut I,
+    sink: &mut O,
+    reads: u64,
+) -> Result<bool, ServeError>
+    ensures done { IfOk result (λ good. IfSome (I.left source.old) (λ bytes. MatchBool good
+        (IsQueryAnswered (show_query query)
+        (call_bytes bytes (I.left source.new) (O.taken sink.old) (O.taken sink.new)))
+        (IsRefused
+        (call_bytes bytes (I.left source.new) (O.taken sink.old) (O.taken sink.new))))) }
+    ensures flushed { StaysFlushed (O.taken sink.old) (O.flushed sink.old)
+        (O.taken sink.new) (O.flushed sink.new) (result_err result) }
+    ensures faults { TellsFaults (I.faults source.old) (I.faults source.new)
+        (O.faults sink.old) (O.faults sink.new) (result_err result) }
+    ensures within { WithinReads reads 4096 (I.left source.old) (I.left source.new) None None
+        (result_err result) }
+    ensures no_desk { IfErr result (λ e. (n : ℕ) → e ≢ ServeError.DeskSpent n) }
+    ensures complete { IfErr result (λ e. IfSome (I.left source.old) (λ bytes.
+        length bytes < reads
+        → ¬ CountRose (I.faults source.old) (I.faults source.new)
+        → ¬ CountRose (O.faults sink.old) (O.faults sink.new) → e ≡ ServeError.NoMemory)) }
+    ensures between { IfErr result (λ e. IsBetweenReads e → IfSome (I.left source.old) (λ bytes.
+        WroteNone (call_bytes bytes (I.left source.new) (O.taken sink.old) (O.taken sink.new)))) }
+    ensures part { OnErr result (IfSome (I.left source.old) (λ bytes. WroteBegun (show_query query)
+        (call_bytes bytes (I.left source.new) (O.taken sink.old) (O.taken sink.new)))) }
+{
+    let mut ends = Ends { source, sink };
+    answer_over(alloc, query, &mut ends, reads)
+}
+
+// Answers a query over a transport, and says whether no line is bad.
+fn answer_over<T: Transport>(
+    alloc: Global,
+    query: Query,
+    io: &mut T,
+    reads: u64,
+) -> Result<bool, ServeError>
+    ensures done { IfOk result (λ good. IfSome (T.left io.old) (λ bytes. MatchBool good
+        (IsQueryAnswered (show_query query)
+        (call_bytes bytes (T.left io.new) (T.taken io.old) (T.taken io.new)))
+        (IsRefused (call_bytes bytes (T.left io.new) (T.taken io.old) (T.taken io.new))))) }
+    ensures flushed { StaysFlushed (T.taken io.old) (T.flushed io.old)
+        (T.taken io.new) (T.flushed io.new) (result_err result) }
+    ensures faults { TellsFaults (T.read_faults io.old) (T.read_faults io.new)
+        (T.faults io.old) (T.faults io.new) (result_err result) }
+    ensures within { WithinReads reads 4096 (T.left io.old) (T.left io.new)
+        (T.reads io.old) (T.reads io.new) (result_err result) }
+    ensures no_desk { IfErr result (λ e. (n : ℕ) → e ≢ ServeError.DeskSpent n) }
+    ensures between { IfErr result (λ e. IsBetweenReads e → IfSome (T.left io.old) (λ bytes.
+        WroteNone (call_bytes bytes (T.left io.new) (T.taken io.old) (T.taken io.new)))) }
+    ensures part { OnErr result (IfSome (T.left io.old) (λ bytes. WroteBegun (show_query query)
+        (call_bytes bytes (T.left io.new) (T.taken io.old) (T.taken io.new)))) }
+    ensures tied { T.tied io.new ≡ T.tied io.old }
+{
+    let mut lines = Lines {
+        part: Vec::new(alloc),
+    };
+    let mut search = Search {
+        query,
+        index: Index::new(alloc),
+        is_bad: false,
+    };
+    over_reads(io, &mut lines, &mut search, reads)?;
+    Ok(!search.is_bad)
+}

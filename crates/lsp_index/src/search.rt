@@ -1,0 +1,478 @@
+// What a query answers of an index.
+ghost use Rattle.std.specs.Prelude.{◌≡◌, ◌++◌, List, [], map, slice_get, IfOk, OnOk, Some, None, option_map, option_and_then, unwrap_or, fold, string_bytes};
+ghost use Rattle.serde_json.specs.Written.{comma_if, compact_text};
+ghost use Rattle.lsp_rpc.specs.Message.{IdData};
+ghost use Rattle.lsp_rpc.specs.Shown.{show_id};
+ghost use Rattle.lsp_uri.specs.Uri.{uri_text};
+ghost use Rattle.lsp_shape.specs.Read.{text_is};
+ghost use Rattle.lsp_index.specs.Graph.{Graph, at_id};
+ghost use Rattle.lsp_index.specs.Kept.{IsKept};
+ghost use Rattle.lsp_index.specs.Shown.{show_ids, show_item_edge, show_location, show_query, show_named, show_link, show_outgoing, show_vertex_of};
+ghost use Rattle.lsp_index.specs.Queries.{is_before, holds_position, is_closer, closest_of, range_holding, candidate_in, with_candidate, chosen_at, with_new_id, with_contained, named_in, document_at, hover_at, IsReached, IsReachedFrom, with_location, with_range, with_ranges, with_item_ranges, with_items, with_linked, with_place, with_places, with_results, AreResults, location_value, locations_text as locations_text_lem, null_text as null_text_lem, IsAnswerFrom, IsAnswer};
+
+use crate::graph::{Index, Item, Outgoing, Role};
+use crate::{Query, Request};
+use indexmap::{IndexMap, IndexSet};
+use lsp_base::{Location, Position, Range};
+use lsp_rpc::{Id, NoMemory};
+use lsp_shape::write_text;
+use lsp_uri::Uri;
+use std::alloc::Global;
+
+// By line, then by character.
+fn is_before(a: Position, b: Position) -> bool
+    ensures { result ≡ is_before a b }
+{
+    a.line < b.line || (a.line == b.line && a.character < b.character)
+}
+
+// A position at the end of a range is outside.
+fn holds_position(range: Range, position: Position) -> bool
+    ensures { result ≡ holds_position range position }
+{
+    !is_before(position, range.start) && is_before(position, range.end)
+}
+
+// Whether a range starts later than another, or there too and ends earlier.
+fn is_closer(range: Range, other: Range) -> bool
+    ensures { result ≡ is_closer range other }
+{
+    is_before(other.start, range.start)
+        || (!is_before(range.start, other.start) && is_before(range.end, other.end))
+}
+
+// Puts the location of a range after those that were found, where it is new.
+fn add_location(uri: &Uri, range: Range, found: &mut IndexSet<Location>) -> Result<(), NoMemory>
+    ensures { OnOk result (map show_location found.new.keys
+        ≡ with_location (map show_location found.old.keys)
+        (record { uri = uri_text uri.now; range = range })) }
+{
+    let uri = uri.clone()?;
+    found.insert(Location::new(uri, range))?;
+    Ok(())
+}
+
+// Puts the location of a range, if there is one, after those that were found, where it is new.
+fn add_range(
+    uri: &Uri,
+    range: Option<Range>,
+    found: &mut IndexSet<Location>,
+) -> Result<(), NoMemory>
+    ensures { OnOk result (map show_location found.new.keys
+        ≡ with_range (uri_text uri.now) (map show_location found.old.keys) range) }
+{
+    match range {
+        Some(range) => add_location(uri, range, found),
+        None => Ok(()),
+    }
+}
+
+// Puts an id after those of the set, where it is new.
+fn add_id(alloc: Global, id: &Id, set: &mut IndexSet<Id>) -> Result<(), NoMemory>
+    ensures { OnOk result (show_ids set.new.keys
+        ≡ with_new_id (show_ids set.old.keys) (show_id id.now)) }
+{
+    set.insert(id.clone(alloc)?)?;
+    Ok(())
+}
+
+// Puts ids after those of the set, where they are new.
+fn add_ids(alloc: Global, ids: &Vec<Id>, set: &mut IndexSet<Id>) -> Result<(), NoMemory>
+    ensures { OnOk result (show_ids set.new.keys
+        ≡ fold with_new_id (show_ids set.old.keys) (show_ids ids.now.items)) }
+{
+    for id in ids {
+        add_id(alloc, id, set)?;
+    }
+    Ok(())
+}
+
+// Puts the further results of an item after those of the set, where they are new.
+fn add_linked(alloc: Global, item: &Item, results: &mut IndexSet<Id>) -> Result<(), NoMemory>
+    ensures { OnOk result (show_ids results.new.keys
+        ≡ with_linked (show_ids results.old.keys) item.now.role (show_ids item.now.targets.items)) }
+{
+    match item.role {
+        Role::Linked => add_ids(alloc, &item.targets, results),
+        Role::Place => Ok(()),
+        Role::Neither => Ok(()),
+    }
+}
+
+// Puts the further results of these items after those of the set, where they are new.
+fn add_all_linked(alloc: Global, items: &[Item], results: &mut IndexSet<Id>) -> Result<(), NoMemory>
+    ensures { OnOk result (show_ids results.new.keys
+        ≡ fold (λ rs i. with_linked rs i.role i.targets) (show_ids results.old.keys)
+        (map show_item_edge items.now)) }
+{
+    for item in items {
+        add_linked(alloc, item, results)?;
+    }
+    Ok(())
+}
+
+// Puts the text of a location behind what is there, after a comma if it is a later one.
+fn push_location(
+    alloc: Global,
+    text: &mut String,
+    later: bool,
+    location: &Location,
+) -> Result<(), NoMemory>
+    ensures { OnOk result (string_bytes text.new ≡ string_bytes text.old
+        ++ (comma_if later ++ compact_text (location_value (show_location location.now)))) }
+{
+    if later {
+        text.push_str(",")?;
+    }
+    text.push_str(write_text(alloc, location)?.as_str())?;
+    Ok(())
+}
+
+// The text of a list of locations. Each is written by itself: as one value they would take some 4 KB
+// each.
+fn locations_text(alloc: Global, found: &IndexSet<Location>) -> Result<String, NoMemory>
+    ensures { IfOk result (λ text. string_bytes text
+        ≡ locations_text_lem (map show_location found.now.keys)) }
+{
+    let mut text = String::from_str(alloc, "[")?;
+    let mut later = false;
+    for location in found.as_slice() {
+        push_location(alloc, &mut text, later, location)?;
+        later = true;
+    }
+    text.push_str("]")?;
+    Ok(text)
+}
+
+impl Index {
+    // Whether an id is that of the document.
+    fn is_document(&self, id: &Id, uri: &Uri) -> bool
+        ensures { (g : Graph) → IsKept g self.now
+            → result ≡ text_is (uri_text uri.now) (document_at g (show_id id.now)) }
+    {
+        match self.document(id) {
+            Some(text) => *text == *uri,
+            None => false,
+        }
+    }
+
+    // Puts the ids that an edge `contains` names after those of the set, if it comes from the
+    // document.
+    fn add_contained(
+        &self,
+        uri: &Uri,
+        outgoing: &Outgoing,
+        named: &mut IndexSet<Id>,
+    ) -> Result<(), NoMemory>
+        ensures { OnOk result ((g : Graph) → IsKept g self.now → show_ids named.new.keys
+            ≡ with_contained g (uri_text uri.now) (show_ids named.old.keys)
+            (show_outgoing outgoing.now)) }
+    {
+        if self.is_document(&outgoing.from, uri) {
+            add_ids(self.alloc, &outgoing.targets, named)
+        } else {
+            Ok(())
+        }
+    }
+
+    // The ids that edges `contains` from the document name.
+    fn named(&self, uri: &Uri) -> Result<IndexSet<Id>, NoMemory>
+        ensures { IfOk result (λ named. (g : Graph) → IsKept g self.now
+            → show_ids named.keys ≡ named_in g (uri_text uri.now)) }
+    {
+        let mut named = IndexSet::new(self.alloc);
+        for outgoing in &self.contained {
+            self.add_contained(uri, outgoing, &mut named)?;
+        }
+        Ok(named)
+    }
+
+    // A vertex by its place, if it is one of the ranges named and holds the position.
+    fn candidate<'a>(
+        &'a self,
+        at: usize,
+        named: &IndexSet<Id>,
+        position: Position,
+    ) -> Option<(&'a Id, Range)>
+        ensures { option_map show_named result
+            ≡ option_and_then (λ e. candidate_in (show_ids named.now.keys) position (show_vertex_of e))
+            (slice_get self.now.vertices.entries at) }
+    {
+        match self.vertices.get_index(at) {
+            Some((id, node)) => {
+                if named.contains(id) {
+                    range_holding(id, position, node.range())
+                } else {
+                    None
+                }
+            }
+            None => None,
+        }
+    }
+
+    // The closest range of the document that holds the position.
+    fn chosen(&self, uri: &Uri, position: Position) -> Result<Option<&Id>, NoMemory>
+        ensures { IfOk result (λ o. (g : Graph) → IsKept g self.now
+            → option_map (λ id. show_id id.now) o ≡ option_map (λ c. c.0)
+            (chosen_at g (uri_text uri.now) position)) }
+    {
+        let named = self.named(uri)?;
+        Ok(self.closest(&named, position))
+    }
+
+    // The closest of the ranges named that hold the position.
+    fn closest<'a>(&'a self, named: &IndexSet<Id>, position: Position) -> Option<&'a Id>
+        ensures { option_map (λ id. show_id id.now) result ≡ option_map (λ c. c.0)
+            (fold (with_candidate (show_ids named.now.keys) position) None
+            (map show_vertex_of self.now.vertices.entries)) }
+    {
+        let mut closest: Option<(&Id, Range)> = None;
+        for i in 0..self.vertices.len() {
+            closest = closer(closest, self.candidate(i, named, position));
+        }
+        match closest {
+            Some((id, _)) => Some(id),
+            None => None,
+        }
+    }
+
+    /// The result that a vertex leads to: its own, or that of the vertex that its edge `next` leads
+    /// to.
+    fn reached(&self, from: &Id) -> Result<Option<Id>, NoMemory>
+        ensures { IfOk result (λ o. (g : Graph) → IsKept g self.now
+            → IsReached g (show_id from.now) (option_map show_id o)) }
+    {
+        let mut passed: IndexSet<Id> = IndexSet::new(self.alloc);
+        let mut vertex = from.clone(self.alloc)?;
+        for _ in 0..usize::MAX {
+            match target(self.alloc, &self.results, &vertex)? {
+                Some(result) => return Ok(Some(result)),
+                None => {}
+            }
+            match target(self.alloc, &self.nexts, &vertex)? {
+                Some(next) => {
+                    if !passed.insert(vertex)? {
+                        return Ok(None);
+                    }
+                    vertex = next;
+                }
+                None => return Ok(None),
+            }
+        }
+        Err(NoMemory)
+    }
+
+    // Puts the locations of ranges after those that were found, where they are new.
+    fn add_ranges(
+        &self,
+        uri: &Uri,
+        ids: &Vec<Id>,
+        found: &mut IndexSet<Location>,
+    ) -> Result<(), NoMemory>
+        ensures { OnOk result ((g : Graph) → IsKept g self.now → map show_location found.new.keys
+            ≡ with_ranges g (show_ids ids.now.items) (map show_location found.old.keys)
+            (Some (uri_text uri.now))) }
+    {
+        for id in ids {
+            add_range(uri, self.range(id), found)?;
+        }
+        Ok(())
+    }
+
+    // Puts the locations of an item after those that were found, where they are new.
+    fn add_item(&self, item: &Item, found: &mut IndexSet<Location>) -> Result<(), NoMemory>
+        ensures { OnOk result ((g : Graph) → IsKept g self.now → map show_location found.new.keys
+            ≡ with_item_ranges g (map show_location found.old.keys) (show_item_edge item.now)) }
+    {
+        match self.document(&item.document) {
+            Some(uri) => self.add_ranges(uri, &item.targets, found),
+            None => Ok(()),
+        }
+    }
+
+    // The locations of the items of a result.
+    fn definition(&self, from: &Id) -> Result<IndexSet<Location>, NoMemory>
+        ensures { IfOk result (λ found. (g : Graph) → IsKept g self.now
+            → map show_location found.keys ≡ with_items g [] (show_id from.now)) }
+    {
+        let mut found = IndexSet::new(self.alloc);
+        for item in self.items_of(from) {
+            self.add_item(item, &mut found)?;
+        }
+        Ok(found)
+    }
+
+    // A result, with all that it includes.
+    fn results_with(&self, first: Id) -> Result<IndexSet<Id>, NoMemory>
+        ensures { IfOk result (λ all. (g : Graph) → IsKept g self.now
+            → AreResults g (show_id first) (show_ids all.keys)) }
+    {
+        let mut results = IndexSet::new(self.alloc);
+        results.insert(first)?;
+        for i in 0..usize::MAX {
+            match results.get_index(i) {
+                Some(member) => {
+                    let items = self.items_of(member);
+                    add_all_linked(self.alloc, items, &mut results)?;
+                }
+                None => return Ok(results),
+            }
+        }
+        Err(NoMemory)
+    }
+
+    // Puts the places of an item after those that were found, where they are new.
+    fn add_place(&self, item: &Item, found: &mut IndexSet<Location>) -> Result<(), NoMemory>
+        ensures { OnOk result ((g : Graph) → IsKept g self.now → map show_location found.new.keys
+            ≡ with_place g (map show_location found.old.keys) item.now.role (show_item_edge item.now)) }
+    {
+        match item.role {
+            Role::Place => self.add_item(item, found),
+            Role::Linked => Ok(()),
+            Role::Neither => Ok(()),
+        }
+    }
+
+    // Puts the places of a result after those that were found, where they are new.
+    fn add_places(&self, from: &Id, found: &mut IndexSet<Location>) -> Result<(), NoMemory>
+        ensures { OnOk result ((g : Graph) → IsKept g self.now → map show_location found.new.keys
+            ≡ with_places g (map show_location found.old.keys) (show_id from.now)) }
+    {
+        for item in self.items_of(from) {
+            self.add_place(item, found)?;
+        }
+        Ok(())
+    }
+
+    // The places of a result and of all that it includes.
+    fn references(&self, from: Id) -> Result<IndexSet<Location>, NoMemory>
+        ensures { IfOk result (λ found. (g : Graph) → IsKept g self.now → (rs : List IdData)
+            × AreResults g (show_id from) rs
+            × (map show_location found.keys ≡ fold (with_places g) [] rs)) }
+    {
+        let results = self.results_with(from)?;
+        self.all_places(results.as_slice())
+    }
+
+    // The places of these results.
+    fn all_places(&self, results: &[Id]) -> Result<IndexSet<Location>, NoMemory>
+        ensures { IfOk result (λ found. (g : Graph) → IsKept g self.now → map show_location found.keys
+            ≡ fold (with_places g) [] (show_ids results.now)) }
+    {
+        let mut found = IndexSet::new(self.alloc);
+        for member in results {
+            self.add_places(member, &mut found)?;
+        }
+        Ok(found)
+    }
+
+    // The text of the hover of a result.
+    fn hover_text(&self, from: &Id) -> Result<String, NoMemory>
+        ensures { IfOk result (λ text. (g : Graph) → IsKept g self.now
+            → string_bytes text ≡ unwrap_or (hover_at g (show_id from.now)) null_text_lem) }
+    {
+        match self.hover(from) {
+            Some(text) => Ok(text.clone()?),
+            None => null_text(self.alloc),
+        }
+    }
+
+    // What is reached from the range at the position.
+    fn reached_at(&self, query: &Query) -> Result<Option<Id>, NoMemory>
+        ensures { IfOk result (λ o. (g : Graph) → IsKept g self.now
+            → IsReachedFrom g
+            (chosen_at g (uri_text query.now.uri) query.now.position) (option_map show_id o)) }
+    {
+        match self.chosen(&query.uri, query.position)? {
+            Some(range) => self.reached(range),
+            None => Ok(None),
+        }
+    }
+
+    fn answer_from(&self, request: Request, from: Option<Id>) -> Result<String, NoMemory>
+        ensures { IfOk result (λ text. (g : Graph) → IsKept g self.now
+            → IsAnswerFrom request g (option_map show_id from) (string_bytes text)) }
+    {
+        match (request, from) {
+            (Request::Definition, Some(from)) => locations_text(
+                self.alloc,
+                &self.definition(&from)?,
+            ),
+            (Request::References, Some(from)) => locations_text(
+                self.alloc,
+                &self.references(from)?,
+            ),
+            (Request::Hover, Some(from)) => self.hover_text(&from),
+            (Request::Hover, None) => null_text(self.alloc),
+            (_, None) => locations_text(self.alloc, &IndexSet::new(self.alloc)),
+        }
+    }
+
+    /// The text of the answer to a query.
+    pub(crate) fn answer(&self, query: &Query) -> Result<String, NoMemory>
+        ensures { IfOk result (λ text. (g : Graph) → IsKept g self.now
+            → IsAnswer (show_query query.now) g (string_bytes text)) }
+    {
+        let from = self.reached_at(query)?;
+        self.answer_from(query.request, from)
+    }
+}
+
+fn null_text(alloc: Global) -> Result<String, NoMemory>
+    ensures { IfOk result (λ text. string_bytes text ≡ null_text_lem) }
+{
+    Ok(String::from_str(alloc, "null")?)
+}
+
+// A range with its id, if it holds the position.
+fn range_holding<'a>(
+    id: &'a Id,
+    position: Position,
+    range: Option<Range>,
+) -> Option<(&'a Id, Range)>
+    ensures { option_map show_named result ≡ range_holding (show_id id.now) position range }
+{
+    match range {
+        Some(range) => {
+            if holds_position(range, position) {
+                Some((id, range))
+            } else {
+                None
+            }
+        }
+        None => None,
+    }
+}
+
+// The closer of two ranges, and the first where neither is.
+fn closer<'a>(
+    closest: Option<(&'a Id, Range)>,
+    other: Option<(&'a Id, Range)>,
+) -> Option<(&'a Id, Range)>
+    ensures { option_map show_named result
+        ≡ closest_of (option_map show_named closest.entry) (option_map show_named other.entry) }
+{
+    match (closest, other) {
+        (Some(closest), Some(other)) => {
+            if is_closer(other.1, closest.1) {
+                Some(other)
+            } else {
+                Some(closest)
+            }
+        }
+        (Some(closest), None) => Some(closest),
+        (None, Some(other)) => Some(other),
+        (None, None) => None,
+    }
+}
+
+// Where the edge from a vertex leads.
+fn target(alloc: Global, links: &IndexMap<Id, Id>, from: &Id) -> Result<Option<Id>, NoMemory>
+    ensures { IfOk result (λ o. option_map show_id o
+        ≡ at_id (map show_link links.now.entries) (show_id from.now)) }
+{
+    match links.get(from) {
+        Some(to) => Ok(Some(to.clone(alloc)?)),
+        None => Ok(None),
+    }
+}

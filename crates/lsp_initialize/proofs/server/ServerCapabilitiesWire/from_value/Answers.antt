@@ -1,0 +1,85 @@
+use Rattle.serde_json.specs.View.{view}
+use Rattle.lsp_shape.specs.Shape.{no_fields}
+use Rattle.lsp_shape.proofs.Parts.{when_ok, record_read, reads_end, reads_member, record_unread, unread_end, unread_member}
+use Rattle.lsp_initialize.specs.Server.{server_capabilities_row, server_capabilities_fields}
+use Rattle.lsp_initialize.proofs.server.ServerCapabilitiesWire.from_value.Goals as goal
+
+pub returns-clause-read : goal.returns-clause-read
+unfolding server_capabilities_row server_capabilities_fields
+returns-clause-read c = when_ok _ c.end.result c.end.ensures.value c.end.ensures.fits (λ fits.
+    record_read (server_capabilities_fields.row no_fields) _ c.in_ok-object.object (view c.args.value.now) c.in_ok-object.ensures.ok (
+    reads_member c.optional.new.self c.optional.ensures (
+    reads_member c.optional-2.new.self c.optional-2.ensures (
+    reads_member c.optional-3.new.self c.optional-3.ensures (
+    reads_member c.optional-4.new.self c.optional-4.ensures (
+    reads_member c.optional-5.new.self c.optional-5.ensures (
+    reads_member c.optional-6.new.self c.optional-6.ensures (
+    reads_member c.optional-7.new.self c.optional-7.ensures (
+    reads_member c.optional-8.new.self c.optional-8.ensures (
+    reads_member c.optional-9.new.self c.optional-9.ensures (
+    reads_member c.optional-10.new.self c.optional-10.ensures (
+    reads_member c.optional-11.new.self c.optional-11.ensures (
+    reads_member c.optional-12.new.self c.optional-12.ensures (
+    reads_member c.optional-13.new.self c.optional-13.ensures (
+    reads_member c.optional-14.new.self c.optional-14.ensures (
+    reads_member c.optional-15.new.self c.optional-15.ensures (
+    reads_member c.optional-16.new.self c.optional-16.ensures (
+    reads_member c.optional-17.new.self c.optional-17.ensures (
+    reads_member c.optional-18.new.self c.optional-18.ensures (
+    reads_member c.optional-19.new.self c.optional-19.ensures (
+    reads_member c.optional-20.new.self c.optional-20.ensures (
+    reads_member c.optional-21.new.self c.optional-21.ensures (
+    reads_member c.optional-22.new.self c.optional-22.ensures (
+    reads_member c.optional-23.new.self c.optional-23.ensures (
+    reads_member c.optional-24.new.self c.optional-24.ensures (
+    reads_member c.optional-25.new.self c.optional-25.ensures (
+    reads_member c.optional-26.new.self c.optional-26.ensures (
+    reads_member c.optional-27.new.self c.optional-27.ensures (
+    reads_member c.optional-28.new.self c.optional-28.ensures (
+    reads_member c.optional-29.new.self c.optional-29.ensures (
+    reads_member c.optional-30.new.self c.optional-30.ensures (
+    reads_member c.optional-31.new.self c.optional-31.ensures (
+    reads_member c.optional-32.new.self c.optional-32.ensures (
+    reads_member c.optional-33.new.self c.optional-33.ensures (
+    reads_member c.optional-34.new.self c.optional-34.ensures (
+    reads_end c.optional-34.new.self fits))))))))))))))))))))))))))))))))))))
+
+pub returns-clause-unfit : goal.returns-clause-unfit
+unfolding server_capabilities_row server_capabilities_fields
+returns-clause-unfit c = λ unfit.
+    record_unread (server_capabilities_fields.row no_fields) c.in_ok-object.object (view c.args.value.now) c.in_ok-object.ensures.ok c.in_ok-object.ensures.fits (
+    unread_member c.optional.new.self c.optional.ensures (
+    unread_member c.optional-2.new.self c.optional-2.ensures (
+    unread_member c.optional-3.new.self c.optional-3.ensures (
+    unread_member c.optional-4.new.self c.optional-4.ensures (
+    unread_member c.optional-5.new.self c.optional-5.ensures (
+    unread_member c.optional-6.new.self c.optional-6.ensures (
+    unread_member c.optional-7.new.self c.optional-7.ensures (
+    unread_member c.optional-8.new.self c.optional-8.ensures (
+    unread_member c.optional-9.new.self c.optional-9.ensures (
+    unread_member c.optional-10.new.self c.optional-10.ensures (
+    unread_member c.optional-11.new.self c.optional-11.ensures (
+    unread_member c.optional-12.new.self c.optional-12.ensures (
+    unread_member c.optional-13.new.self c.optional-13.ensures (
+    unread_member c.optional-14.new.self c.optional-14.ensures (
+    unread_member c.optional-15.new.self c.optional-15.ensures (
+    unread_member c.optional-16.new.self c.optional-16.ensures (
+    unread_member c.optional-17.new.self c.optional-17.ensures (
+    unread_member c.optional-18.new.self c.optional-18.ensures (
+    unread_member c.optional-19.new.self c.optional-19.ensures (
+    unread_member c.optional-20.new.self c.optional-20.ensures (
+    unread_member c.optional-21.new.self c.optional-21.ensures (
+    unread_member c.optional-22.new.self c.optional-22.ensures (
+    unread_member c.optional-23.new.self c.optional-23.ensures (
+    unread_member c.optional-24.new.self c.optional-24.ensures (
+    unread_member c.optional-25.new.self c.optional-25.ensures (
+    unread_member c.optional-26.new.self c.optional-26.ensures (
+    unread_member c.optional-27.new.self c.optional-27.ensures (
+    unread_member c.optional-28.new.self c.optional-28.ensures (
+    unread_member c.optional-29.new.self c.optional-29.ensures (
+    unread_member c.optional-30.new.self c.optional-30.ensures (
+    unread_member c.optional-31.new.self c.optional-31.ensures (
+    unread_member c.optional-32.new.self c.optional-32.ensures (
+    unread_member c.optional-33.new.self c.optional-33.ensures (
+    unread_member c.optional-34.new.self c.optional-34.ensures (
+    unread_end c.optional-34.new.self (c.end.ensures.unfit unfit))))))))))))))))))))))))))))))))))))

@@ -1,0 +1,18 @@
+-- A poll of the service is one of its server, whose laws give the rest.
+use Rattle.std.proofs.Common.{sym, ap, ◌∙◌}
+use Rattle.lsp_session.proofs.RunningLemmas.{on_gives}
+use Rattle.lsp_session.specs.Semantics.{Fresh}
+use Rattle.lsp_service.specs.Calls.{show_call, target_of}
+use Rattle.lsp_service.specs.Data.{MethodCall}
+use Rattle.lsp_service.proofs.service.LspServiceHandlers.begin.Goals as goal
+
+pub returns-in_err-outcome-in-Now-clause-failed : goal.returns-in_err-outcome-in-Now-clause-failed
+returns-in_err-outcome-in-Now-clause-failed g c =
+    let p = c.in_ok-reply.ensures.called in
+    on_gives c.from_residual-in_err-outcome-in-Now.result _ _ c.from_residual-in_err-outcome-in-Now.ensures.1
+    (record { trace = p.trace; grows = p.grows; asks = g.met.S.LanguageServer.laws.asks_client _ (Fresh (show_call c.args.incoming.call)) _ _ _ p.holds; spends = tt })
+
+pub invariant_of-result : goal.invariant_of-result
+invariant_of-result g c =
+    let p = rw c.in-Later.is at c.in_ok-reply.ensures.called in
+    record { kept = ap (λ (x : MethodCall). target_of x c.args.incoming.kind) (g.met.S.LanguageServer.laws.keeps_call _ (Fresh (show_call c.args.incoming.call)) _ _ _ p.holds) ∙ sym c.target-target.ensures }

@@ -1,0 +1,13 @@
+pub mod Data
+pub mod Reads
+pub mod Calls
+pub mod Incoming
+pub mod Replies
+pub mod Server
+pub mod Started
+pub mod Asking
+pub mod Open
+pub mod Answering
+pub mod Service
+pub mod Ready
+pub mod ServiceLaws

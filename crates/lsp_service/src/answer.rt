@@ -1,0 +1,98 @@
+// What is written for a reply of a server.
+ghost use Rattle.std.specs.Prelude.{◌≡◌, IfOk};
+ghost use Rattle.lsp_rpc.specs.Shown.{show_body};
+ghost use Rattle.lsp_methods.specs.Shapes.{result_shape};
+ghost use Rattle.lsp_service.specs.Data.{answer, custom_answer as custom_answer_of, noted as noted_lem, result_shown, write_body, written_by, mismatch as mismatch_lem, unless_float as unless_float_lem};
+
+use crate::call::Target;
+use lsp_methods::Method;
+use lsp_rpc::{Error, NoMemory, is_float_free};
+use lsp_session::Kind;
+use lsp_shape::Wire;
+use serde_json::Value;
+use std::alloc::Global;
+
+// The reply is none of the call's.
+fn mismatch(alloc: Global) -> Result<Result<Value, Error>, NoMemory>
+    ensures { IfOk result (λ body. show_body body ≡ mismatch_lem) }
+{
+    Ok(Err(Error::internal_error(alloc)?))
+}
+
+/// The answer to a request of `method`, where `target` was called.
+pub(crate) fn answered<T: Wire>(
+    alloc: Global,
+    target: Target,
+    method: Method,
+    body: Result<T, Error>,
+) -> Result<Result<Value, Error>, NoMemory>
+    requires { result_shape method ≡ T.shape }
+    ensures { IfOk result (λ written. show_body written
+        ≡ written_by target (answer method (result_shown T.shown body))) }
+{
+    match target {
+        Target::Typed(called) if called.place() == method.place() => written(alloc, method, body),
+        _ => mismatch(alloc),
+    }
+}
+
+fn written<T: Wire>(
+    alloc: Global,
+    method: Method,
+    body: Result<T, Error>,
+) -> Result<Result<Value, Error>, NoMemory>
+    requires { result_shape method ≡ T.shape }
+    ensures { IfOk result (λ written. show_body written
+        ≡ write_body (result_shape method) (result_shown T.shown body)) }
+{
+    match body {
+        Ok(value) => Ok(Ok(value.to_value(alloc)?)),
+        Err(error) => Ok(Err(error)),
+    }
+}
+
+/// The answer to a custom request.
+pub(crate) fn custom_answered(
+    alloc: Global,
+    target: Target,
+    body: Result<Value, Error>,
+) -> Result<Result<Value, Error>, NoMemory>
+    ensures { IfOk result (λ written. show_body written
+        ≡ written_by target (custom_answer_of (show_body body))) }
+{
+    match target {
+        Target::Typed(_) => mismatch(alloc),
+        Target::Custom(_) => Ok(body),
+    }
+}
+
+/// No answer: what a notification is owed.
+pub(crate) fn noted(alloc: Global, target: Target) -> Result<Result<Value, Error>, NoMemory>
+    ensures { IfOk result (λ written. show_body written ≡ written_by target noted_lem) }
+{
+    let kind = match target {
+        Target::Typed(method) => method.kind(),
+        Target::Custom(kind) => kind,
+    };
+    match kind {
+        Kind::Notification => Ok(Ok(Value::Null)),
+        Kind::Request => mismatch(alloc),
+    }
+}
+
+/// What is written, unless it holds a float.
+pub(crate) fn unless_float(
+    alloc: Global,
+    body: Result<Value, Error>,
+) -> Result<Result<Value, Error>, NoMemory>
+    ensures { IfOk result (λ sent. show_body sent ≡ unless_float_lem (show_body body)) }
+{
+    let clean = match &body {
+        Ok(value) => is_float_free(value),
+        Err(error) => match &error.payload {
+            Some(payload) => is_float_free(payload),
+            None => true,
+        },
+    };
+    if clean { Ok(body) } else { mismatch(alloc) }
+}

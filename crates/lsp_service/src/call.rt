@@ -1,0 +1,358 @@
+// What a client asks of a server.
+ghost use Rattle.std.specs.Prelude.{◌≡◌};
+ghost use Rattle.lsp_service.specs.Calls.{show_call, target_of, life_method, sync_method, goto_method, hierarchy_method, show_method, token_method, edit_method, work_method};
+
+use lsp_base::TextDocumentPositionParams;
+use lsp_caps_work::InitializedParams;
+use lsp_initialize::InitializeParams;
+use lsp_lang_goto::{
+    CallHierarchyIncomingCallsParams, CallHierarchyOutgoingCallsParams, CallHierarchyPrepareParams,
+    CodeLens, CodeLensParams, DocumentHighlightParams, DocumentLink, DocumentLinkParams,
+    DocumentSymbolParams, GotoDeclarationParams, GotoDefinitionParams, GotoImplementationParams,
+    GotoTypeDefinitionParams, HoverParams, ReferenceParams, TypeHierarchyPrepareParams,
+    TypeHierarchySubtypesParams, TypeHierarchySupertypesParams, WorkspaceSymbol,
+    WorkspaceSymbolParams,
+};
+use lsp_lang_item::{
+    CodeAction, CodeActionParams, CompletionItem, CompletionParams, InlayHint, InlayHintParams,
+    InlineValueParams, RenameParams,
+};
+use lsp_methods::{
+    EditMethod, GotoMethod, HierarchyMethod, LifeMethod, Method, ShowMethod, SyncMethod,
+    TokenMethod, WorkMethod,
+};
+use lsp_report::{DocumentDiagnosticParams, WorkspaceDiagnosticParams};
+use lsp_session::Kind;
+use lsp_tokens::{
+    DocumentFormattingParams, DocumentOnTypeFormattingParams, DocumentRangeFormattingParams,
+    FoldingRangeParams, LinkedEditingRangeParams, MonikerParams, SelectionRangeParams,
+    SemanticTokensDeltaParams, SemanticTokensParams, SemanticTokensRangeParams,
+    SignatureHelpParams,
+};
+use lsp_work::{
+    CreateFilesParams, DeleteFilesParams, DidChangeConfigurationParams,
+    DidChangeTextDocumentParams, DidChangeWatchedFilesParams, DidChangeWorkspaceFoldersParams,
+    DidCloseTextDocumentParams, DidOpenTextDocumentParams, DidSaveTextDocumentParams,
+    ExecuteCommandParams, RenameFilesParams, WillSaveTextDocumentParams,
+};
+use serde_json::Value;
+
+/// The calls of the life of a session.
+#[derive(Drop)]
+pub enum LifeCall {
+    /// `initialize`.
+    Initialize(InitializeParams),
+    /// `initialized`.
+    Initialized(InitializedParams),
+    /// `shutdown`.
+    Shutdown,
+}
+
+/// The calls of the synchronization of documents.
+#[derive(Drop)]
+pub enum SyncCall {
+    /// `textDocument/didOpen`.
+    DidOpen(DidOpenTextDocumentParams),
+    /// `textDocument/didChange`.
+    DidChange(DidChangeTextDocumentParams),
+    /// `textDocument/willSave`.
+    WillSave(WillSaveTextDocumentParams),
+    /// `textDocument/willSaveWaitUntil`.
+    WillSaveWaitUntil(WillSaveTextDocumentParams),
+    /// `textDocument/didSave`.
+    DidSave(DidSaveTextDocumentParams),
+    /// `textDocument/didClose`.
+    DidClose(DidCloseTextDocumentParams),
+}
+
+/// The calls of places to go to.
+#[derive(Drop)]
+pub enum GotoCall {
+    /// `textDocument/declaration`.
+    GotoDeclaration(GotoDeclarationParams),
+    /// `textDocument/definition`.
+    GotoDefinition(GotoDefinitionParams),
+    /// `textDocument/typeDefinition`.
+    GotoTypeDefinition(GotoTypeDefinitionParams),
+    /// `textDocument/implementation`.
+    GotoImplementation(GotoImplementationParams),
+    /// `textDocument/references`.
+    References(ReferenceParams),
+    /// `textDocument/documentHighlight`.
+    DocumentHighlight(DocumentHighlightParams),
+}
+
+/// The calls of hierarchies of calls and types.
+#[derive(Drop)]
+pub enum HierarchyCall {
+    /// `textDocument/prepareCallHierarchy`.
+    PrepareCallHierarchy(CallHierarchyPrepareParams),
+    /// `callHierarchy/incomingCalls`.
+    IncomingCalls(CallHierarchyIncomingCallsParams),
+    /// `callHierarchy/outgoingCalls`.
+    OutgoingCalls(CallHierarchyOutgoingCallsParams),
+    /// `textDocument/prepareTypeHierarchy`.
+    PrepareTypeHierarchy(TypeHierarchyPrepareParams),
+    /// `typeHierarchy/supertypes`.
+    Supertypes(TypeHierarchySupertypesParams),
+    /// `typeHierarchy/subtypes`.
+    Subtypes(TypeHierarchySubtypesParams),
+}
+
+/// The calls of what is shown in a document.
+#[derive(Drop)]
+pub enum ShowCall {
+    /// `textDocument/documentLink`.
+    DocumentLink(DocumentLinkParams),
+    /// `documentLink/resolve`.
+    DocumentLinkResolve(DocumentLink),
+    /// `textDocument/hover`.
+    Hover(HoverParams),
+    /// `textDocument/codeLens`.
+    CodeLens(CodeLensParams),
+    /// `codeLens/resolve`.
+    CodeLensResolve(CodeLens),
+    /// `textDocument/foldingRange`.
+    FoldingRange(FoldingRangeParams),
+    /// `textDocument/selectionRange`.
+    SelectionRange(SelectionRangeParams),
+    /// `textDocument/documentSymbol`.
+    DocumentSymbol(DocumentSymbolParams),
+    /// `textDocument/moniker`.
+    Moniker(MonikerParams),
+}
+
+/// The calls of tokens, hints and values in a document.
+#[derive(Drop)]
+pub enum TokenCall {
+    /// `textDocument/semanticTokens/full`.
+    SemanticTokensFull(SemanticTokensParams),
+    /// `textDocument/semanticTokens/full/delta`.
+    SemanticTokensFullDelta(SemanticTokensDeltaParams),
+    /// `textDocument/semanticTokens/range`.
+    SemanticTokensRange(SemanticTokensRangeParams),
+    /// `textDocument/inlineValue`.
+    InlineValue(InlineValueParams),
+    /// `textDocument/inlayHint`.
+    InlayHint(InlayHintParams),
+    /// `inlayHint/resolve`.
+    InlayHintResolve(InlayHint),
+}
+
+/// The calls of completion, edits and diagnostics.
+#[derive(Drop)]
+pub enum EditCall {
+    /// `textDocument/completion`.
+    Completion(CompletionParams),
+    /// `completionItem/resolve`.
+    CompletionResolve(CompletionItem),
+    /// `textDocument/signatureHelp`.
+    SignatureHelp(SignatureHelpParams),
+    /// `textDocument/codeAction`.
+    CodeAction(CodeActionParams),
+    /// `codeAction/resolve`.
+    CodeActionResolve(CodeAction),
+    /// `textDocument/formatting`.
+    Formatting(DocumentFormattingParams),
+    /// `textDocument/rangeFormatting`.
+    RangeFormatting(DocumentRangeFormattingParams),
+    /// `textDocument/onTypeFormatting`.
+    OnTypeFormatting(DocumentOnTypeFormattingParams),
+    /// `textDocument/rename`.
+    Rename(RenameParams),
+    /// `textDocument/prepareRename`.
+    PrepareRename(TextDocumentPositionParams),
+    /// `textDocument/linkedEditingRange`.
+    LinkedEditingRange(LinkedEditingRangeParams),
+    /// `textDocument/diagnostic`.
+    Diagnostic(DocumentDiagnosticParams),
+}
+
+/// The calls of the workspace.
+#[derive(Drop)]
+pub enum WorkCall {
+    /// `workspace/diagnostic`.
+    WorkspaceDiagnostic(WorkspaceDiagnosticParams),
+    /// `workspace/symbol`.
+    Symbol(WorkspaceSymbolParams),
+    /// `workspaceSymbol/resolve`.
+    SymbolResolve(WorkspaceSymbol),
+    /// `workspace/didChangeConfiguration`.
+    DidChangeConfiguration(DidChangeConfigurationParams),
+    /// `workspace/didChangeWorkspaceFolders`.
+    DidChangeWorkspaceFolders(DidChangeWorkspaceFoldersParams),
+    /// `workspace/willCreateFiles`.
+    WillCreateFiles(CreateFilesParams),
+    /// `workspace/didCreateFiles`.
+    DidCreateFiles(CreateFilesParams),
+    /// `workspace/willRenameFiles`.
+    WillRenameFiles(RenameFilesParams),
+    /// `workspace/didRenameFiles`.
+    DidRenameFiles(RenameFilesParams),
+    /// `workspace/willDeleteFiles`.
+    WillDeleteFiles(DeleteFilesParams),
+    /// `workspace/didDeleteFiles`.
+    DidDeleteFiles(DeleteFilesParams),
+    /// `workspace/didChangeWatchedFiles`.
+    DidChangeWatchedFiles(DidChangeWatchedFilesParams),
+    /// `workspace/executeCommand`.
+    ExecuteCommand(ExecuteCommandParams),
+}
+
+/// A call of a client: a method with its params.
+#[derive(Drop)]
+pub enum Call {
+    Life(LifeCall),
+    Sync(SyncCall),
+    Goto(GotoCall),
+    Hierarchy(HierarchyCall),
+    Show(ShowCall),
+    Token(TokenCall),
+    Edit(EditCall),
+    Work(WorkCall),
+    /// A custom method, by its number, with its params.
+    Custom(u64, Option<Value>),
+}
+
+/// What was called: a method of the protocol, or a custom one of this kind.
+#[derive(Clone, Copy)]
+pub enum Target {
+    Typed(Method),
+    Custom(Kind),
+}
+
+fn life_target(call: &LifeCall) -> LifeMethod
+    ensures { result ≡ life_method call.now }
+{
+    match call {
+        LifeCall::Initialize(_) => LifeMethod::Initialize,
+        LifeCall::Initialized(_) => LifeMethod::Initialized,
+        LifeCall::Shutdown => LifeMethod::Shutdown,
+    }
+}
+
+fn sync_target(call: &SyncCall) -> SyncMethod
+    ensures { result ≡ sync_method call.now }
+{
+    match call {
+        SyncCall::DidOpen(_) => SyncMethod::DidOpen,
+        SyncCall::DidChange(_) => SyncMethod::DidChange,
+        SyncCall::WillSave(_) => SyncMethod::WillSave,
+        SyncCall::WillSaveWaitUntil(_) => SyncMethod::WillSaveWaitUntil,
+        SyncCall::DidSave(_) => SyncMethod::DidSave,
+        SyncCall::DidClose(_) => SyncMethod::DidClose,
+    }
+}
+
+fn goto_target(call: &GotoCall) -> GotoMethod
+    ensures { result ≡ goto_method call.now }
+{
+    match call {
+        GotoCall::GotoDeclaration(_) => GotoMethod::GotoDeclaration,
+        GotoCall::GotoDefinition(_) => GotoMethod::GotoDefinition,
+        GotoCall::GotoTypeDefinition(_) => GotoMethod::GotoTypeDefinition,
+        GotoCall::GotoImplementation(_) => GotoMethod::GotoImplementation,
+        GotoCall::References(_) => GotoMethod::References,
+        GotoCall::DocumentHighlight(_) => GotoMethod::DocumentHighlight,
+    }
+}
+
+fn hierarchy_target(call: &HierarchyCall) -> HierarchyMethod
+    ensures { result ≡ hierarchy_method call.now }
+{
+    match call {
+        HierarchyCall::PrepareCallHierarchy(_) => HierarchyMethod::PrepareCallHierarchy,
+        HierarchyCall::IncomingCalls(_) => HierarchyMethod::IncomingCalls,
+        HierarchyCall::OutgoingCalls(_) => HierarchyMethod::OutgoingCalls,
+        HierarchyCall::PrepareTypeHierarchy(_) => HierarchyMethod::PrepareTypeHierarchy,
+        HierarchyCall::Supertypes(_) => HierarchyMethod::Supertypes,
+        HierarchyCall::Subtypes(_) => HierarchyMethod::Subtypes,
+    }
+}
+
+fn show_target(call: &ShowCall) -> ShowMethod
+    ensures { result ≡ show_method call.now }
+{
+    match call {
+        ShowCall::DocumentLink(_) => ShowMethod::DocumentLink,
+        ShowCall::DocumentLinkResolve(_) => ShowMethod::DocumentLinkResolve,
+        ShowCall::Hover(_) => ShowMethod::Hover,
+        ShowCall::CodeLens(_) => ShowMethod::CodeLens,
+        ShowCall::CodeLensResolve(_) => ShowMethod::CodeLensResolve,
+        ShowCall::FoldingRange(_) => ShowMethod::FoldingRange,
+        ShowCall::SelectionRange(_) => ShowMethod::SelectionRange,
+        ShowCall::DocumentSymbol(_) => ShowMethod::DocumentSymbol,
+        ShowCall::Moniker(_) => ShowMethod::Moniker,
+    }
+}
+
+fn token_target(call: &TokenCall) -> TokenMethod
+    ensures { result ≡ token_method call.now }
+{
+    match call {
+        TokenCall::SemanticTokensFull(_) => TokenMethod::SemanticTokensFull,
+        TokenCall::SemanticTokensFullDelta(_) => TokenMethod::SemanticTokensFullDelta,
+        TokenCall::SemanticTokensRange(_) => TokenMethod::SemanticTokensRange,
+        TokenCall::InlineValue(_) => TokenMethod::InlineValue,
+        TokenCall::InlayHint(_) => TokenMethod::InlayHint,
+        TokenCall::InlayHintResolve(_) => TokenMethod::InlayHintResolve,
+    }
+}
+
+fn edit_target(call: &EditCall) -> EditMethod
+    ensures { result ≡ edit_method call.now }
+{
+    match call {
+        EditCall::Completion(_) => EditMethod::Completion,
+        EditCall::CompletionResolve(_) => EditMethod::CompletionResolve,
+        EditCall::SignatureHelp(_) => EditMethod::SignatureHelp,
+        EditCall::CodeAction(_) => EditMethod::CodeAction,
+        EditCall::CodeActionResolve(_) => EditMethod::CodeActionResolve,
+        EditCall::Formatting(_) => EditMethod::Formatting,
+        EditCall::RangeFormatting(_) => EditMethod::RangeFormatting,
+        EditCall::OnTypeFormatting(_) => EditMethod::OnTypeFormatting,
+        EditCall::Rename(_) => EditMethod::Rename,
+        EditCall::PrepareRename(_) => EditMethod::PrepareRename,
+        EditCall::LinkedEditingRange(_) => EditMethod::LinkedEditingRange,
+        EditCall::Diagnostic(_) => EditMethod::Diagnostic,
+    }
+}
+
+fn work_target(call: &WorkCall) -> WorkMethod
+    ensures { result ≡ work_method call.now }
+{
+    match call {
+        WorkCall::WorkspaceDiagnostic(_) => WorkMethod::WorkspaceDiagnostic,
+        WorkCall::Symbol(_) => WorkMethod::Symbol,
+        WorkCall::SymbolResolve(_) => WorkMethod::SymbolResolve,
+        WorkCall::DidChangeConfiguration(_) => WorkMethod::DidChangeConfiguration,
+        WorkCall::DidChangeWorkspaceFolders(_) => WorkMethod::DidChangeWorkspaceFolders,
+        WorkCall::WillCreateFiles(_) => WorkMethod::WillCreateFiles,
+        WorkCall::DidCreateFiles(_) => WorkMethod::DidCreateFiles,
+        WorkCall::WillRenameFiles(_) => WorkMethod::WillRenameFiles,
+        WorkCall::DidRenameFiles(_) => WorkMethod::DidRenameFiles,
+        WorkCall::WillDeleteFiles(_) => WorkMethod::WillDeleteFiles,
+        WorkCall::DidDeleteFiles(_) => WorkMethod::DidDeleteFiles,
+        WorkCall::DidChangeWatchedFiles(_) => WorkMethod::DidChangeWatchedFiles,
+        WorkCall::ExecuteCommand(_) => WorkMethod::ExecuteCommand,
+    }
+}
+
+impl Call {
+    /// What was called, where its method was registered with this kind.
+    pub fn target(&self, kind: Kind) -> Target
+        ensures { result ≡ target_of (show_call self.now) kind }
+    {
+        match self {
+            Call::Life(call) => Target::Typed(Method::Life(life_target(call))),
+            Call::Sync(call) => Target::Typed(Method::Sync(sync_target(call))),
+            Call::Goto(call) => Target::Typed(Method::Goto(goto_target(call))),
+            Call::Hierarchy(call) => Target::Typed(Method::Hierarchy(hierarchy_target(call))),
+            Call::Show(call) => Target::Typed(Method::Show(show_target(call))),
+            Call::Token(call) => Target::Typed(Method::Token(token_target(call))),
+            Call::Edit(call) => Target::Typed(Method::Edit(edit_target(call))),
+            Call::Work(call) => Target::Typed(Method::Work(work_target(call))),
+            Call::Custom(_, _) => Target::Custom(kind),
+        }
+    }
+}

@@ -1,0 +1,36 @@
+//! Typed methods of a language server, and the service that a session runs.
+#![tactic(auto)]
+
+mod answer;
+mod answering;
+mod asking;
+mod attach;
+mod builder;
+mod call;
+mod common;
+mod incoming;
+mod params;
+mod read;
+mod reply;
+mod server;
+mod service;
+mod stdio;
+mod write;
+
+pub use answering::{Answering, AtOnce};
+pub use asking::{Asking, InTime};
+pub use builder::{LspServiceBuilder, Unmade};
+pub use call::{
+    Call, EditCall, GotoCall, HierarchyCall, LifeCall, ShowCall, SyncCall, Target, TokenCall,
+    WorkCall,
+};
+pub use common::{initialize_reply, let_go, not_found, not_found_for};
+pub use incoming::Incoming;
+pub use lsp_session::NoMemory;
+pub use reply::{
+    EditReply, GotoReply, HierarchyReply, LifeReply, Reply, ShowReply, SyncReply, TokenReply,
+    WorkReply,
+};
+pub use server::{LanguageServer, NoTask, Started};
+pub use service::{Held, LspService};
+pub use stdio::serve_stdio;

@@ -1,0 +1,14 @@
+-- No fact speaks of empty params.
+use Rattle.std.proofs.Common.{true}
+use Rattle.lsp_session.specs.PendingView.{live_ids}
+use Rattle.lsp_session.specs.View.{running_view}
+use Rattle.lsp_session.proofs.RunningLemmas.{facts_empty}
+use Rattle.lsp_session.proofs.FactLemmas.{fits_empty}
+use Rattle.lsp_session.proofs.running.Running.allow_empty_params.Goals as goal
+
+pub returns-clause-keeps : goal.returns-clause-keeps
+returns-clause-keeps g c keeps =
+    let semantics = g.H.Handlers.semantics in
+    let old = c.args.self in
+    let s = (running_view semantics g.D.Caller.meaning old).state in
+    (facts_empty semantics s true old.life (live_ids old.live) keeps.0, fits_empty s true keeps.1)

@@ -1,0 +1,8 @@
+//! A server of one's own over standard input and output.
+#![tactic(auto)]
+
+mod status;
+mod stdio;
+
+pub use lsp_program::Status;
+pub use stdio::{serve, serve_stdio};

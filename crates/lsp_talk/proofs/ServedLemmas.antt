@@ -1,0 +1,81 @@
+-- What a server that served the frame of an `initialize` hands back.
+use Rattle.std.proofs.Common.{◌≡◌, ◌≤◌, ℕ, List, [], ◌++◌, map, refl, sym, ap, ◌∙◌, subst, Bool, Option, Some, None}
+use Rattle.std.specs.Prelude.{⊤}
+use Rattle.lsp_desk.specs.Meaning.{Grown}
+use Rattle.lsp_desk.specs.Trace.{DeskEntry, entries_of, places}
+use Rattle.lsp_frame.specs.declared.limits.Limits.{Limits}
+use Rattle.lsp_frame.specs.declared.settings.CodecSettings.{CodecSettings}
+use Rattle.lsp_frame.specs.Codec.{Floats, Refused, default_limits, default_settings}
+use Rattle.lsp_session.specs.Item.{ItemData}
+use Rattle.lsp_session.specs.Run.{Step, Run, served}
+use Rattle.lsp_server.specs.Course.{Setting, course, opening_view, picked}
+use Rattle.lsp_server.specs.Items.{stream_items}
+use Rattle.lsp_server.specs.Served.{CallBytes, ServedView, IsServed}
+use Rattle.lsp_shared.specs.declared.view.View.{View}
+use Rattle.lsp_shared.specs.declared.view.Item.{Item}
+use Rattle.lsp_shared.specs.Rule.{entry_of}
+use Rattle.lsp_shared.specs.Seats.{entries_seen}
+use Rattle.lsp_shared.proofs.Calling.{kin_same}
+use Rattle.lsp_callers.specs.declared.tallied.Tallied.{Tallied}
+use Rattle.lsp_callers.specs.Made.{KeepsSeat}
+use Rattle.lsp_callers.specs.Tallies.{tallied_meaning, tallied_view, tallied_desk}
+use Rattle.lsp_sample_server.specs.declared.sample.Sample.{Sample}
+use Rattle.lsp_sample_server.specs.Sample.{sample_semantics, sample_find}
+use Rattle.lsp_sample_server.specs.Sessions.{sample, in_order}
+use Rattle.lsp_talk.specs.Hello.{hello_bytes, hello_items, HasServedHello}
+
+or_none : {X : Type 0} → Option (List X) → List X
+or_none None = []
+or_none (Some l) = l
+
+pub some_same : {X : Type 0} (a b : List X) → Some a ≡ Some b → a ≡ b
+unfolding or_none
+some_same a b e = ap or_none e
+
+codec_same : (l : Limits) (f : Floats) → l ≡ default_limits → f ≡ Refused → record { limits = l; floats = f } ≡ default_settings
+codec_same l f limits floats = rw (limits, floats) refl
+
+module _ {R : Type 0} where
+  -- the setting of a server of the sample
+  abbrev pub hello_setting : Tallied R → ℕ → ℕ → ℕ → Limits → Floats → Bool → Setting Sample (Tallied R) ⊤
+  hello_setting desk max wait rounds limits floats empty_params =
+      record { service = sample; desk = desk; max = max; wait = wait; rounds = rounds; limits = limits; floats = floats; empty_params = empty_params; pick = tt }
+
+  pub hello_served : (desk : Tallied R) (max wait rounds : ℕ) (limits : Limits) (floats : Floats) (empty_params : Bool) (call : CallBytes) (view : ServedView Sample (Tallied R)) (pick : ⊤)
+      → IsServed (course sample_semantics tallied_meaning in_order (hello_setting desk max wait rounds limits floats empty_params)) call view pick
+      → call.bytes ≡ hello_bytes → 1 ≤ max → 1 ≤ rounds → limits ≡ default_limits → floats ≡ Refused → (tallied_view desk).seen ≡ [] → (tallied_view desk).made ≡ [] → HasServedHello (tallied_view view.desk)
+  hello_served desk max wait rounds limits floats empty_params call view pick h bytes_are some some_rounds limits_are floats_are seen made =
+      let ran = h.ran in
+      let trace = ran.effect.trace in
+      let setting = hello_setting desk max wait rounds limits floats empty_params in
+      let items_are : served sample_find (stream_items (record { limits = limits; floats = floats }) call.bytes) ≡ hello_items =
+      ap (λ (k : CodecSettings). served sample_find (stream_items k call.bytes)) (codec_same limits floats limits_are floats_are)
+      ∙ ap (λ b. served sample_find (stream_items default_settings b)) bytes_are in
+      let none : entries_seen (tallied_view desk) ≡ [] = ap (λ l. map entry_of l) seen in
+      let history : entries_seen (tallied_view view.desk) ≡ entries_seen (tallied_view desk) ++ entries_of trace = some_same _ _ ran.grows.history in
+      record {
+        trace = trace;
+        serves = record {
+          rounds = rounds;
+          some = some_rounds;
+          out = ran.effect.out;
+          last = h.last.session;
+          serves = record {
+            max = max;
+            wait = wait;
+            empty_params = empty_params;
+            some = some;
+            pick = tt;
+            then = h.last.pick;
+            runs = subst (λ (l : List ItemData). Run (Step sample_semantics in_order rounds) (picked (opening_view setting) tt) l ran.effect h.last) items_are ran.run;
+          };
+        };
+        seen = history ∙ ap (λ l. l ++ entries_of trace) none;
+        made = ran.grows.own [] (ap Some none) ∙ ap (λ l. l ++ places 0 trace) made;
+      }
+
+  pub keeps_grown : (desk old new : Tallied R) → old ≡ desk → Grown tallied_meaning old new → KeepsSeat (tallied_desk desk) (tallied_view desk) (tallied_desk new) (tallied_view new)
+  keeps_grown desk old new same grown =
+      let kin = kin_same (tallied_desk new) (tallied_desk old) (tallied_view new).share (tallied_view old).share grown.grows.kin in
+      subst (λ (t : Tallied R). KeepsSeat (tallied_desk t) (tallied_view t) (tallied_desk new) (tallied_view new)) same
+      (record { here = kin.0; share = kin.1; owner = grown.grows.chief })

@@ -1,0 +1,77 @@
+// What becomes of what is asked and told, as texts.
+ghost use Rattle.std.specs.Prelude.{◌≡◌, false};
+ghost use Rattle.lsp_desk.specs.Call.{call_has_float};
+ghost use Rattle.lsp_desk.specs.Shown.{show_server_call};
+
+use lsp_client::{Answered, Asked, Told};
+use lsp_desk::{Desk, DeskFault, ServerCall, ServerReply};
+use lsp_rows::text_of;
+use lsp_rpc::{NoMemory, Response};
+use lsp_shape::{Misfit, Wire};
+use serde_json::Value;
+use std::alloc::Global;
+
+/// What became of a notification.
+pub(crate) fn told(alloc: Global, told: Result<Told, DeskFault>) -> Result<String, NoMemory> {
+    match told {
+        Ok(told) => Ok(format!(in alloc; "{told:?}")?),
+        Err(fault) => Ok(format!(in alloc; "{fault:?}")?),
+    }
+}
+
+/// What became of a request.
+pub(crate) fn asked<R>(
+    alloc: Global,
+    asked: Result<Asked<R>, DeskFault>,
+) -> Result<String, NoMemory> {
+    match asked {
+        Ok(Asked::Ticket(_)) => Ok(String::from_str(alloc, "Ticket")?),
+        Ok(Asked::Refused(error)) => Ok(format!(in alloc; "Refused({})", error.code.code())?),
+        Err(fault) => Ok(format!(in alloc; "{fault:?}")?),
+    }
+}
+
+/// What came of a request.
+pub(crate) fn answered<R, A: Wire>(
+    alloc: Global,
+    answered: Result<Answered<R, A>, DeskFault>,
+) -> Result<String, NoMemory> {
+    match answered {
+        Ok(Answered::Value(value)) => text_of(alloc, &value),
+        Ok(Answered::Error(error)) => Ok(format!(in alloc; "Error({})", error.code.code())?),
+        Ok(Answered::Pending(_)) => Ok(String::from_str(alloc, "Pending")?),
+        Err(fault) => Ok(format!(in alloc; "{fault:?}")?),
+    }
+}
+
+/// The value that a text is read as.
+pub(crate) fn read<T: Wire>(alloc: Global, text: &str) -> Result<T, Misfit> {
+    match Value::from_str(alloc, text) {
+        Ok(value) => T::from_value(alloc, &value),
+        Err(_) => Err(Misfit::Unfit),
+    }
+}
+
+/// What a desk replies to a call of the session.
+pub(crate) fn serve<D: Desk>(
+    alloc: Global,
+    desk: &mut D,
+    call: ServerCall,
+) -> Result<String, NoMemory>
+    requires { call_has_float (show_server_call call) ≡ false }
+{
+    match desk.server(call) {
+        Ok(ServerReply::First(Some(request))) => request.to_text(alloc),
+        Ok(ServerReply::Messages(_)) => Ok(String::from_str(alloc, "Messages")?),
+        Ok(reply) => Ok(format!(in alloc; "{reply:?}")?),
+        Err(fault) => Ok(format!(in alloc; "{fault:?}")?),
+    }
+}
+
+/// What a desk replies to an answer of the client.
+pub(crate) fn answer<D: Desk>(alloc: Global, desk: &mut D, text: &str) -> Result<String, Misfit> {
+    match Response::from_text(alloc, text) {
+        Ok(response) => Ok(serve(alloc, desk, ServerCall::Answer(response))?),
+        Err(_) => Err(Misfit::Unfit),
+    }
+}

@@ -1,0 +1,198 @@
+//! Random changes of random texts, made by the store and by a plain walk over a list of characters.
+use lsp_base::{Position, Range, TextDocumentContentChangeEvent};
+use lsp_documents::{ChangeError, Documents};
+use lsp_rows::{RowError, Trial};
+use rand_core::utils::NextWord;
+use rand_pcg::Pcg32;
+use std::alloc::{AllocError, AllocFailed, Global};
+
+const PIECES: [&str; 12] = [
+    "", "a", "bc", "é", "漢", "😀", "\r", "\n", "\r\n", "\u{ffff}", "𐀀\r", "x\ny",
+];
+
+// A number below `limit`.
+fn below(random: &mut Pcg32, limit: u32) -> u32 {
+    random.next_word() % limit.max(1)
+}
+
+// How large the texts and the positions of a run are.
+#[derive(Clone, Copy)]
+struct Scale {
+    // The pieces of a text are fewer.
+    pieces: u32,
+    lines: u32,
+    characters: u32,
+    // A text of more characters is replaced as a whole.
+    longest: usize,
+}
+
+fn piece(random: &mut Pcg32, kinds: u32) -> &'static str {
+    PIECES[below(random, kinds) as usize % 12]
+}
+
+// Half of the texts have no end of a line.
+fn some_text(alloc: Global, random: &mut Pcg32, scale: Scale) -> Result<String, AllocError> {
+    let kinds = if below(random, 2) == 0 { 6 } else { 12 };
+    let mut text = String::new(alloc);
+    for _ in 0..below(random, scale.pieces) {
+        text.push_str(piece(random, kinds))?;
+    }
+    Ok(text)
+}
+
+fn some_position(random: &mut Pcg32, scale: Scale) -> Position {
+    let line = below(random, scale.lines);
+    Position::new(line, below(random, scale.characters))
+}
+
+// Mostly a range, and mostly one whose start is not behind its end.
+fn some_range(random: &mut Pcg32, scale: Scale) -> Option<Range> {
+    if below(random, 40) == 0 {
+        return None;
+    }
+    let (one, other) = (some_position(random, scale), some_position(random, scale));
+    if below(random, 8) > 0 && other < one {
+        return Some(Range::new(other, one));
+    }
+    Some(Range::new(one, other))
+}
+
+// How many characters stand before a position.
+fn plain_place(text: &[char], position: Position) -> usize {
+    let mut lines = position.line;
+    let mut units = position.character;
+    for (i, c) in text.iter().enumerate() {
+        let ends = *c == '\n' || *c == '\r';
+        if lines > 0 {
+            if ends && (*c == '\n' || text.get(i + 1) != Some(&'\n')) {
+                lines -= 1;
+            }
+            continue;
+        }
+        let width = if *c < '\u{10000}' { 1 } else { 2 };
+        if ends || units < width {
+            return i;
+        }
+        units -= width;
+    }
+    text.len()
+}
+
+// The text after a change, or none where its start is behind its end.
+fn plain_change(
+    alloc: Global,
+    text: &[char],
+    range: Option<Range>,
+    new: &str,
+) -> Result<Option<Vec<char>>, AllocFailed<char>> {
+    let (start, end) = match range {
+        None => (0, text.len()),
+        Some(range) => (plain_place(text, range.start), plain_place(text, range.end)),
+    };
+    if end < start {
+        return Ok(None);
+    }
+    let mut changed = Vec::new(alloc);
+    for c in text.iter().take(start) {
+        changed.push(*c)?;
+    }
+    for c in new.chars() {
+        changed.push(c)?;
+    }
+    for c in text.iter().skip(end) {
+        changed.push(*c)?;
+    }
+    Ok(Some(changed))
+}
+
+// The text of the characters.
+fn spelled(alloc: Global, text: &[char]) -> Result<String, AllocError> {
+    text.iter().copied().collect(alloc)
+}
+
+const URI: &str = "file:///a";
+
+// One change both ways.
+fn step(
+    alloc: Global,
+    documents: &mut Documents,
+    text: &mut Vec<char>,
+    version: i32,
+    range: Option<Range>,
+    new: String,
+    trial: &mut Trial,
+) -> Result<(), RowError> {
+    let expected = match plain_change(alloc, text.as_slice(), range, new.as_str()) {
+        Ok(expected) => expected,
+        Err(_) => return Err(RowError::NoMemory),
+    };
+    let change = [TextDocumentContentChangeEvent {
+        range,
+        range_length: None,
+        text: new,
+    }];
+    let found = documents.change(URI, version, &change);
+    match expected {
+        None => trial.same(version, found, Err(ChangeError::StartBehindEnd)),
+        Some(changed) => {
+            trial.same(version, found, Ok(()));
+            *text = changed;
+        }
+    }
+    let shown = spelled(alloc, text.as_slice())?;
+    match documents.get(URI) {
+        Some(document) => trial.is_true(version, document.text() == shown.as_str()),
+        None => trial.is_true(version, false),
+    }
+    Ok(())
+}
+
+// So many changes both ways.
+fn run(alloc: Global, seed: u64, changes: i32, scale: Scale) -> Result<(), RowError> {
+    let mut trial = Trial::new(alloc);
+    let mut documents = Documents::new(alloc);
+    let mut random = Pcg32::new(seed, 54);
+    let mut text = Vec::new(alloc);
+    trial.same("opened", documents.open(URI, 0, String::new(alloc)), Ok(()));
+    for version in 0..changes {
+        let range = if text.len() > scale.longest {
+            None
+        } else {
+            some_range(&mut random, scale)
+        };
+        let new = some_text(alloc, &mut random, scale)?;
+        step(
+            alloc,
+            &mut documents,
+            &mut text,
+            version,
+            range,
+            new,
+            &mut trial,
+        )?;
+    }
+    trial.end()
+}
+
+#[test]
+fn a_plain_walk_makes_the_same_of_short_texts(rt: HostRuntime) -> Result<(), RowError> {
+    let scale = Scale {
+        pieces: 5,
+        lines: 7,
+        characters: 9,
+        longest: 60,
+    };
+    run(rt.alloc(), 20261128, 100_000, scale)
+}
+
+// Texts and lines of some hundred bytes are searched in blocks.
+#[test]
+fn a_plain_walk_makes_the_same_of_long_texts(rt: HostRuntime) -> Result<(), RowError> {
+    let scale = Scale {
+        pieces: 800,
+        lines: 300,
+        characters: 1200,
+        longest: 2000,
+    };
+    run(rt.alloc(), 20261129, 3_000, scale)
+}

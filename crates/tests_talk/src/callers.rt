@@ -1,0 +1,92 @@
+//! Callers that talk beside one another.
+use lsp_rows::{RowError, Trial};
+use lsp_server::MemorySink;
+use lsp_shared::SharedDesk;
+use lsp_talk::{Gate, Open, talk_with};
+use std::alloc::Global;
+use std::hint::spin_loop;
+use std::str;
+use std::sync::atomic::{AtomicU64, Ordering};
+
+// How often the first caller looks whether the second has come.
+const LOOKS: u64 = 100_000_000;
+
+/// Lets the first caller pass only when the second has come.
+#[derive(Drop)]
+struct AfterTheSecond {
+    come: AtomicU64,
+    missed: AtomicU64,
+}
+
+impl Gate for AfterTheSecond {
+    fn pass(&self, number: u64) {
+        match number {
+            1 => self.await_second(),
+            2 => self.come.store(1, Ordering::SeqCst),
+            _ => {}
+        }
+    }
+}
+
+impl AfterTheSecond {
+    // Notes a failure where the second never comes.
+    fn await_second(&self) {
+        for _ in 0..LOOKS {
+            if self.come.load(Ordering::SeqCst) != 0 {
+                return;
+            }
+            spin_loop();
+        }
+        self.missed.store(1, Ordering::SeqCst);
+    }
+}
+
+#[test]
+fn callers_beside(rt: HostRuntime) -> Result<(), RowError> {
+    let alloc = rt.alloc();
+    let (desk, seat) = SharedDesk::new(alloc)?;
+    let gate = AfterTheSecond {
+        come: AtomicU64::new(0),
+        missed: AtomicU64::new(0),
+    };
+    let mut sink = MemorySink::new(alloc, Vec::new(alloc));
+    let owner = desk.owner(&rt, seat);
+    let (status, owner) = talk_with(&rt, alloc, 2, 3, owner, &gate, &mut sink);
+    let mut trial = Trial::new(alloc);
+    trial.same(
+        "the second didn't come",
+        gate.missed.load(Ordering::SeqCst),
+        0,
+    );
+    trial.same("status", status, 0);
+    trial.same(
+        "written",
+        str::from_utf8(sink.bytes()),
+        Ok("sent 6 delivered 6\n"),
+    );
+    trial.same("share", owner.share(), 1 << 63);
+    trial.end()
+}
+
+// Clones, messages, and the line.
+const TALKS: [(u64, u64, &str); 4] = [
+    (1, 0, "sent 0 delivered 0\n"),
+    (1, 1, "sent 1 delivered 1\n"),
+    (3, 7, "sent 21 delivered 21\n"),
+    (4, 1000, "sent 4000 delivered 4000\n"),
+];
+
+#[test]
+fn lines(rt: HostRuntime) -> Result<(), RowError> {
+    let alloc = rt.alloc();
+    let mut trial = Trial::new(alloc);
+    for (clones, messages, line) in TALKS {
+        let (desk, seat) = SharedDesk::new(alloc)?;
+        let mut sink = MemorySink::new(alloc, Vec::new(alloc));
+        let owner = desk.owner(&rt, seat);
+        let (status, _) = talk_with(&rt, alloc, clones, messages, owner, &Open, &mut sink);
+        trial.same(line, status, 0);
+        trial.same(line, str::from_utf8(sink.bytes()), Ok(line));
+    }
+    trial.end()
+}
