@@ -94,7 +94,7 @@ impl<D: Caller> Asking<D> for Asks {
 // The replies to calls that need no client.
 fn reply(alloc: Global, call: Call) -> Result<Reply, NoMemory> {
     match call {
-        Call::Life(LifeCall::Initialize(params)) => Ok(initialize_reply(params, offers())),
+        Call::Life(LifeCall::Initialize(params)) => initialize_reply(alloc, params, offers()),
         Call::Life(LifeCall::Shutdown) => Ok(Reply::Life(LifeReply::Shutdown(Ok(())))),
         Call::Custom(_, Some(params)) => Ok(Reply::Custom(Ok(params))),
         Call::Custom(_, None) => Ok(Reply::Custom(Ok(Value::Null))),

@@ -59,7 +59,7 @@ impl DocsServer {
         ensures err { OnErr result (self.new ≡ self.old) }
     {
         match call {
-            Call::Life(LifeCall::Initialize(params)) => Ok(Some(initialize(params))),
+            Call::Life(LifeCall::Initialize(params)) => Ok(Some(initialize(alloc, params)?)),
             Call::Life(LifeCall::Shutdown) => { Ok(Some(Reply::Life(LifeReply::Shutdown(Ok(()))))) }
             Call::Sync(SyncCall::DidOpen(params)) => self.open(params),
             Call::Sync(SyncCall::DidChange(params)) => self.change(params),
@@ -164,8 +164,8 @@ impl<D: Caller> LanguageServer<D> for DocsServer {
 }
 
 // Documents are to be told when they are opened, changed and closed, and changes in ranges.
-fn initialize(params: InitializeParams) -> Reply
-    ensures { OffersSync (show_reply result) }
+fn initialize(alloc: Global, params: Box<InitializeParams>) -> Result<Reply, NoMemory>
+    ensures { IfOk result (λ reply. OffersSync (show_reply reply)) }
 {
     let mut capabilities = ServerCapabilities::default();
     let wanted = TextDocumentSyncOptions {
@@ -176,7 +176,7 @@ fn initialize(params: InitializeParams) -> Reply
         save: None,
     };
     capabilities.text_document_sync = Some(wanted.into());
-    initialize_reply(params, capabilities)
+    initialize_reply(alloc, params, capabilities)
 }
 
 // The params of `docs/text` are an object with a string `uri`.

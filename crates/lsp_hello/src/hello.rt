@@ -15,7 +15,7 @@ pub struct Hello;
 impl Answering for Hello {
     fn answer(&mut self, alloc: Global, call: Call) -> Result<Reply, NoMemory> {
         match call {
-            Call::Life(LifeCall::Initialize(params)) => Ok(initialize(params)),
+            Call::Life(LifeCall::Initialize(params)) => initialize(alloc, params),
             Call::Life(LifeCall::Shutdown) => Ok(Reply::Life(LifeReply::Shutdown(Ok(())))),
             Call::Show(ShowCall::Hover(params)) => hover(alloc, params),
             Call::Edit(EditCall::Completion(params)) => completion(alloc, params),
@@ -24,12 +24,12 @@ impl Answering for Hello {
     }
 }
 
-fn initialize(params: InitializeParams) -> Reply {
+fn initialize(alloc: Global, params: Box<InitializeParams>) -> Result<Reply, NoMemory> {
     let mut capabilities = ServerCapabilities::default();
     capabilities.hover_provider = Some(true.into());
     capabilities.completion_provider = Some(CompletionOptions::default());
     capabilities.text_document_sync = Some(TextDocumentSyncKind::FULL.into());
-    initialize_reply(params, capabilities)
+    initialize_reply(alloc, params, capabilities)
 }
 
 fn hover(alloc: Global, params: HoverParams) -> Result<Reply, NoMemory> {

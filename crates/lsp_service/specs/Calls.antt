@@ -70,7 +70,7 @@ use Rattle.lsp_methods.specs.declared.method.WorkMethod.{WorkMethod}
 use Rattle.lsp_methods.specs.declared.method.WorkMethod.TheVariants as work
 
 abbrev pub show_life : LifeCall → MethodCall
-show_life (life_calls.Initialize p) = typed (methods.Life life.Initialize) (Some (initialize_params_row.shown p))
+show_life (life_calls.Initialize p) = typed (methods.Life life.Initialize) (Some (initialize_params_row.shown p.value))
 show_life (life_calls.Initialized p) = typed (methods.Life life.Initialized) (Some (initialized_params_row.shown p))
 show_life life_calls.Shutdown = typed (methods.Life life.Shutdown) None
 
@@ -167,10 +167,10 @@ token_method (token_calls.InlayHintResolve p) = token.InlayHintResolve
 
 abbrev pub show_edit : EditCall → MethodCall
 show_edit (edit_calls.Completion p) = typed (methods.Edit edit.Completion) (Some (completion_params_row.shown p))
-show_edit (edit_calls.CompletionResolve p) = typed (methods.Edit edit.CompletionResolve) (Some (completion_item_row.shown p))
+show_edit (edit_calls.CompletionResolve p) = typed (methods.Edit edit.CompletionResolve) (Some (completion_item_row.shown p.value))
 show_edit (edit_calls.SignatureHelp p) = typed (methods.Edit edit.SignatureHelp) (Some (signature_help_params_row.shown p))
 show_edit (edit_calls.CodeAction p) = typed (methods.Edit edit.CodeAction) (Some (code_action_params_row.shown p))
-show_edit (edit_calls.CodeActionResolve p) = typed (methods.Edit edit.CodeActionResolve) (Some (code_action_row.shown p))
+show_edit (edit_calls.CodeActionResolve p) = typed (methods.Edit edit.CodeActionResolve) (Some (code_action_row.shown p.value))
 show_edit (edit_calls.Formatting p) = typed (methods.Edit edit.Formatting) (Some (document_formatting_params_row.shown p))
 show_edit (edit_calls.RangeFormatting p) = typed (methods.Edit edit.RangeFormatting) (Some (document_range_formatting_params_row.shown p))
 show_edit (edit_calls.OnTypeFormatting p) = typed (methods.Edit edit.OnTypeFormatting) (Some (document_on_type_formatting_params_row.shown p))

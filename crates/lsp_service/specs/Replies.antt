@@ -56,7 +56,7 @@ use Rattle.lsp_service.specs.declared.reply.WorkReply.TheVariants as work_replie
 use Rattle.lsp_methods.specs.declared.method.WorkMethod.TheVariants as work
 
 abbrev pub show_life_reply : LifeReply → MethodReply
-show_life_reply (life_replies.Initialize r) = answer (methods.Life life.Initialize) (result_shown initialize_result_row.shown r)
+show_life_reply (life_replies.Initialize r) = answer (methods.Life life.Initialize) (result_shown (λ b. initialize_result_row.shown b.value) r)
 show_life_reply (life_replies.Shutdown r) = answer (methods.Life life.Shutdown) (result_shown nil_row.shown r)
 
 abbrev pub show_sync_reply : SyncReply → MethodReply
@@ -99,10 +99,10 @@ show_token_reply (token_replies.InlayHintResolve r) = answer (methods.Token toke
 
 abbrev pub show_edit_reply : EditReply → MethodReply
 show_edit_reply (edit_replies.Completion r) = answer (methods.Edit edit.Completion) (result_shown (maybe completion_response_row).shown r)
-show_edit_reply (edit_replies.CompletionResolve r) = answer (methods.Edit edit.CompletionResolve) (result_shown completion_item_row.shown r)
+show_edit_reply (edit_replies.CompletionResolve r) = answer (methods.Edit edit.CompletionResolve) (result_shown (λ b. completion_item_row.shown b.value) r)
 show_edit_reply (edit_replies.SignatureHelp r) = answer (methods.Edit edit.SignatureHelp) (result_shown (maybe signature_help_row).shown r)
 show_edit_reply (edit_replies.CodeAction r) = answer (methods.Edit edit.CodeAction) (result_shown (maybe (list code_action_or_command_row)).shown r)
-show_edit_reply (edit_replies.CodeActionResolve r) = answer (methods.Edit edit.CodeActionResolve) (result_shown code_action_row.shown r)
+show_edit_reply (edit_replies.CodeActionResolve r) = answer (methods.Edit edit.CodeActionResolve) (result_shown (λ b. code_action_row.shown b.value) r)
 show_edit_reply (edit_replies.Formatting r) = answer (methods.Edit edit.Formatting) (result_shown (maybe (list text_edit_row)).shown r)
 show_edit_reply (edit_replies.RangeFormatting r) = answer (methods.Edit edit.RangeFormatting) (result_shown (maybe (list text_edit_row)).shown r)
 show_edit_reply (edit_replies.OnTypeFormatting r) = answer (methods.Edit edit.OnTypeFormatting) (result_shown (maybe (list text_edit_row)).shown r)

@@ -38,10 +38,12 @@ use lsp_work::{
 use serde_json::Value;
 
 /// The calls of the life of a session.
+///
+/// The widest params are in a box, here and in [`EditCall`], so that no other call is as wide.
 #[derive(Drop)]
 pub enum LifeCall {
     /// `initialize`.
-    Initialize(InitializeParams),
+    Initialize(Box<InitializeParams>),
     /// `initialized`.
     Initialized(InitializedParams),
     /// `shutdown`.
@@ -145,13 +147,13 @@ pub enum EditCall {
     /// `textDocument/completion`.
     Completion(CompletionParams),
     /// `completionItem/resolve`.
-    CompletionResolve(CompletionItem),
+    CompletionResolve(Box<CompletionItem>),
     /// `textDocument/signatureHelp`.
     SignatureHelp(SignatureHelpParams),
     /// `textDocument/codeAction`.
     CodeAction(CodeActionParams),
     /// `codeAction/resolve`.
-    CodeActionResolve(CodeAction),
+    CodeActionResolve(Box<CodeAction>),
     /// `textDocument/formatting`.
     Formatting(DocumentFormattingParams),
     /// `textDocument/rangeFormatting`.

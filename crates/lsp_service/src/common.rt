@@ -35,14 +35,28 @@ pub fn let_go(call: Call) {
 }
 
 /// The reply to `initialize` of a server with these capabilities.
-pub fn initialize_reply(params: InitializeParams, capabilities: ServerCapabilities) -> Reply
-    ensures { show_reply result ≡ answer (Method.Life LifeMethod.Initialize)
+pub fn initialize_reply(
+    alloc: Global,
+    params: Box<InitializeParams>,
+    capabilities: ServerCapabilities,
+) -> Result<Reply, NoMemory>
+    ensures { IfOk result (λ r. show_reply r ≡ answer (Method.Life LifeMethod.Initialize)
         (Ok (initialize_result_row.shown
-        (record { capabilities = capabilities; server_info = None }))) }
+        (record { capabilities = capabilities; server_info = None })))) }
 {
     drop(params);
-    Reply::Life(LifeReply::Initialize(Ok(InitializeResult {
-        capabilities,
-        server_info: None,
-    })))
+    let result = boxed(
+        alloc,
+        InitializeResult {
+            capabilities,
+            server_info: None,
+        },
+    )?;
+    Ok(Reply::Life(LifeReply::Initialize(Ok(result))))
+}
+
+fn boxed<T: Drop>(alloc: Global, value: T) -> Result<Box<T>, NoMemory>
+    ensures { IfOk result (λ b. b.value ≡ value) }
+{
+    Ok(Box::new(alloc, value)?)
 }

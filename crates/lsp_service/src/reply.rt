@@ -23,7 +23,7 @@ use serde_json::Value;
 #[derive(Drop)]
 pub enum LifeReply {
     /// To `initialize`.
-    Initialize(Result<InitializeResult, Error>),
+    Initialize(Result<Box<InitializeResult>, Error>),
     /// To `shutdown`.
     Shutdown(Result<(), Error>),
 }
@@ -115,13 +115,13 @@ pub enum EditReply {
     /// To `textDocument/completion`.
     Completion(Result<Option<CompletionResponse>, Error>),
     /// To `completionItem/resolve`.
-    CompletionResolve(Result<CompletionItem, Error>),
+    CompletionResolve(Result<Box<CompletionItem>, Error>),
     /// To `textDocument/signatureHelp`.
     SignatureHelp(Result<Option<SignatureHelp>, Error>),
     /// To `textDocument/codeAction`.
     CodeAction(Result<Option<CodeActionResponse>, Error>),
     /// To `codeAction/resolve`.
-    CodeActionResolve(Result<CodeAction, Error>),
+    CodeActionResolve(Result<Box<CodeAction>, Error>),
     /// To `textDocument/formatting`.
     Formatting(Result<Option<Vec<TextEdit>>, Error>),
     /// To `textDocument/rangeFormatting`.
