@@ -11,7 +11,7 @@ use lsp_names::{
 };
 use lsp_rows::{RowError, Trial};
 use lsp_shape::{Misfit, NoMemory, Wire, read_text};
-use std::alloc::Global;
+use std::alloc::{AllocError, Global};
 use std::cmp::Ordering;
 use std::fmt::Debug;
 use std::hash::{DefaultHasher, Hash, Hasher};
@@ -459,7 +459,7 @@ fn code(alloc: Global) -> Result<MarkedString, NoMemory> {
 
 fn code_copied(alloc: Global) -> Result<MarkedString, NoMemory> {
     let code = code(alloc)?;
-    let copy = code.clone();
+    let copy: Result<MarkedString, AllocError> = code.clone();
     drop(code);
     Ok(copy?)
 }

@@ -286,10 +286,7 @@ fn defaults(rt: HostRuntime) -> Result<(), RowError> {
     let alloc = rt.alloc();
     let mut trial = Trial::new(alloc);
     trial.is_written(ExecuteCommandOptions::default(alloc), r#"{"commands":[]}"#);
-    trial.is_written(
-        WorkspaceFileOperationsServerCapabilities::default(),
-        r#"{}"#,
-    );
+    trial.default::<WorkspaceFileOperationsServerCapabilities>(r#"{}"#);
     trial.is_written(
         FileOperationRegistrationOptions::default(alloc),
         r#"{"filters":[]}"#,
@@ -298,12 +295,12 @@ fn defaults(rt: HostRuntime) -> Result<(), RowError> {
         FileOperationFilter::default(alloc),
         r#"{"pattern":{"glob":""},"scheme":null}"#,
     );
-    trial.is_written(FileOperationPatternOptions::default(), r#"{}"#);
+    trial.default::<FileOperationPatternOptions>(r#"{}"#);
     trial.is_written(FileOperationPattern::default(alloc), r#"{"glob":""}"#);
-    trial.is_written(WorkspaceServerCapabilities::default(), r#"{}"#);
-    trial.is_written(WorkspaceFoldersServerCapabilities::default(), r#"{}"#);
+    trial.default::<WorkspaceServerCapabilities>(r#"{}"#);
+    trial.default::<WorkspaceFoldersServerCapabilities>(r#"{}"#);
     trial.is_written(ServerInfo::default(alloc), r#"{"name":""}"#);
-    trial.is_written(InitializeError::default(), r#"{"retry":false}"#);
+    trial.default::<InitializeError>(r#"{"retry":false}"#);
     trial.end()
 }
 
