@@ -101,6 +101,13 @@ impl Trial {
         }
     }
 
+    /// The text is what is written for the type's default.
+    pub fn default<T: Wire + Default + Debug>(&mut self, text: &str) {
+        if self.found.is_ok() {
+            self.found = is_written(self.alloc, &T::default(), text);
+        }
+    }
+
     /// The two values are equal.
     pub fn same<W: Display + Drop, T: PartialEq + Debug + Drop>(
         &mut self,

@@ -319,11 +319,8 @@ fn rows_4(rt: HostRuntime) -> Result<(), RowError> {
 fn defaults(rt: HostRuntime) -> Result<(), RowError> {
     let alloc = rt.alloc();
     let mut trial = Trial::new(alloc);
-    trial.is_written(Position::default(), r#"{"character":0,"line":0}"#);
-    trial.is_written(
-        Range::default(),
-        r#"{"end":{"character":0,"line":0},"start":{"character":0,"line":0}}"#,
-    );
+    trial.default::<Position>(r#"{"character":0,"line":0}"#);
+    trial.default::<Range>(r#"{"end":{"character":0,"line":0},"start":{"character":0,"line":0}}"#);
     trial.is_written(Command::default(alloc), r#"{"command":"","title":""}"#);
     trial.is_written(
         Diagnostic::default(alloc),
@@ -333,16 +330,13 @@ fn defaults(rt: HostRuntime) -> Result<(), RowError> {
         TextEdit::default(alloc),
         r#"{"newText":"","range":{"end":{"character":0,"line":0},"start":{"character":0,"line":0}}}"#,
     );
-    trial.is_written(WorkspaceEdit::default(), r#"{}"#);
-    trial.is_written(PartialResultParams::default(), r#"{}"#);
-    trial.is_written(WorkDoneProgressParams::default(), r#"{}"#);
-    trial.is_written(DynamicRegistrationClientCapabilities::default(), r#"{}"#);
-    trial.is_written(GotoCapability::default(), r#"{}"#);
-    trial.is_written(
-        TextDocumentRegistrationOptions::default(),
-        r#"{"documentSelector":null}"#,
-    );
-    trial.is_written(StaticRegistrationOptions::default(), r#"{}"#);
-    trial.is_written(SymbolKindCapability::default(), r#"{"valueSet":null}"#);
+    trial.default::<WorkspaceEdit>(r#"{}"#);
+    trial.default::<PartialResultParams>(r#"{}"#);
+    trial.default::<WorkDoneProgressParams>(r#"{}"#);
+    trial.default::<DynamicRegistrationClientCapabilities>(r#"{}"#);
+    trial.default::<GotoCapability>(r#"{}"#);
+    trial.default::<TextDocumentRegistrationOptions>(r#"{"documentSelector":null}"#);
+    trial.default::<StaticRegistrationOptions>(r#"{}"#);
+    trial.default::<SymbolKindCapability>(r#"{"valueSet":null}"#);
     trial.end()
 }

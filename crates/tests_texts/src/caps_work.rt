@@ -308,33 +308,24 @@ fn rows_3(rt: HostRuntime) -> Result<(), RowError> {
 fn defaults(rt: HostRuntime) -> Result<(), RowError> {
     let alloc = rt.alloc();
     let mut trial = Trial::new(alloc);
-    trial.is_written(WorkspaceEditClientCapabilities::default(), r#"{}"#);
-    trial.is_written(
-        ChangeAnnotationWorkspaceEditClientCapabilities::default(),
-        r#"{}"#,
-    );
-    trial.is_written(DidChangeWatchedFilesClientCapabilities::default(), r#"{}"#);
-    trial.is_written(
-        WorkspaceFileOperationsClientCapabilities::default(),
-        r#"{}"#,
-    );
-    trial.is_written(WorkspaceSymbolClientCapabilities::default(), r#"{}"#);
+    trial.default::<WorkspaceEditClientCapabilities>(r#"{}"#);
+    trial.default::<ChangeAnnotationWorkspaceEditClientCapabilities>(r#"{}"#);
+    trial.default::<DidChangeWatchedFilesClientCapabilities>(r#"{}"#);
+    trial.default::<WorkspaceFileOperationsClientCapabilities>(r#"{}"#);
+    trial.default::<WorkspaceSymbolClientCapabilities>(r#"{}"#);
     trial.is_written(
         WorkspaceSymbolResolveSupportCapability::default(alloc),
         r#"{"properties":[]}"#,
     );
-    trial.is_written(InlayHintWorkspaceClientCapabilities::default(), r#"{}"#);
-    trial.is_written(InlineValueWorkspaceClientCapabilities::default(), r#"{}"#);
-    trial.is_written(DiagnosticWorkspaceClientCapabilities::default(), r#"{}"#);
-    trial.is_written(WorkspaceClientCapabilities::default(), r#"{}"#);
-    trial.is_written(WindowClientCapabilities::default(), r#"{}"#);
-    trial.is_written(ShowMessageRequestClientCapabilities::default(), r#"{}"#);
-    trial.is_written(MessageActionItemCapabilities::default(), r#"{}"#);
-    trial.is_written(
-        ShowDocumentClientCapabilities::default(),
-        r#"{"support":false}"#,
-    );
-    trial.is_written(GeneralClientCapabilities::default(), r#"{}"#);
+    trial.default::<InlayHintWorkspaceClientCapabilities>(r#"{}"#);
+    trial.default::<InlineValueWorkspaceClientCapabilities>(r#"{}"#);
+    trial.default::<DiagnosticWorkspaceClientCapabilities>(r#"{}"#);
+    trial.default::<WorkspaceClientCapabilities>(r#"{}"#);
+    trial.default::<WindowClientCapabilities>(r#"{}"#);
+    trial.default::<ShowMessageRequestClientCapabilities>(r#"{}"#);
+    trial.default::<MessageActionItemCapabilities>(r#"{}"#);
+    trial.default::<ShowDocumentClientCapabilities>(r#"{"support":false}"#);
+    trial.default::<GeneralClientCapabilities>(r#"{}"#);
     trial.is_written(
         StaleRequestSupportClientCapabilities::default(alloc),
         r#"{"cancel":false,"retryOnContentModified":[]}"#,
@@ -347,10 +338,7 @@ fn defaults(rt: HostRuntime) -> Result<(), RowError> {
         MarkdownClientCapabilities::default(alloc),
         r#"{"parser":""}"#,
     );
-    trial.is_written(
-        NotebookDocumentClientCapabilities::default(),
-        r#"{"synchronization":{}}"#,
-    );
-    trial.is_written(NotebookDocumentSyncClientCapabilities::default(), r#"{}"#);
+    trial.default::<NotebookDocumentClientCapabilities>(r#"{"synchronization":{}}"#);
+    trial.default::<NotebookDocumentSyncClientCapabilities>(r#"{}"#);
     trial.end()
 }

@@ -261,7 +261,7 @@ fn defaults(rt: HostRuntime) -> Result<(), RowError> {
         r#"{"isIncomplete":false,"items":[]}"#,
     );
     trial.is_written(CompletionItem::default(alloc), r#"{"label":""}"#);
-    trial.is_written(CompletionItemLabelDetails::default(), r#"{}"#);
+    trial.default::<CompletionItemLabelDetails>(r#"{}"#);
     trial.is_written(
         InsertReplaceEdit::default(alloc),
         r#"{"insert":{"end":{"character":0,"line":0},"start":{"character":0,"line":0}},"newText":"","replace":{"end":{"character":0,"line":0},"start":{"character":0,"line":0}}}"#,
@@ -270,20 +270,17 @@ fn defaults(rt: HostRuntime) -> Result<(), RowError> {
     trial.is_written(CodeAction::default(alloc), r#"{"title":""}"#);
     trial.is_written(CodeActionDisabled::default(alloc), r#"{"reason":""}"#);
     trial.is_written(InlayHintLabelPart::default(alloc), r#"{"value":""}"#);
-    trial.is_written(
-        InlineValueContext::default(),
+    trial.default::<InlineValueContext>(
         r#"{"frameId":0,"stoppedLocation":{"end":{"character":0,"line":0},"start":{"character":0,"line":0}}}"#,
     );
     trial.is_written(
         InlineValueText::default(alloc),
         r#"{"range":{"end":{"character":0,"line":0},"start":{"character":0,"line":0}},"text":""}"#,
     );
-    trial.is_written(
-        InlineValueVariableLookup::default(),
+    trial.default::<InlineValueVariableLookup>(
         r#"{"caseSensitiveLookup":false,"range":{"end":{"character":0,"line":0},"start":{"character":0,"line":0}}}"#,
     );
-    trial.is_written(
-        InlineValueEvaluatableExpression::default(),
+    trial.default::<InlineValueEvaluatableExpression>(
         r#"{"range":{"end":{"character":0,"line":0},"start":{"character":0,"line":0}}}"#,
     );
     trial.end()

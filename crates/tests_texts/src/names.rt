@@ -56,6 +56,6 @@ fn rows_1(rt: HostRuntime) -> Result<(), RowError> {
 #[test]
 fn defaults(rt: HostRuntime) -> Result<(), RowError> {
     let mut trial = Trial::new(rt.alloc());
-    trial.is_written(WorkDoneProgressOptions::default(), r#"{}"#);
+    trial.default::<WorkDoneProgressOptions>(r#"{}"#);
     trial.end()
 }

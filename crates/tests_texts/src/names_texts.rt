@@ -10,13 +10,11 @@ use lsp_names::{
     SemanticTokensFullOptions, TokenFormat, TraceValue, WorkDoneProgressOptions,
 };
 use lsp_rows::{RowError, Trial};
-use lsp_shape::{Misfit, NoMemory, Wire};
-use serde_json::Value;
-use std::alloc::Global;
+use lsp_shape::{Misfit, NoMemory, Wire, read_text};
+use std::alloc::{AllocError, Global};
 use std::cmp::Ordering;
 use std::fmt::Debug;
 use std::hash::{DefaultHasher, Hash, Hasher};
-use std::test::Fail;
 
 fn hash_of<K: Hash>(kind: &K) -> u64 {
     let mut state = DefaultHasher::new();
@@ -291,22 +289,46 @@ fn by_their_texts(rt: HostRuntime) -> Result<(), RowError> {
     trial.end()
 }
 
+// Whether the first is there and is the second.
+fn is_kind<K: PartialEq + Drop>(made: Result<K, NoMemory>, known: K) -> Result<bool, NoMemory> {
+    match made {
+        Ok(made) => Ok(made == known),
+        Err(NoMemory) => Err(NoMemory),
+    }
+}
+
 #[test]
 fn names_of_other_kinds(rt: HostRuntime) -> Result<(), RowError> {
     let alloc = rt.alloc();
-    let lifetime = SemanticTokenType::new(alloc, "lifetime")?;
-    let fixed = SemanticTokenModifier::new(alloc, "static")?;
-    let utf16 = PositionEncodingKind::new(alloc, "utf-16")?;
-    let absolute = TokenFormat::new(alloc, "absolute")?;
-    let ebcdic = PositionEncodingKind::new(alloc, "ebcdic")?;
     let mut trial = Trial::new(alloc);
-    trial.is_true("lifetime", lifetime != SemanticTokenType::TYPE());
-    trial.is_true("static", fixed == SemanticTokenModifier::STATIC());
-    trial.is_true("utf-16", utf16 == PositionEncodingKind::UTF16());
-    trial.is_true("absolute", absolute != TokenFormat::RELATIVE());
+    let lifetime = SemanticTokenType::new(alloc, "lifetime");
+    trial.same(
+        "lifetime",
+        is_kind(lifetime, SemanticTokenType::TYPE()),
+        Ok(false),
+    );
+    let fixed = SemanticTokenModifier::new(alloc, "static");
+    trial.same(
+        "static",
+        is_kind(fixed, SemanticTokenModifier::STATIC()),
+        Ok(true),
+    );
+    let utf16 = PositionEncodingKind::new(alloc, "utf-16");
+    trial.same(
+        "utf-16",
+        is_kind(utf16, PositionEncodingKind::UTF16()),
+        Ok(true),
+    );
+    let absolute = TokenFormat::new(alloc, "absolute");
+    trial.same(
+        "absolute",
+        is_kind(absolute, TokenFormat::RELATIVE()),
+        Ok(false),
+    );
     let known = CodeActionKind::SOURCE_FIX_ALL();
     trial.shows("source.fixAll", known, "CodeActionKind(\"source.fixAll\")");
-    trial.shows("ebcdic", ebcdic, "PositionEncodingKind(\"ebcdic\")");
+    let ebcdic = PositionEncodingKind::new(alloc, "ebcdic");
+    trial.shows("ebcdic", ebcdic, "Ok(PositionEncodingKind(\"ebcdic\"))");
     trial.end()
 }
 
@@ -427,48 +449,68 @@ fn texts_of_editors(rt: HostRuntime) -> Result<(), RowError> {
     trial.end()
 }
 
-#[test]
-fn values_by_their_parts(rt: HostRuntime) -> Result<(), Fail> {
-    let alloc = rt.alloc();
-    let code = MarkedString::from_language_code(
-        String::from_str(alloc, "rust")?,
-        String::from_str(alloc, "fn a() {}")?,
-    );
-    let text = r#"{"language":"rust","value":"fn a() {}"}"#;
-    let read = MarkedString::from_value(alloc, &Value::from_str(alloc, text)?)?;
-    let copy = code.clone()?;
-    let markdown = MarkedString::from_markdown(String::from_str(alloc, "*a*")?);
-    let mut trial = Trial::new(alloc);
-    trial.is_true("the code is read", read == code);
-    trial.is_true("a copy of the code", copy == code);
-    trial.is_true("markdown is no code", markdown != code);
-    trial.shows("markdown", markdown, "String(\"*a*\")");
-    Ok(trial.end()?)
+const CODE: &str = r#"{"language":"rust","value":"fn a() {}"}"#;
+
+fn code(alloc: Global) -> Result<MarkedString, NoMemory> {
+    let language = String::from_str(alloc, "rust")?;
+    let value = String::from_str(alloc, "fn a() {}")?;
+    Ok(MarkedString::from_language_code(language, value))
+}
+
+fn code_copied(alloc: Global) -> Result<MarkedString, NoMemory> {
+    let code = code(alloc)?;
+    let copy: Result<MarkedString, AllocError> = code.clone();
+    drop(code);
+    Ok(copy?)
+}
+
+fn markdown(alloc: Global) -> Result<MarkedString, NoMemory> {
+    Ok(MarkedString::from_markdown(String::from_str(alloc, "*a*")?))
+}
+
+// Whether both are there, and differ.
+fn are_two<T: PartialEq + Drop>(a: Result<T, NoMemory>, b: Result<T, NoMemory>) -> bool {
+    match (a, b) {
+        (Ok(a), Ok(b)) => a != b,
+        _ => false,
+    }
 }
 
 #[test]
-fn values_by_their_variants(rt: HostRuntime) -> Result<(), Fail> {
+fn values_by_their_parts(rt: HostRuntime) -> Result<(), RowError> {
     let alloc = rt.alloc();
-    let content = MarkupContent {
+    let mut trial = Trial::new(alloc);
+    trial.same("read", read_text(alloc, CODE).ok(), code(alloc).ok());
+    trial.same("a copy", code_copied(alloc), code(alloc));
+    trial.is_true("no code", are_two(markdown(alloc), code(alloc)));
+    trial.shows("markdown", markdown(alloc), "Ok(String(\"*a*\"))");
+    trial.end()
+}
+
+fn documentation(alloc: Global) -> Result<Documentation, NoMemory> {
+    Ok(Documentation::MarkupContent(MarkupContent {
         kind: MarkupKind::PlainText,
         value: String::from_str(alloc, "a")?,
-    };
-    let text = r#"{"kind":"plaintext","value":"a"}"#;
-    let read = Documentation::from_value(alloc, &Value::from_str(alloc, text)?)?;
-    let full = SemanticTokensFullOptions::from_value(alloc, &Value::from_str(alloc, "{}")?)?;
-    let progress = WorkDoneProgressOptions::default();
+    }))
+}
+
+#[test]
+fn values_by_their_variants(rt: HostRuntime) -> Result<(), RowError> {
+    let alloc = rt.alloc();
     let mut trial = Trial::new(alloc);
+    let text = r#"{"kind":"plaintext","value":"a"}"#;
     trial.same(
         "a documentation",
-        read,
-        Documentation::MarkupContent(content),
+        read_text(alloc, text).ok(),
+        documentation(alloc).ok(),
     );
     trial.same("the trace", TraceValue::default(), TraceValue::Off);
+    let progress = WorkDoneProgressOptions::default();
     trial.same("the progress", progress.work_done_progress, None);
     trial.same(
         "all tokens",
-        full,
-        SemanticTokensFullOptions::Delta { delta: None },
+        read_text(alloc, "{}").ok(),
+        Some(SemanticTokensFullOptions::Delta { delta: None }),
     );
-    Ok(trial.end()?)
+    trial.end()
 }

@@ -257,13 +257,10 @@ fn rows_3(rt: HostRuntime) -> Result<(), RowError> {
 fn defaults(rt: HostRuntime) -> Result<(), RowError> {
     let alloc = rt.alloc();
     let mut trial = Trial::new(alloc);
-    trial.is_written(CallHierarchyOptions::default(), r#"{}"#);
-    trial.is_written(TypeHierarchyOptions::default(), r#"{}"#);
-    trial.is_written(
-        TypeHierarchyRegistrationOptions::default(),
-        r#"{"documentSelector":null}"#,
-    );
-    trial.is_written(LinkedEditingRangeOptions::default(), r#"{}"#);
+    trial.default::<CallHierarchyOptions>(r#"{}"#);
+    trial.default::<TypeHierarchyOptions>(r#"{}"#);
+    trial.default::<TypeHierarchyRegistrationOptions>(r#"{"documentSelector":null}"#);
+    trial.default::<LinkedEditingRangeOptions>(r#"{}"#);
     trial.is_written(
         SemanticTokensOptions::default(alloc),
         r#"{"legend":{"tokenModifiers":[],"tokenTypes":[]}}"#,
@@ -272,22 +269,14 @@ fn defaults(rt: HostRuntime) -> Result<(), RowError> {
         SemanticTokensLegend::default(alloc),
         r#"{"tokenModifiers":[],"tokenTypes":[]}"#,
     );
-    trial.is_written(InlayHintOptions::default(), r#"{}"#);
-    trial.is_written(
-        InlayHintRegistrationOptions::default(),
-        r#"{"documentSelector":null}"#,
-    );
-    trial.is_written(InlineValueOptions::default(), r#"{}"#);
-    trial.is_written(
-        InlineValueRegistrationOptions::default(),
-        r#"{"documentSelector":null}"#,
-    );
-    trial.is_written(
-        DiagnosticOptions::default(),
+    trial.default::<InlayHintOptions>(r#"{}"#);
+    trial.default::<InlayHintRegistrationOptions>(r#"{"documentSelector":null}"#);
+    trial.default::<InlineValueOptions>(r#"{}"#);
+    trial.default::<InlineValueRegistrationOptions>(r#"{"documentSelector":null}"#);
+    trial.default::<DiagnosticOptions>(
         r#"{"interFileDependencies":false,"workspaceDiagnostics":false}"#,
     );
-    trial.is_written(
-        DiagnosticRegistrationOptions::default(),
+    trial.default::<DiagnosticRegistrationOptions>(
         r#"{"documentSelector":null,"interFileDependencies":false,"workspaceDiagnostics":false}"#,
     );
     trial.end()

@@ -399,18 +399,15 @@ fn defaults(rt: HostRuntime) -> Result<(), RowError> {
         text_of(alloc, &TextDocumentSyncOptions::default()),
         r#"{}"#,
     );
-    trial.is_written(SaveOptions::default(), r#"{}"#);
-    trial.is_written(CompletionOptions::default(), r#"{}"#);
-    trial.is_written(CompletionOptionsCompletionItem::default(), r#"{}"#);
-    trial.is_written(HoverOptions::default(), r#"{}"#);
-    trial.is_written(
-        HoverRegistrationOptions::default(),
-        r#"{"documentSelector":null}"#,
-    );
-    trial.is_written(SignatureHelpOptions::default(), r#"{}"#);
-    trial.is_written(CodeActionOptions::default(), r#"{}"#);
-    trial.is_written(SelectionRangeOptions::default(), r#"{}"#);
-    trial.is_written(DocumentFormattingOptions::default(), r#"{}"#);
+    trial.default::<SaveOptions>(r#"{}"#);
+    trial.default::<CompletionOptions>(r#"{}"#);
+    trial.default::<CompletionOptionsCompletionItem>(r#"{}"#);
+    trial.default::<HoverOptions>(r#"{}"#);
+    trial.default::<HoverRegistrationOptions>(r#"{"documentSelector":null}"#);
+    trial.default::<SignatureHelpOptions>(r#"{}"#);
+    trial.default::<CodeActionOptions>(r#"{}"#);
+    trial.default::<SelectionRangeOptions>(r#"{}"#);
+    trial.default::<DocumentFormattingOptions>(r#"{}"#);
     trial.is_written(
         DocumentOnTypeFormattingOptions::default(alloc),
         r#"{"firstTriggerCharacter":""}"#,

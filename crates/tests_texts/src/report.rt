@@ -281,7 +281,7 @@ fn defaults(rt: HostRuntime) -> Result<(), RowError> {
         FullDocumentDiagnosticReport::default(alloc),
         r#"{"items":[]}"#,
     );
-    trial.is_written(DocumentDiagnosticReportPartialResult::default(), r#"{}"#);
+    trial.default::<DocumentDiagnosticReportPartialResult>(r#"{}"#);
     trial.is_written(WorkspaceDiagnosticReport::default(alloc), r#"{"items":[]}"#);
     trial.is_written(
         WorkspaceDiagnosticReportPartialResult::default(alloc),

@@ -311,14 +311,10 @@ fn defaults(rt: HostRuntime) -> Result<(), RowError> {
         SemanticTokensPartialResult::default(alloc),
         r#"{"data":[]}"#,
     );
-    trial.is_written(
-        SemanticTokensEdit::default(),
-        r#"{"deleteCount":0,"start":0}"#,
-    );
+    trial.default::<SemanticTokensEdit>(r#"{"deleteCount":0,"start":0}"#);
     trial.is_written(SemanticTokensDelta::default(alloc), r#"{"edits":[]}"#);
-    trial.is_written(FoldingRange::default(), r#"{"endLine":0,"startLine":0}"#);
-    trial.is_written(
-        SelectionRange::default(),
+    trial.default::<FoldingRange>(r#"{"endLine":0,"startLine":0}"#);
+    trial.default::<SelectionRange>(
         r#"{"range":{"end":{"character":0,"line":0},"start":{"character":0,"line":0}}}"#,
     );
     trial.is_written(

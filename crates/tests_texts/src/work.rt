@@ -350,7 +350,7 @@ fn defaults(rt: HostRuntime) -> Result<(), RowError> {
     let alloc = rt.alloc();
     let mut trial = Trial::new(alloc);
     trial.is_written(ConfigurationParams::default(alloc), r#"{"items":[]}"#);
-    trial.is_written(ConfigurationItem::default(), r#"{}"#);
+    trial.default::<ConfigurationItem>(r#"{}"#);
     trial.is_written(
         DidChangeWorkspaceFoldersParams::default(alloc),
         r#"{"event":{"added":[],"removed":[]}}"#,
@@ -370,7 +370,7 @@ fn defaults(rt: HostRuntime) -> Result<(), RowError> {
     trial.is_written(DeleteFilesParams::default(alloc), r#"{"files":[]}"#);
     trial.is_written(FileDelete::default(alloc), r#"{"uri":""}"#);
     trial.is_written(WorkDoneProgressBegin::default(alloc), r#"{"title":""}"#);
-    trial.is_written(WorkDoneProgressReport::default(), r#"{}"#);
-    trial.is_written(WorkDoneProgressEnd::default(), r#"{}"#);
+    trial.default::<WorkDoneProgressReport>(r#"{}"#);
+    trial.default::<WorkDoneProgressEnd>(r#"{}"#);
     trial.end()
 }

@@ -350,33 +350,33 @@ fn rows_3(rt: HostRuntime) -> Result<(), RowError> {
 #[test]
 fn defaults_without_members_1(rt: HostRuntime) -> Result<(), RowError> {
     let mut trial = Trial::new(rt.alloc());
-    trial.is_written(TextDocumentSyncClientCapabilities::default(), "{}");
-    trial.is_written(CompletionClientCapabilities::default(), "{}");
-    trial.is_written(CompletionItemCapability::default(), "{}");
-    trial.is_written(CompletionItemKindCapability::default(), "{}");
-    trial.is_written(CompletionListCapability::default(), "{}");
-    trial.is_written(HoverClientCapabilities::default(), "{}");
-    trial.is_written(SignatureHelpClientCapabilities::default(), "{}");
-    trial.is_written(SignatureInformationSettings::default(), "{}");
-    trial.is_written(ParameterInformationSettings::default(), "{}");
-    trial.is_written(DocumentSymbolClientCapabilities::default(), "{}");
-    trial.is_written(CodeActionClientCapabilities::default(), "{}");
+    trial.default::<TextDocumentSyncClientCapabilities>("{}");
+    trial.default::<CompletionClientCapabilities>("{}");
+    trial.default::<CompletionItemCapability>("{}");
+    trial.default::<CompletionItemKindCapability>("{}");
+    trial.default::<CompletionListCapability>("{}");
+    trial.default::<HoverClientCapabilities>("{}");
+    trial.default::<SignatureHelpClientCapabilities>("{}");
+    trial.default::<SignatureInformationSettings>("{}");
+    trial.default::<ParameterInformationSettings>("{}");
+    trial.default::<DocumentSymbolClientCapabilities>("{}");
+    trial.default::<CodeActionClientCapabilities>("{}");
     trial.end()
 }
 
 #[test]
 fn defaults_without_members_2(rt: HostRuntime) -> Result<(), RowError> {
     let mut trial = Trial::new(rt.alloc());
-    trial.is_written(RenameClientCapabilities::default(), "{}");
-    trial.is_written(PublishDiagnosticsClientCapabilities::default(), "{}");
-    trial.is_written(DiagnosticClientCapabilities::default(), "{}");
-    trial.is_written(FoldingRangeClientCapabilities::default(), "{}");
-    trial.is_written(FoldingRangeKindCapability::default(), "{}");
-    trial.is_written(FoldingRangeCapability::default(), "{}");
-    trial.is_written(SelectionRangeClientCapabilities::default(), "{}");
-    trial.is_written(SemanticTokensClientCapabilitiesRequests::default(), "{}");
-    trial.is_written(InlayHintClientCapabilities::default(), "{}");
-    trial.is_written(TextDocumentClientCapabilities::default(), "{}");
+    trial.default::<RenameClientCapabilities>("{}");
+    trial.default::<PublishDiagnosticsClientCapabilities>("{}");
+    trial.default::<DiagnosticClientCapabilities>("{}");
+    trial.default::<FoldingRangeClientCapabilities>("{}");
+    trial.default::<FoldingRangeKindCapability>("{}");
+    trial.default::<FoldingRangeCapability>("{}");
+    trial.default::<SelectionRangeClientCapabilities>("{}");
+    trial.default::<SemanticTokensClientCapabilitiesRequests>("{}");
+    trial.default::<InlayHintClientCapabilities>("{}");
+    trial.default::<TextDocumentClientCapabilities>("{}");
     trial.end()
 }
 

@@ -72,12 +72,9 @@ fn rows_1(rt: HostRuntime) -> Result<(), RowError> {
 #[test]
 fn defaults(rt: HostRuntime) -> Result<(), RowError> {
     let mut trial = Trial::new(rt.alloc());
-    trial.is_written(ClientCapabilities::default(), r#"{}"#);
-    trial.is_written(
-        InitializeParams::default(),
-        r#"{"capabilities":{},"processId":null,"rootUri":null}"#,
-    );
-    trial.is_written(ServerCapabilities::default(), r#"{}"#);
-    trial.is_written(InitializeResult::default(), r#"{"capabilities":{}}"#);
+    trial.default::<ClientCapabilities>(r#"{}"#);
+    trial.default::<InitializeParams>(r#"{"capabilities":{},"processId":null,"rootUri":null}"#);
+    trial.default::<ServerCapabilities>(r#"{}"#);
+    trial.default::<InitializeResult>(r#"{"capabilities":{}}"#);
     trial.end()
 }

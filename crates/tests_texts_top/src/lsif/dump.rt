@@ -114,17 +114,25 @@ fn first_id(document: u32) -> u32 {
     document.saturating_mul(50).saturating_add(4)
 }
 
+// Whether the line is a vertex. It is read, and written the same.
+fn is_vertex(trial: &mut Trial, alloc: Global, line: &str) -> Result<bool, Fail> {
+    let value = Value::from_str(alloc, line)?;
+    let entry = Entry::from_value(alloc, &value);
+    drop(value);
+    let entry = entry?;
+    trial.text(line, text_of(alloc, &entry), line);
+    let is_vertex = matches!(&entry.payload, Element::Vertex(_));
+    drop(entry);
+    Ok(is_vertex)
+}
+
 // The lines of the text are read, and written the same.
 fn try_lines(trial: &mut Trial, alloc: Global, text: &str, seen: &mut Seen) -> Result<(), Fail> {
-    for line in text.lines() {
-        if line.is_empty() {
-            continue;
-        }
-        let entry = Entry::from_value(alloc, &Value::from_str(alloc, line)?)?;
-        trial.text(line, text_of(alloc, &entry), line);
-        match &entry.payload {
-            Element::Vertex(_) => seen.vertices = seen.vertices.saturating_add(1),
-            Element::Edge(_) => seen.edges = seen.edges.saturating_add(1),
+    for line in text.lines().filter(|line| !line.is_empty()) {
+        if is_vertex(trial, alloc, line)? {
+            seen.vertices = seen.vertices.saturating_add(1);
+        } else {
+            seen.edges = seen.edges.saturating_add(1);
         }
     }
     Ok(())
