@@ -1,5 +1,5 @@
 -- What a server that keeps its client's open documents does (LSP 3.17, "Text Document Synchronization").
-use Rattle.std.specs.Prelude.{◌≡◌, ℕ, pos, Bool, true, false, List, [], codes, Option, Some, None, option_map, unwrap_or, is_none, string_bytes, Result, Ok, Err}
+use Rattle.std.specs.Prelude.{◌≡◌, ℕ, pos, Bool, true, false, List, [], codes, Option, Some, None, option_map, unwrap_or, is_none, not, string_bytes, Result, Ok, Err}
 use Rattle.std.specs.Option.{option_and_then}
 use Rattle.std.specs.Str.{chars, encode_utf8_all}
 use Rattle.std.specs.FinMap as map
@@ -109,6 +109,10 @@ is_refused (tells n) ds = is_none (accepted n ds)
 abbrev pub Turned : DocsTurn → DocumentMap → DocumentMap → Option Reply → Type 0
 Turned turn ds ds2 (Some reply) = (is_refused turn ds ≡ false) × TurnsTo turn ds ds2 (show_reply reply)
 Turned turn ds ds2 None = (is_refused turn ds ≡ true) × TurnsTo turn ds ds2 noted
+
+-- whether a notification was accepted, and the documents then
+abbrev pub Heeded : Notification → DocumentMap → DocumentMap → Bool → Type 0
+Heeded n ds ds2 heeded = (is_refused (tells n) ds ≡ not heeded) × TurnsTo (tells n) ds ds2 noted
 
 -- that is logged, once, as an error; nothing else is asked of the client
 abbrev pub refused_call : DeskCall

@@ -1,16 +1,16 @@
 // The server.
-ghost use Rattle.std.specs.Prelude.{◌≡◌, IfOk, OnErr, Some, option_map};
+ghost use Rattle.std.specs.Prelude.{◌≡◌, IfOk, OnErr, Some, None, cond, option_map};
 ghost use Rattle.std.specs.FinMap as map;
 ghost use Rattle.std.specs.Str.{encode_utf8_all};
 ghost use Rattle.serde_json.specs.View.{view};
-ghost use Rattle.lsp_service.specs.Data.{custom_answer};
-ghost use Rattle.lsp_service.specs.Replies.{show_reply};
-ghost use Rattle.lsp_docs.specs.Docs.{docs_turn, requested_uri as requested_uri_lem, text_answer, found_data, opening_of, change_of, closing_of, tells, OffersSync, Turned};
+ghost use Rattle.lsp_rpc.specs.Shown.{show_body};
+ghost use Rattle.lsp_offer_text.specs.declared.sync.TextDocumentSyncCapability.TheVariants as sync_capability;
+ghost use Rattle.lsp_docs.specs.Docs.{docs_turn, requested_uri as requested_uri_lem, text_answer, found_data, opening_of, change_of, closing_of, wanted_sync, Heeded, Turned};
 
 use lsp_client::Client;
 use lsp_desk::{Caller, DeskFault};
 use lsp_documents::{ChangeError, Document, Documents, OpenError};
-use lsp_initialize::{InitializeParams, ServerCapabilities};
+use lsp_initialize::ServerCapabilities;
 use lsp_kinds::{MessageType, TextDocumentSyncKind};
 use lsp_offer_text::TextDocumentSyncOptions;
 use lsp_rpc::{Error, ErrorCode};
@@ -59,18 +59,21 @@ impl DocsServer {
         ensures err { OnErr result (self.new ≡ self.old) }
     {
         match call {
-            Call::Life(LifeCall::Initialize(params)) => Ok(Some(initialize(alloc, params)?)),
-            Call::Life(LifeCall::Shutdown) => { Ok(Some(Reply::Life(LifeReply::Shutdown(Ok(()))))) }
-            Call::Sync(SyncCall::DidOpen(params)) => self.open(params),
-            Call::Sync(SyncCall::DidChange(params)) => self.change(params),
-            Call::Sync(SyncCall::DidClose(params)) => Ok(self.close(params)),
-            Call::Custom(_, params) => Ok(Some(self.text_reply(alloc, params)?)),
+            Call::Life(LifeCall::Initialize(params)) => {
+                Ok(Some(initialize_reply(alloc, params, capabilities())?))
+            }
+            Call::Life(LifeCall::Shutdown) => Ok(Some(Reply::Life(LifeReply::Shutdown(Ok(()))))),
+            Call::Sync(SyncCall::DidOpen(params)) => Ok(noted_if(self.open(params)?)),
+            Call::Sync(SyncCall::DidChange(params)) => Ok(noted_if(self.change(params)?)),
+            Call::Sync(SyncCall::DidClose(params)) => Ok(noted_if(self.close(params))),
+            Call::Custom(_, params) => Ok(Some(Reply::Custom(self.text_body(alloc, params)?))),
             other => Ok(Some(not_found_for(alloc, other)?)),
         }
     }
 
-    fn open(&mut self, params: DidOpenTextDocumentParams) -> Result<Option<Reply>, NoMemory>
-        ensures turned { IfOk result (Turned (tells (opening_of params)) self.old.documents
+    // Whether it was accepted, as of the next two.
+    fn open(&mut self, params: DidOpenTextDocumentParams) -> Result<bool, NoMemory>
+        ensures heeded { IfOk result (Heeded (opening_of params) self.old.documents
             self.new.documents) }
         ensures err { OnErr result (self.new ≡ self.old) }
     {
@@ -80,14 +83,14 @@ impl DocsServer {
             .documents
             .open(document.uri.as_str(), document.version, text)
         {
-            Ok(()) => Ok(Some(Reply::Noted)),
-            Err(OpenError::AlreadyOpen) => Ok(None),
+            Ok(()) => Ok(true),
+            Err(OpenError::AlreadyOpen) => Ok(false),
             Err(OpenError::NoMemory) => Err(NoMemory),
         }
     }
 
-    fn change(&mut self, params: DidChangeTextDocumentParams) -> Result<Option<Reply>, NoMemory>
-        ensures turned { IfOk result (Turned (tells (change_of params)) self.old.documents
+    fn change(&mut self, params: DidChangeTextDocumentParams) -> Result<bool, NoMemory>
+        ensures heeded { IfOk result (Heeded (change_of params) self.old.documents
             self.new.documents) }
         ensures err { OnErr result (self.new ≡ self.old) }
     {
@@ -97,33 +100,37 @@ impl DocsServer {
             document.version,
             params.content_changes.as_slice(),
         ) {
-            Ok(()) => Ok(Some(Reply::Noted)),
-            Err(ChangeError::NotOpen | ChangeError::StartBehindEnd) => Ok(None),
+            Ok(()) => Ok(true),
+            Err(ChangeError::NotOpen | ChangeError::StartBehindEnd) => Ok(false),
             Err(ChangeError::NoMemory) => Err(NoMemory),
         }
     }
 
-    fn close(&mut self, params: DidCloseTextDocumentParams) -> Option<Reply>
-        ensures { Turned (tells (closing_of params)) self.old.documents self.new.documents result }
+    fn close(&mut self, params: DidCloseTextDocumentParams) -> bool
+        ensures { Heeded (closing_of params) self.old.documents self.new.documents result }
     {
         match self.documents.close(params.text_document.uri.as_str()) {
-            Some(_) => Some(Reply::Noted),
-            None => None,
+            Some(_) => true,
+            None => false,
         }
     }
 
-    // The reply to `docs/text`.
-    fn text_reply(&self, alloc: Global, params: Option<Value>) -> Result<Reply, NoMemory>
-        ensures { IfOk result (λ reply. show_reply reply ≡ custom_answer
-            (text_answer self.now.documents (requested_uri_lem (option_map view params)))) }
+    // What is replied to `docs/text`.
+    fn text_body(
+        &self,
+        alloc: Global,
+        params: Option<Value>,
+    ) -> Result<Result<Value, Error>, NoMemory>
+        ensures { IfOk result (λ body. show_body body
+            ≡ text_answer self.now.documents (requested_uri_lem (option_map view params))) }
     {
         let uri = match &params {
             Some(params) => requested_uri(params),
             None => None,
         };
         match uri {
-            Some(uri) => Ok(Reply::Custom(Ok(document_value(alloc, self.documents.get(uri))?))),
-            None => Ok(Reply::Custom(Err(Error::new(alloc, ErrorCode::InvalidParams)?))),
+            Some(uri) => Ok(Ok(document_value(alloc, self.documents.get(uri))?)),
+            None => Ok(Err(Error::new(alloc, ErrorCode::InvalidParams)?)),
         }
     }
 }
@@ -163,9 +170,16 @@ impl<D: Caller> LanguageServer<D> for DocsServer {
     }
 }
 
+// A notification that was accepted is taken note of.
+fn noted_if(heeded: bool) -> Option<Reply>
+    ensures { result ≡ cond heeded (Some Reply.Noted) None }
+{
+    if heeded { Some(Reply::Noted) } else { None }
+}
+
 // Documents are to be told when they are opened, changed and closed, and changes in ranges.
-fn initialize(alloc: Global, params: Box<InitializeParams>) -> Result<Reply, NoMemory>
-    ensures { IfOk result (λ reply. OffersSync (show_reply reply)) }
+fn capabilities() -> ServerCapabilities
+    ensures { result.text_document_sync ≡ Some (sync_capability.Options wanted_sync) }
 {
     let mut capabilities = ServerCapabilities::default();
     let wanted = TextDocumentSyncOptions {
@@ -176,7 +190,7 @@ fn initialize(alloc: Global, params: Box<InitializeParams>) -> Result<Reply, NoM
         save: None,
     };
     capabilities.text_document_sync = Some(wanted.into());
-    initialize_reply(alloc, params, capabilities)
+    capabilities
 }
 
 // The params of `docs/text` are an object with a string `uri`.

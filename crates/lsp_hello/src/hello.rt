@@ -5,7 +5,7 @@ use lsp_service::{
 };
 use lsp_types::{
     CompletionItem, CompletionOptions, CompletionParams, CompletionResponse, Hover, HoverContents,
-    HoverParams, InitializeParams, MarkedString, ServerCapabilities, TextDocumentSyncKind,
+    HoverParams, MarkedString, ServerCapabilities, TextDocumentSyncKind,
 };
 use std::alloc::Global;
 
@@ -15,32 +15,41 @@ pub struct Hello;
 impl Answering for Hello {
     fn answer(&mut self, alloc: Global, call: Call) -> Result<Reply, NoMemory> {
         match call {
-            Call::Life(LifeCall::Initialize(params)) => initialize(alloc, params),
+            Call::Life(LifeCall::Initialize(params)) => {
+                initialize_reply(alloc, params, capabilities())
+            }
             Call::Life(LifeCall::Shutdown) => Ok(Reply::Life(LifeReply::Shutdown(Ok(())))),
-            Call::Show(ShowCall::Hover(params)) => hover(alloc, params),
-            Call::Edit(EditCall::Completion(params)) => completion(alloc, params),
+            Call::Show(ShowCall::Hover(params)) => {
+                let hover = hover(alloc, params)?;
+                Ok(Reply::Show(ShowReply::Hover(Ok(Some(hover)))))
+            }
+            Call::Edit(EditCall::Completion(params)) => {
+                let items = completion(alloc, params)?;
+                Ok(Reply::Edit(EditReply::Completion(Ok(Some(items)))))
+            }
             other => not_found_for(alloc, other),
         }
     }
 }
 
-fn initialize(alloc: Global, params: Box<InitializeParams>) -> Result<Reply, NoMemory> {
+fn capabilities() -> ServerCapabilities {
     let mut capabilities = ServerCapabilities::default();
     capabilities.hover_provider = Some(true.into());
     capabilities.completion_provider = Some(CompletionOptions::default());
     capabilities.text_document_sync = Some(TextDocumentSyncKind::FULL.into());
-    initialize_reply(alloc, params, capabilities)
+    capabilities
 }
 
-fn hover(alloc: Global, params: HoverParams) -> Result<Reply, NoMemory> {
+fn hover(alloc: Global, params: HoverParams) -> Result<Hover, NoMemory> {
     let line = u64::from(params.text_document_position_params.position.line) + 1;
     let text = MarkedString::String(format!(in alloc; "Hello from line {line}")?);
-    let (contents, range) = (HoverContents::Scalar(text), None);
-    Ok(Reply::Show(ShowReply::Hover(Ok(Some(Hover { contents, range })))))
+    Ok(Hover {
+        contents: HoverContents::Scalar(text),
+        range: None,
+    })
 }
 
-fn completion(alloc: Global, _params: CompletionParams) -> Result<Reply, NoMemory> {
+fn completion(alloc: Global, _params: CompletionParams) -> Result<CompletionResponse, NoMemory> {
     let hello = CompletionItem::new_simple(format!(in alloc; "hello")?, format!(in alloc; "hi")?);
-    let items = CompletionResponse::Array(vec![in alloc; hello]?);
-    Ok(Reply::Edit(EditReply::Completion(Ok(Some(items)))))
+    Ok(CompletionResponse::Array(vec![in alloc; hello]?))
 }
