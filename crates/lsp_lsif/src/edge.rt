@@ -2,8 +2,9 @@
 ghost use Rattle.lsp_lsif.specs.Edge.{edge_row, edge_data_row, edge_data_multi_in_row, item_row, item_kind_row, definition_result_type_row, location_or_range_id_row};
 
 use crate::entry::Id;
+use crate::labels::EdgeLabel;
 use lsp_base::Location;
-use lsp_shape::{Misfit, NoMemory, Reader, Wire, Writer, attempt, put_tag, tag};
+use lsp_shape::{Misfit, NoMemory, Reader, Wire, Writer, attempt, put_tag};
 use serde_json::Value;
 use std::alloc::Global;
 
@@ -55,44 +56,34 @@ impl Wire for Edge {
     ghost shown = { edge_row.shown };
 
     fn from_value(alloc: Global, value: &Value) -> Result<Edge, Misfit> {
-        match tag(value, "label") {
-            Some("contains") => Ok(Edge::Contains(EdgeDataMultiIn::from_value(alloc, value)?)),
-            Some("moniker") => Ok(Edge::Moniker(EdgeData::from_value(alloc, value)?)),
-            Some("nextMoniker") => Ok(Edge::NextMoniker(EdgeData::from_value(alloc, value)?)),
-            Some("next") => Ok(Edge::Next(EdgeData::from_value(alloc, value)?)),
-            Some("packageInformation") => Ok(Edge::PackageInformation(EdgeData::from_value(
+        let Some(label) = EdgeLabel::of(value) else {
+            return Err(Misfit::Unfit);
+        };
+        match label {
+            EdgeLabel::Contains => Ok(Edge::Contains(EdgeDataMultiIn::from_value(alloc, value)?)),
+            EdgeLabel::Moniker => Ok(Edge::Moniker(EdgeData::from_value(alloc, value)?)),
+            EdgeLabel::NextMoniker => Ok(Edge::NextMoniker(EdgeData::from_value(alloc, value)?)),
+            EdgeLabel::Next => Ok(Edge::Next(EdgeData::from_value(alloc, value)?)),
+            EdgeLabel::PackageInformation => Ok(Edge::PackageInformation(EdgeData::from_value(
                 alloc, value,
             )?)),
-            Some("item") => Ok(Edge::Item(Item::from_value(alloc, value)?)),
-            Some("textDocument/definition") => Ok(Edge::Definition(EdgeData::from_value(
+            EdgeLabel::Item => Ok(Edge::Item(Item::from_value(alloc, value)?)),
+            EdgeLabel::Definition => Ok(Edge::Definition(EdgeData::from_value(alloc, value)?)),
+            EdgeLabel::Declaration => Ok(Edge::Declaration(EdgeData::from_value(alloc, value)?)),
+            EdgeLabel::Hover => Ok(Edge::Hover(EdgeData::from_value(alloc, value)?)),
+            EdgeLabel::References => Ok(Edge::References(EdgeData::from_value(alloc, value)?)),
+            EdgeLabel::Implementation => Ok(Edge::Implementation(EdgeData::from_value(
                 alloc, value,
             )?)),
-            Some("textDocument/declaration") => Ok(Edge::Declaration(EdgeData::from_value(
+            EdgeLabel::TypeDefinition => Ok(Edge::TypeDefinition(EdgeData::from_value(
                 alloc, value,
             )?)),
-            Some("textDocument/hover") => Ok(Edge::Hover(EdgeData::from_value(alloc, value)?)),
-            Some("textDocument/references") => Ok(Edge::References(EdgeData::from_value(
+            EdgeLabel::FoldingRange => Ok(Edge::FoldingRange(EdgeData::from_value(alloc, value)?)),
+            EdgeLabel::DocumentLink => Ok(Edge::DocumentLink(EdgeData::from_value(alloc, value)?)),
+            EdgeLabel::DocumentSymbol => Ok(Edge::DocumentSymbol(EdgeData::from_value(
                 alloc, value,
             )?)),
-            Some("textDocument/implementation") => Ok(Edge::Implementation(EdgeData::from_value(
-                alloc, value,
-            )?)),
-            Some("textDocument/typeDefinition") => Ok(Edge::TypeDefinition(EdgeData::from_value(
-                alloc, value,
-            )?)),
-            Some("textDocument/foldingRange") => Ok(Edge::FoldingRange(EdgeData::from_value(
-                alloc, value,
-            )?)),
-            Some("textDocument/documentLink") => Ok(Edge::DocumentLink(EdgeData::from_value(
-                alloc, value,
-            )?)),
-            Some("textDocument/documentSymbol") => Ok(Edge::DocumentSymbol(EdgeData::from_value(
-                alloc, value,
-            )?)),
-            Some("textDocument/diagnostic") => Ok(Edge::Diagnostic(EdgeData::from_value(
-                alloc, value,
-            )?)),
-            _ => Err(Misfit::Unfit),
+            EdgeLabel::Diagnostic => Ok(Edge::Diagnostic(EdgeData::from_value(alloc, value)?)),
         }
     }
 

@@ -2,11 +2,12 @@
 ghost use Rattle.lsp_lsif.specs.Vertex.{vertex_row, meta_data_row, encoding_row, tool_info_row, project_row, repository_row, document_row, result_set_row, package_information_row, event_row, event_kind_row, event_scope_row, document_symbol_or_range_based_vec_row};
 
 use crate::entry::Id;
+use crate::labels::VertexLabel;
 use crate::symbols::RangeBasedDocumentSymbol;
 use crate::tags::RangeTag;
 use lsp_base::{Diagnostic, Range};
 use lsp_lang_goto::{DocumentLink, DocumentSymbol, Hover};
-use lsp_shape::{Misfit, NoMemory, Reader, Wire, Writer, attempt, put_tag, tag};
+use lsp_shape::{Misfit, NoMemory, Reader, Wire, Writer, attempt, put_tag};
 use lsp_tokens::{FoldingRange, Moniker};
 use lsp_uri::Uri;
 use serde_json::Value;
@@ -88,59 +89,61 @@ impl Wire for Vertex {
     ghost shown = { vertex_row.shown };
 
     fn from_value(alloc: Global, value: &Value) -> Result<Vertex, Misfit> {
-        match tag(value, "label") {
-            Some("metaData") => Ok(Vertex::MetaData(MetaData::from_value(alloc, value)?)),
-            Some("project") => Ok(Vertex::Project(Project::from_value(alloc, value)?)),
-            Some("document") => Ok(Vertex::Document(Document::from_value(alloc, value)?)),
-            Some("range") => {
+        let Some(label) = VertexLabel::of(value) else {
+            return Err(Misfit::Unfit);
+        };
+        match label {
+            VertexLabel::MetaData => Ok(Vertex::MetaData(MetaData::from_value(alloc, value)?)),
+            VertexLabel::Project => Ok(Vertex::Project(Project::from_value(alloc, value)?)),
+            VertexLabel::Document => Ok(Vertex::Document(Document::from_value(alloc, value)?)),
+            VertexLabel::Range => {
                 let object = Reader::new(alloc, value)?;
                 Ok(Vertex::Range {
                     range: Range::from_value(alloc, value)?,
                     tag: object.optional("tag")?,
                 })
             }
-            Some("resultSet") => Ok(Vertex::ResultSet(ResultSet::from_value(alloc, value)?)),
-            Some("moniker") => Ok(Vertex::Moniker(Moniker::from_value(alloc, value)?)),
-            Some("packageInformation") => Ok(Vertex::PackageInformation(
+            VertexLabel::ResultSet => Ok(Vertex::ResultSet(ResultSet::from_value(alloc, value)?)),
+            VertexLabel::Moniker => Ok(Vertex::Moniker(Moniker::from_value(alloc, value)?)),
+            VertexLabel::PackageInformation => Ok(Vertex::PackageInformation(
                 PackageInformation::from_value(alloc, value)?,
             )),
-            Some("$event") => Ok(Vertex::Event(Event::from_value(alloc, value)?)),
-            Some("definitionResult") => Ok(Vertex::DefinitionResult),
-            Some("declarationResult") => Ok(Vertex::DeclarationResult),
-            Some("typeDefinitionResult") => Ok(Vertex::TypeDefinitionResult),
-            Some("referenceResult") => Ok(Vertex::ReferenceResult),
-            Some("implementationResult") => Ok(Vertex::ImplementationResult),
-            Some("foldingRangeResult") => {
+            VertexLabel::Event => Ok(Vertex::Event(Event::from_value(alloc, value)?)),
+            VertexLabel::DefinitionResult => Ok(Vertex::DefinitionResult),
+            VertexLabel::DeclarationResult => Ok(Vertex::DeclarationResult),
+            VertexLabel::TypeDefinitionResult => Ok(Vertex::TypeDefinitionResult),
+            VertexLabel::ReferenceResult => Ok(Vertex::ReferenceResult),
+            VertexLabel::ImplementationResult => Ok(Vertex::ImplementationResult),
+            VertexLabel::FoldingRangeResult => {
                 let object = Reader::new(alloc, value)?;
                 Ok(Vertex::FoldingRangeResult {
                     result: object.field("result")?,
                 })
             }
-            Some("hoverResult") => {
+            VertexLabel::HoverResult => {
                 let object = Reader::new(alloc, value)?;
                 Ok(Vertex::HoverResult {
                     result: object.field("result")?,
                 })
             }
-            Some("documentSymbolResult") => {
+            VertexLabel::DocumentSymbolResult => {
                 let object = Reader::new(alloc, value)?;
                 Ok(Vertex::DocumentSymbolResult {
                     result: object.field("result")?,
                 })
             }
-            Some("documentLinkResult") => {
+            VertexLabel::DocumentLinkResult => {
                 let object = Reader::new(alloc, value)?;
                 Ok(Vertex::DocumentLinkResult {
                     result: object.field("result")?,
                 })
             }
-            Some("diagnosticResult") => {
+            VertexLabel::DiagnosticResult => {
                 let object = Reader::new(alloc, value)?;
                 Ok(Vertex::DiagnosticResult {
                     result: object.field("result")?,
                 })
             }
-            _ => Err(Misfit::Unfit),
         }
     }
 
