@@ -1,8 +1,11 @@
 // Edges.
+ghost use Rattle.std.specs.Prelude.{◌≡◌};
+ghost use Rattle.lsp_shape.specs.Plain.{choice};
 ghost use Rattle.lsp_lsif.specs.Edge.{edge_row, edge_data_row, edge_data_multi_in_row, item_row, item_kind_row, definition_result_type_row, location_or_range_id_row};
+ghost use Rattle.lsp_lsif.specs.Labels.{single_place};
 
 use crate::entry::Id;
-use crate::labels::EdgeLabel;
+use crate::labels::{EdgeLabel, SingleLabel};
 use lsp_base::Location;
 use lsp_shape::{Misfit, NoMemory, Reader, Wire, Writer, attempt, put_tag};
 use serde_json::Value;
@@ -61,29 +64,8 @@ impl Wire for Edge {
         };
         match label {
             EdgeLabel::Contains => Ok(Edge::Contains(EdgeDataMultiIn::from_value(alloc, value)?)),
-            EdgeLabel::Moniker => Ok(Edge::Moniker(EdgeData::from_value(alloc, value)?)),
-            EdgeLabel::NextMoniker => Ok(Edge::NextMoniker(EdgeData::from_value(alloc, value)?)),
-            EdgeLabel::Next => Ok(Edge::Next(EdgeData::from_value(alloc, value)?)),
-            EdgeLabel::PackageInformation => Ok(Edge::PackageInformation(EdgeData::from_value(
-                alloc, value,
-            )?)),
             EdgeLabel::Item => Ok(Edge::Item(Item::from_value(alloc, value)?)),
-            EdgeLabel::Definition => Ok(Edge::Definition(EdgeData::from_value(alloc, value)?)),
-            EdgeLabel::Declaration => Ok(Edge::Declaration(EdgeData::from_value(alloc, value)?)),
-            EdgeLabel::Hover => Ok(Edge::Hover(EdgeData::from_value(alloc, value)?)),
-            EdgeLabel::References => Ok(Edge::References(EdgeData::from_value(alloc, value)?)),
-            EdgeLabel::Implementation => Ok(Edge::Implementation(EdgeData::from_value(
-                alloc, value,
-            )?)),
-            EdgeLabel::TypeDefinition => Ok(Edge::TypeDefinition(EdgeData::from_value(
-                alloc, value,
-            )?)),
-            EdgeLabel::FoldingRange => Ok(Edge::FoldingRange(EdgeData::from_value(alloc, value)?)),
-            EdgeLabel::DocumentLink => Ok(Edge::DocumentLink(EdgeData::from_value(alloc, value)?)),
-            EdgeLabel::DocumentSymbol => Ok(Edge::DocumentSymbol(EdgeData::from_value(
-                alloc, value,
-            )?)),
-            EdgeLabel::Diagnostic => Ok(Edge::Diagnostic(EdgeData::from_value(alloc, value)?)),
+            EdgeLabel::Single(label) => Ok(single(label, EdgeData::from_value(alloc, value)?)),
         }
     }
 
@@ -151,6 +133,29 @@ impl Wire for Edge {
                 diagnostic,
             ),
         }
+    }
+}
+
+/// The edge of that label, with its ends.
+#[tactic(auto, unfolding(crate::specs::Edge::edge_row))]
+fn single(label: SingleLabel, ends: EdgeData) -> Edge
+    ensures { edge_row.shown result ≡ choice (single_place label) (edge_data_row.shown ends) }
+{
+    match label {
+        SingleLabel::Moniker => Edge::Moniker(ends),
+        SingleLabel::NextMoniker => Edge::NextMoniker(ends),
+        SingleLabel::Next => Edge::Next(ends),
+        SingleLabel::PackageInformation => Edge::PackageInformation(ends),
+        SingleLabel::Definition => Edge::Definition(ends),
+        SingleLabel::Declaration => Edge::Declaration(ends),
+        SingleLabel::Hover => Edge::Hover(ends),
+        SingleLabel::References => Edge::References(ends),
+        SingleLabel::Implementation => Edge::Implementation(ends),
+        SingleLabel::TypeDefinition => Edge::TypeDefinition(ends),
+        SingleLabel::FoldingRange => Edge::FoldingRange(ends),
+        SingleLabel::DocumentLink => Edge::DocumentLink(ends),
+        SingleLabel::DocumentSymbol => Edge::DocumentSymbol(ends),
+        SingleLabel::Diagnostic => Edge::Diagnostic(ends),
     }
 }
 

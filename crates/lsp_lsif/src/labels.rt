@@ -1,11 +1,10 @@
 // The labels of vertices and edges, by which their variants are told.
-ghost use Rattle.std.specs.Prelude.{◌≡◌, false, IfSome, None, option_and_then};
+ghost use Rattle.std.specs.Prelude.{◌≡◌, option_and_then};
 ghost use Rattle.serde_json.specs.View.{view};
 ghost use Rattle.lsp_shape.specs.Read.{read};
-ghost use Rattle.lsp_shape.specs.Shape.{has_name};
 ghost use Rattle.lsp_lsif.specs.Edge.{edge_row};
 ghost use Rattle.lsp_lsif.specs.Vertex.{vertex_row};
-ghost use Rattle.lsp_lsif.specs.Labels.{labels, vertex_label_text, read_vertex_as, edge_label_text, read_edge_as};
+ghost use Rattle.lsp_lsif.specs.Labels.{IsVertexLabel, read_vertex_as, IsEdgeLabel, read_edge_as};
 
 use lsp_shape::tag;
 use serde_json::Value;
@@ -54,8 +53,7 @@ pub enum VertexLabel {
 impl VertexLabel {
     /// The label of that text.
     fn named(text: &str) -> Option<VertexLabel>
-        ensures found { IfSome result (λ label. text.now ≡ vertex_label_text label) }
-        ensures other { result ≡ None → has_name text.now (labels vertex_row.shape) ≡ false }
+        ensures { IsVertexLabel text.now result }
     {
         match text {
             "metaData" => Some(VertexLabel::MetaData),
@@ -94,6 +92,15 @@ impl VertexLabel {
 pub enum EdgeLabel {
     /// `contains`.
     Contains,
+    /// `item`.
+    Item,
+    /// That of an edge which leads to one vertex.
+    Single(SingleLabel),
+}
+
+/// The label of an edge that leads to one vertex (LSIF 0.6).
+#[derive(Clone, Copy)]
+pub enum SingleLabel {
     /// `moniker`.
     Moniker,
     /// `nextMoniker`.
@@ -102,8 +109,6 @@ pub enum EdgeLabel {
     Next,
     /// `packageInformation`.
     PackageInformation,
-    /// `item`.
-    Item,
     /// `textDocument/definition`.
     Definition,
     /// `textDocument/declaration`.
@@ -129,26 +134,25 @@ pub enum EdgeLabel {
 impl EdgeLabel {
     /// The label of that text.
     fn named(text: &str) -> Option<EdgeLabel>
-        ensures found { IfSome result (λ label. text.now ≡ edge_label_text label) }
-        ensures other { result ≡ None → has_name text.now (labels edge_row.shape) ≡ false }
+        ensures { IsEdgeLabel text.now result }
     {
         match text {
             "contains" => Some(EdgeLabel::Contains),
-            "moniker" => Some(EdgeLabel::Moniker),
-            "nextMoniker" => Some(EdgeLabel::NextMoniker),
-            "next" => Some(EdgeLabel::Next),
-            "packageInformation" => Some(EdgeLabel::PackageInformation),
+            "moniker" => Some(EdgeLabel::Single(SingleLabel::Moniker)),
+            "nextMoniker" => Some(EdgeLabel::Single(SingleLabel::NextMoniker)),
+            "next" => Some(EdgeLabel::Single(SingleLabel::Next)),
+            "packageInformation" => Some(EdgeLabel::Single(SingleLabel::PackageInformation)),
             "item" => Some(EdgeLabel::Item),
-            "textDocument/definition" => Some(EdgeLabel::Definition),
-            "textDocument/declaration" => Some(EdgeLabel::Declaration),
-            "textDocument/hover" => Some(EdgeLabel::Hover),
-            "textDocument/references" => Some(EdgeLabel::References),
-            "textDocument/implementation" => Some(EdgeLabel::Implementation),
-            "textDocument/typeDefinition" => Some(EdgeLabel::TypeDefinition),
-            "textDocument/foldingRange" => Some(EdgeLabel::FoldingRange),
-            "textDocument/documentLink" => Some(EdgeLabel::DocumentLink),
-            "textDocument/documentSymbol" => Some(EdgeLabel::DocumentSymbol),
-            "textDocument/diagnostic" => Some(EdgeLabel::Diagnostic),
+            "textDocument/definition" => Some(EdgeLabel::Single(SingleLabel::Definition)),
+            "textDocument/declaration" => Some(EdgeLabel::Single(SingleLabel::Declaration)),
+            "textDocument/hover" => Some(EdgeLabel::Single(SingleLabel::Hover)),
+            "textDocument/references" => Some(EdgeLabel::Single(SingleLabel::References)),
+            "textDocument/implementation" => Some(EdgeLabel::Single(SingleLabel::Implementation)),
+            "textDocument/typeDefinition" => Some(EdgeLabel::Single(SingleLabel::TypeDefinition)),
+            "textDocument/foldingRange" => Some(EdgeLabel::Single(SingleLabel::FoldingRange)),
+            "textDocument/documentLink" => Some(EdgeLabel::Single(SingleLabel::DocumentLink)),
+            "textDocument/documentSymbol" => Some(EdgeLabel::Single(SingleLabel::DocumentSymbol)),
+            "textDocument/diagnostic" => Some(EdgeLabel::Single(SingleLabel::Diagnostic)),
             _ => None,
         }
     }
