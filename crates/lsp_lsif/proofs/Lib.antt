@@ -1,4 +1,4 @@
-pub mod Errors
+pub mod Labelled
 pub mod Room
 pub mod Tagged
 pub mod Unrolled

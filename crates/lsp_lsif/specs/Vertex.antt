@@ -3,6 +3,8 @@ use Rattle.std.specs.Prelude.{List, Option, Vec, [], codes, ℕ, ◌∷◌}
 use Rattle.std.specs.declared.alloc.Global.{Global}
 use Rattle.lsp_shape.specs.Plain.{Plain, choice}
 use Rattle.lsp_shape.specs.Row.{Row, fields, flat, list, names, nothing, omitted, required, string, tag, tagged, union, unless_empty, variant, ◌&◌, ◌or◌}
+use Rattle.lsp_shape.specs.Shape.{Shape}
+use Rattle.lsp_shape.specs.Shape as shape
 use Rattle.lsp_uri.specs.Uri.{uri_row}
 use Rattle.lsp_base.specs.Diagnostic.{diagnostic_row}
 use Rattle.lsp_base.specs.Position.{number_or_string_row, range_row}
@@ -43,6 +45,10 @@ abbrev pub vertex_range_row : Row (record { range : Range; tag : Option RangeTag
 vertex_range_row = fields (
     flat range_row (λ x. x.range) &
     omitted "tag" range_tag_row (λ x. x.tag))
+
+-- the shape of a record with the member `result` alone
+abbrev pub result_alone : Shape → Shape
+result_alone s = shape.fields (shape.field (codes "result") shape.required s shape.no_fields)
 
 -- the fields of `Vertex::FoldingRangeResult`
 abbrev pub vertex_folding_range_result_row : Row (record { result : Vec FoldingRange Global })

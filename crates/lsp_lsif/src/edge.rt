@@ -1,9 +1,13 @@
 // Edges.
+ghost use Rattle.std.specs.Prelude.{◌≡◌};
+ghost use Rattle.lsp_shape.specs.Plain.{choice};
 ghost use Rattle.lsp_lsif.specs.Edge.{edge_row, edge_data_row, edge_data_multi_in_row, item_row, item_kind_row, definition_result_type_row, location_or_range_id_row};
+ghost use Rattle.lsp_lsif.specs.Labels.{single_place};
 
 use crate::entry::Id;
+use crate::labels::{EdgeLabel, SingleLabel};
 use lsp_base::Location;
-use lsp_shape::{Misfit, NoMemory, Reader, Wire, Writer, attempt, put_tag, tag};
+use lsp_shape::{Misfit, NoMemory, Reader, Wire, Writer, attempt, put_tag};
 use serde_json::Value;
 use std::alloc::Global;
 
@@ -55,44 +59,13 @@ impl Wire for Edge {
     ghost shown = { edge_row.shown };
 
     fn from_value(alloc: Global, value: &Value) -> Result<Edge, Misfit> {
-        match tag(value, "label") {
-            Some("contains") => Ok(Edge::Contains(EdgeDataMultiIn::from_value(alloc, value)?)),
-            Some("moniker") => Ok(Edge::Moniker(EdgeData::from_value(alloc, value)?)),
-            Some("nextMoniker") => Ok(Edge::NextMoniker(EdgeData::from_value(alloc, value)?)),
-            Some("next") => Ok(Edge::Next(EdgeData::from_value(alloc, value)?)),
-            Some("packageInformation") => Ok(Edge::PackageInformation(EdgeData::from_value(
-                alloc, value,
-            )?)),
-            Some("item") => Ok(Edge::Item(Item::from_value(alloc, value)?)),
-            Some("textDocument/definition") => Ok(Edge::Definition(EdgeData::from_value(
-                alloc, value,
-            )?)),
-            Some("textDocument/declaration") => Ok(Edge::Declaration(EdgeData::from_value(
-                alloc, value,
-            )?)),
-            Some("textDocument/hover") => Ok(Edge::Hover(EdgeData::from_value(alloc, value)?)),
-            Some("textDocument/references") => Ok(Edge::References(EdgeData::from_value(
-                alloc, value,
-            )?)),
-            Some("textDocument/implementation") => Ok(Edge::Implementation(EdgeData::from_value(
-                alloc, value,
-            )?)),
-            Some("textDocument/typeDefinition") => Ok(Edge::TypeDefinition(EdgeData::from_value(
-                alloc, value,
-            )?)),
-            Some("textDocument/foldingRange") => Ok(Edge::FoldingRange(EdgeData::from_value(
-                alloc, value,
-            )?)),
-            Some("textDocument/documentLink") => Ok(Edge::DocumentLink(EdgeData::from_value(
-                alloc, value,
-            )?)),
-            Some("textDocument/documentSymbol") => Ok(Edge::DocumentSymbol(EdgeData::from_value(
-                alloc, value,
-            )?)),
-            Some("textDocument/diagnostic") => Ok(Edge::Diagnostic(EdgeData::from_value(
-                alloc, value,
-            )?)),
-            _ => Err(Misfit::Unfit),
+        let Some(label) = EdgeLabel::of(value) else {
+            return Err(Misfit::Unfit);
+        };
+        match label {
+            EdgeLabel::Contains => Ok(Edge::Contains(EdgeDataMultiIn::from_value(alloc, value)?)),
+            EdgeLabel::Item => Ok(Edge::Item(Item::from_value(alloc, value)?)),
+            EdgeLabel::Single(label) => Ok(single(label, EdgeData::from_value(alloc, value)?)),
         }
     }
 
@@ -160,6 +133,29 @@ impl Wire for Edge {
                 diagnostic,
             ),
         }
+    }
+}
+
+/// The edge of that label, with its ends.
+#[tactic(auto, unfolding(crate::specs::Edge::edge_row))]
+fn single(label: SingleLabel, ends: EdgeData) -> Edge
+    ensures { edge_row.shown result ≡ choice (single_place label) (edge_data_row.shown ends) }
+{
+    match label {
+        SingleLabel::Moniker => Edge::Moniker(ends),
+        SingleLabel::NextMoniker => Edge::NextMoniker(ends),
+        SingleLabel::Next => Edge::Next(ends),
+        SingleLabel::PackageInformation => Edge::PackageInformation(ends),
+        SingleLabel::Definition => Edge::Definition(ends),
+        SingleLabel::Declaration => Edge::Declaration(ends),
+        SingleLabel::Hover => Edge::Hover(ends),
+        SingleLabel::References => Edge::References(ends),
+        SingleLabel::Implementation => Edge::Implementation(ends),
+        SingleLabel::TypeDefinition => Edge::TypeDefinition(ends),
+        SingleLabel::FoldingRange => Edge::FoldingRange(ends),
+        SingleLabel::DocumentLink => Edge::DocumentLink(ends),
+        SingleLabel::DocumentSymbol => Edge::DocumentSymbol(ends),
+        SingleLabel::Diagnostic => Edge::Diagnostic(ends),
     }
 }
 

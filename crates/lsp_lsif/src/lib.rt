@@ -3,6 +3,7 @@
 
 mod edge;
 mod entry;
+mod labels;
 mod symbols;
 mod tags;
 mod vertex;

@@ -1,12 +1,20 @@
 // Vertices.
-ghost use Rattle.lsp_lsif.specs.Vertex.{vertex_row, meta_data_row, encoding_row, tool_info_row, project_row, repository_row, document_row, result_set_row, package_information_row, event_row, event_kind_row, event_scope_row, document_symbol_or_range_based_vec_row};
+ghost use Rattle.std.specs.Prelude.{◌≡◌, IfOk, OnOk, IsErrOf, Some, None, true, codes};
+ghost use Rattle.serde_json.specs.Data.{object as object_of, put as with_member, string, no_members};
+ghost use Rattle.serde_json.specs.View.{view};
+ghost use Rattle.lsp_shape.specs.Plain.{parts, part, no_parts};
+ghost use Rattle.lsp_shape.specs.Read.{read};
+ghost use Rattle.lsp_shape.specs.Write.{write};
+ghost use Rattle.lsp_shape.specs.Values.{is_of};
+ghost use Rattle.lsp_lsif.specs.Vertex.{vertex_row, meta_data_row, encoding_row, tool_info_row, project_row, repository_row, document_row, result_set_row, package_information_row, event_row, event_kind_row, event_scope_row, document_symbol_or_range_based_vec_row, result_alone};
 
 use crate::entry::Id;
+use crate::labels::VertexLabel;
 use crate::symbols::RangeBasedDocumentSymbol;
 use crate::tags::RangeTag;
 use lsp_base::{Diagnostic, Range};
 use lsp_lang_goto::{DocumentLink, DocumentSymbol, Hover};
-use lsp_shape::{Misfit, NoMemory, Reader, Wire, Writer, attempt, put_tag, tag};
+use lsp_shape::{Misfit, NoMemory, Reader, Wire, Writer, attempt, put_tag};
 use lsp_tokens::{FoldingRange, Moniker};
 use lsp_uri::Uri;
 use serde_json::Value;
@@ -88,59 +96,46 @@ impl Wire for Vertex {
     ghost shown = { vertex_row.shown };
 
     fn from_value(alloc: Global, value: &Value) -> Result<Vertex, Misfit> {
-        match tag(value, "label") {
-            Some("metaData") => Ok(Vertex::MetaData(MetaData::from_value(alloc, value)?)),
-            Some("project") => Ok(Vertex::Project(Project::from_value(alloc, value)?)),
-            Some("document") => Ok(Vertex::Document(Document::from_value(alloc, value)?)),
-            Some("range") => {
+        let Some(label) = VertexLabel::of(value) else {
+            return Err(Misfit::Unfit);
+        };
+        match label {
+            VertexLabel::MetaData => MetaData::from_value(alloc, value).map(Vertex::MetaData),
+            VertexLabel::Project => Project::from_value(alloc, value).map(Vertex::Project),
+            VertexLabel::Document => Document::from_value(alloc, value).map(Vertex::Document),
+            VertexLabel::Range => {
                 let object = Reader::new(alloc, value)?;
                 Ok(Vertex::Range {
                     range: Range::from_value(alloc, value)?,
                     tag: object.optional("tag")?,
                 })
             }
-            Some("resultSet") => Ok(Vertex::ResultSet(ResultSet::from_value(alloc, value)?)),
-            Some("moniker") => Ok(Vertex::Moniker(Moniker::from_value(alloc, value)?)),
-            Some("packageInformation") => Ok(Vertex::PackageInformation(
-                PackageInformation::from_value(alloc, value)?,
-            )),
-            Some("$event") => Ok(Vertex::Event(Event::from_value(alloc, value)?)),
-            Some("definitionResult") => Ok(Vertex::DefinitionResult),
-            Some("declarationResult") => Ok(Vertex::DeclarationResult),
-            Some("typeDefinitionResult") => Ok(Vertex::TypeDefinitionResult),
-            Some("referenceResult") => Ok(Vertex::ReferenceResult),
-            Some("implementationResult") => Ok(Vertex::ImplementationResult),
-            Some("foldingRangeResult") => {
-                let object = Reader::new(alloc, value)?;
-                Ok(Vertex::FoldingRangeResult {
-                    result: object.field("result")?,
-                })
-            }
-            Some("hoverResult") => {
-                let object = Reader::new(alloc, value)?;
-                Ok(Vertex::HoverResult {
-                    result: object.field("result")?,
-                })
-            }
-            Some("documentSymbolResult") => {
-                let object = Reader::new(alloc, value)?;
-                Ok(Vertex::DocumentSymbolResult {
-                    result: object.field("result")?,
-                })
-            }
-            Some("documentLinkResult") => {
-                let object = Reader::new(alloc, value)?;
-                Ok(Vertex::DocumentLinkResult {
-                    result: object.field("result")?,
-                })
-            }
-            Some("diagnosticResult") => {
-                let object = Reader::new(alloc, value)?;
-                Ok(Vertex::DiagnosticResult {
-                    result: object.field("result")?,
-                })
-            }
-            _ => Err(Misfit::Unfit),
+            VertexLabel::ResultSet => ResultSet::from_value(alloc, value).map(Vertex::ResultSet),
+            VertexLabel::Moniker => Moniker::from_value(alloc, value).map(Vertex::Moniker),
+            VertexLabel::PackageInformation => PackageInformation::from_value(alloc, value).map(
+                Vertex::PackageInformation,
+            ),
+            VertexLabel::Event => Event::from_value(alloc, value).map(Vertex::Event),
+            VertexLabel::DefinitionResult => Ok(Vertex::DefinitionResult),
+            VertexLabel::DeclarationResult => Ok(Vertex::DeclarationResult),
+            VertexLabel::TypeDefinitionResult => Ok(Vertex::TypeDefinitionResult),
+            VertexLabel::ReferenceResult => Ok(Vertex::ReferenceResult),
+            VertexLabel::ImplementationResult => Ok(Vertex::ImplementationResult),
+            VertexLabel::FoldingRangeResult => Ok(Vertex::FoldingRangeResult {
+                result: result_of(alloc, value)?,
+            }),
+            VertexLabel::HoverResult => Ok(Vertex::HoverResult {
+                result: result_of(alloc, value)?,
+            }),
+            VertexLabel::DocumentSymbolResult => Ok(Vertex::DocumentSymbolResult {
+                result: result_of(alloc, value)?,
+            }),
+            VertexLabel::DocumentLinkResult => Ok(Vertex::DocumentLinkResult {
+                result: result_of(alloc, value)?,
+            }),
+            VertexLabel::DiagnosticResult => Ok(Vertex::DiagnosticResult {
+                result: result_of(alloc, value)?,
+            }),
         }
     }
 
@@ -166,63 +161,64 @@ impl Wire for Vertex {
                 information,
             ),
             Vertex::Event(event) => put_tag(alloc, "label", "$event", event),
-            Vertex::DefinitionResult => {
-                let mut object = Writer::new(alloc);
-                object.tag("label", "definitionResult");
-                object.end()
-            }
-            Vertex::DeclarationResult => {
-                let mut object = Writer::new(alloc);
-                object.tag("label", "declarationResult");
-                object.end()
-            }
-            Vertex::TypeDefinitionResult => {
-                let mut object = Writer::new(alloc);
-                object.tag("label", "typeDefinitionResult");
-                object.end()
-            }
-            Vertex::ReferenceResult => {
-                let mut object = Writer::new(alloc);
-                object.tag("label", "referenceResult");
-                object.end()
-            }
-            Vertex::ImplementationResult => {
-                let mut object = Writer::new(alloc);
-                object.tag("label", "implementationResult");
-                object.end()
-            }
-            Vertex::FoldingRangeResult { result } => {
-                let mut object = Writer::new(alloc);
-                object.field("result", result);
-                object.tag("label", "foldingRangeResult");
-                object.end()
-            }
-            Vertex::HoverResult { result } => {
-                let mut object = Writer::new(alloc);
-                object.field("result", result);
-                object.tag("label", "hoverResult");
-                object.end()
-            }
-            Vertex::DocumentSymbolResult { result } => {
-                let mut object = Writer::new(alloc);
-                object.field("result", result);
-                object.tag("label", "documentSymbolResult");
-                object.end()
-            }
-            Vertex::DocumentLinkResult { result } => {
-                let mut object = Writer::new(alloc);
-                object.field("result", result);
-                object.tag("label", "documentLinkResult");
-                object.end()
-            }
-            Vertex::DiagnosticResult { result } => {
-                let mut object = Writer::new(alloc);
-                object.field("result", result);
-                object.tag("label", "diagnosticResult");
-                object.end()
-            }
+            Vertex::DefinitionResult => put_label(alloc, "definitionResult"),
+            Vertex::DeclarationResult => put_label(alloc, "declarationResult"),
+            Vertex::TypeDefinitionResult => put_label(alloc, "typeDefinitionResult"),
+            Vertex::ReferenceResult => put_label(alloc, "referenceResult"),
+            Vertex::ImplementationResult => put_label(alloc, "implementationResult"),
+            Vertex::FoldingRangeResult { result } => put_result(
+                alloc,
+                "foldingRangeResult",
+                result,
+            ),
+            Vertex::HoverResult { result } => put_result(alloc, "hoverResult", result),
+            Vertex::DocumentSymbolResult { result } => put_result(
+                alloc,
+                "documentSymbolResult",
+                result,
+            ),
+            Vertex::DocumentLinkResult { result } => put_result(
+                alloc,
+                "documentLinkResult",
+                result,
+            ),
+            Vertex::DiagnosticResult { result } => put_result(alloc, "diagnosticResult", result),
         }
     }
+}
+
+/// The member `result`, which is all that some vertices have.
+fn result_of<T: Wire>(alloc: Global, value: &Value) -> Result<T, Misfit>
+    ensures read { IfOk result (λ x. read (result_alone T.shape) (view value.now)
+        ≡ Some (parts (part (T.shown x) no_parts))) }
+    ensures unfit { IsErrOf result Misfit.Unfit
+        → read (result_alone T.shape) (view value.now) ≡ None }
+{
+    let object = Reader::new(alloc, value)?;
+    object.field("result")
+}
+
+/// What is written for a vertex that has the member `result` alone.
+fn put_result<T: Wire>(alloc: Global, label: &str, held: &T) -> Result<Value, NoMemory>
+    ensures written { IfOk result (λ v. view v
+        ≡ object_of (with_member (codes "label") (string label.now)
+        (with_member (codes "result") (write T.shape (T.shown held.now)) no_members))) }
+    ensures of_shape { OnOk result (is_of T.shape (T.shown held.now) ≡ true) }
+{
+    let mut object = Writer::new(alloc);
+    object.field("result", held);
+    object.tag("label", label);
+    object.end()
+}
+
+/// What is written for a vertex without members.
+fn put_label(alloc: Global, label: &str) -> Result<Value, NoMemory>
+    ensures { IfOk result (λ v. view v
+        ≡ object_of (with_member (codes "label") (string label.now) no_members)) }
+{
+    let mut object = Writer::new(alloc);
+    object.tag("label", label);
+    object.end()
 }
 
 /// The vertex `metaData`, which describes the dump as a whole (LSIF 0.6).
