@@ -6,7 +6,7 @@ use Rattle.serde_json.specs.Find.{get, as_str}
 use Rattle.lsp_shape.specs.Plain.{choice}
 use Rattle.lsp_shape.specs.Read.{read}
 use Rattle.lsp_lsif.specs.Edge.{edge_row}
-use Rattle.lsp_lsif.specs.Vertex.{vertex_row}
+use Rattle.lsp_lsif.specs.Vertex.{vertex_row, vertex_shape}
 use Rattle.lsp_lsif.specs.Labels.{vertex_label_text, IsVertexLabel, read_vertex_as, edge_label_text, IsEdgeLabel, read_edge_as}
 use Rattle.lsp_lsif.specs.declared.labels.EdgeLabel.{EdgeLabel}
 use Rattle.lsp_lsif.specs.declared.labels.EdgeLabel.TheVariants as edge_label
@@ -20,7 +20,7 @@ abbrev told : Data → Option (List ℕ)
 told d = option_and_then as_str (get (codes "label") d)
 
 vertex-of_label : (l : VertexLabel) (d : Data) → told d ≡ Some (vertex_label_text l) → read vertex_row.shape d ≡ read_vertex_as l d
-unfolding vertex_row
+unfolding vertex_row vertex_shape
 vertex-of_label vertex_label.MetaData d is = read_by_text (codes "label") (codes "metaData") (variants_of vertex_row.shape) d is
 vertex-of_label vertex_label.Project d is = read_by_text (codes "label") (codes "project") (variants_of vertex_row.shape) d is
 vertex-of_label vertex_label.Document d is = read_by_text (codes "label") (codes "document") (variants_of vertex_row.shape) d is
@@ -41,12 +41,12 @@ vertex-of_label vertex_label.DocumentLinkResult d is = read_by_text (codes "labe
 vertex-of_label vertex_label.DiagnosticResult d is = read_by_text (codes "label") (codes "diagnosticResult") (variants_of vertex_row.shape) d is
 
 pub vertex-untold : (d : Data) → told d ≡ None → read vertex_row.shape d ≡ None
-unfolding vertex_row
+unfolding vertex_row vertex_shape
 vertex-untold d is = untold_unfit (codes "label") (variants_of vertex_row.shape) d is
 
 pub vertex-told : (text : List ℕ) (d : Data) (found : Option VertexLabel) → told d ≡ Some text → IsVertexLabel text found
     → read vertex_row.shape d ≡ option_and_then (λ l. read_vertex_as l d) found
-unfolding vertex_row
+unfolding vertex_row vertex_shape
 vertex-told text d None is other = other_unfit (codes "label") text (variants_of vertex_row.shape) d is other
 vertex-told text d (Some l) is named = vertex-of_label l d (is ∙ ap Some named)
 

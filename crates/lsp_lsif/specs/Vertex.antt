@@ -2,7 +2,7 @@
 use Rattle.std.specs.Prelude.{List, Option, Vec, [], codes, ℕ, ◌∷◌}
 use Rattle.std.specs.declared.alloc.Global.{Global}
 use Rattle.lsp_shape.specs.Plain.{Plain, choice}
-use Rattle.lsp_shape.specs.Row.{Row, fields, flat, list, names, nothing, omitted, required, string, tag, tagged, union, unless_empty, variant, ◌&◌, ◌or◌}
+use Rattle.lsp_shape.specs.Row.{Row, fields, flat, list, names, nothing, omitted, required, row_of, string, tag, union, unless_empty, variant, ◌&◌, ◌or◌}
 use Rattle.lsp_shape.specs.Shape.{Shape}
 use Rattle.lsp_shape.specs.Shape as shape
 use Rattle.lsp_uri.specs.Uri.{uri_row}
@@ -173,8 +173,8 @@ show_vertex (vertex.DocumentSymbolResult result) = choice 15 (vertex_document_sy
 show_vertex (vertex.DocumentLinkResult result) = choice 16 (vertex_document_link_result_row.shown (record { result = result }))
 show_vertex (vertex.DiagnosticResult result) = choice 17 (vertex_diagnostic_result_row.shown (record { result = result }))
 
-unfoldable pub vertex_row : Row Vertex
-vertex_row = tagged "label" (
+unfoldable pub vertex_shape : Shape
+vertex_shape = shape.tagged (codes "label") ((
     tag "metaData" meta_data_row or
     tag "project" project_row or
     tag "document" document_row or
@@ -192,4 +192,7 @@ vertex_row = tagged "label" (
     tag "hoverResult" vertex_hover_result_row or
     tag "documentSymbolResult" vertex_document_symbol_result_row or
     tag "documentLinkResult" vertex_document_link_result_row or
-    tag "diagnosticResult" vertex_diagnostic_result_row) show_vertex
+    tag "diagnosticResult" vertex_diagnostic_result_row) shape.no_variants)
+
+unfoldable pub vertex_row : Row Vertex
+vertex_row = row_of vertex_shape show_vertex

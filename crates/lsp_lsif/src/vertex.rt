@@ -139,7 +139,7 @@ impl Wire for Vertex {
         }
     }
 
-    #[tactic(auto, unfolding(crate::specs::Vertex::vertex_row, crate::specs::Vertex::meta_data_row, crate::specs::Vertex::project_row, crate::specs::Vertex::document_row, crate::specs::Vertex::result_set_row, lsp_tokens::specs::Moniker::moniker_row, crate::specs::Vertex::package_information_row, crate::specs::Vertex::event_row, lsp_base::specs::Position::range_row))]
+    #[tactic(auto, unfolding(crate::specs::Vertex::vertex_row, crate::specs::Vertex::vertex_shape, crate::specs::Vertex::meta_data_row, crate::specs::Vertex::project_row, crate::specs::Vertex::document_row, crate::specs::Vertex::result_set_row, lsp_tokens::specs::Moniker::moniker_row, crate::specs::Vertex::package_information_row, crate::specs::Vertex::event_row, lsp_base::specs::Position::range_row))]
     fn to_value(&self, alloc: Global) -> Result<Value, NoMemory> {
         match self {
             Vertex::MetaData(data) => put_tag(alloc, "label", "metaData", data),
