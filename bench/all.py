@@ -26,8 +26,10 @@ import proxy
 import refused
 import shared_desk
 import start
+import talk
 
-SCRIPTS = (instructions, flood, bulk, growth, mixed, refused, proxy, frame, docs, large_values, lsif, shared_desk, start)
+SCRIPTS = (instructions, flood, bulk, growth, mixed, refused, proxy, frame, docs, large_values, lsif, shared_desk, talk,
+           start)
 
 
 def rows(sizes):

@@ -31,6 +31,7 @@ BUILT_BY = {
     "frame_bench": "bench/frame.py --build",
     "docs_bench": "bench/docs.py --build",
     "types_bench": "bench/large_values.py --build",
+    "talk_bench": "bench/talk.py --build",
     ".built/lsp_sample": "./lsp_sample --build",
 }
 

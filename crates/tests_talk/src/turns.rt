@@ -37,11 +37,18 @@ const LAST_ID: &str = "\"id\":70";
 // The method of the client's message.
 const OWN: &str = "window/own";
 
-/// Gives one message a read. Before each it waits until a client on another thread was answered.
+// What is added to the steps when the session has served its first message, and when the client was
+// answered after that.
+const SERVED: u64 = 1;
+
+const SENT: u64 = 2;
+
+/// Gives one message a read. Before each but the first it waits until a client on another thread was
+/// answered.
 #[derive(Drop)]
 struct Patient<'a> {
     left: u64,
-    sent: &'a AtomicU64,
+    steps: &'a AtomicU64,
 }
 
 impl<'a> Source for Patient<'a> {
@@ -54,16 +61,26 @@ impl<'a> Source for Patient<'a> {
             return Ok(0);
         }
         self.left -= 1;
-        for _ in 0..WAITS {
-            if self.sent.load(Ordering::SeqCst) != 0 {
-                break;
-            }
-            yield_now();
+        if self.left == READS - 2 {
+            self.steps.fetch_add(SERVED, Ordering::SeqCst);
+        }
+        if self.left < READS - 1 {
+            await_step(self.steps, SENT);
         }
         let frame = if self.left == 0 { LAST } else { NOTE };
         let n = frame.len().min(piece.len());
         piece[..n].copy_from_slice(&frame.as_bytes()[..n]);
         Ok(n)
+    }
+}
+
+// Waits until the steps come to this one, or long enough.
+fn await_step(steps: &AtomicU64, step: u64) {
+    for _ in 0..WAITS {
+        if steps.load(Ordering::SeqCst) >= step {
+            return;
+        }
+        yield_now();
     }
 }
 
@@ -88,13 +105,13 @@ fn is_before_last(bytes: &[u8]) -> bool {
     }
 }
 
-// Sends one message, and then lets the source go on.
+// Sends one message once the session made calls, and then lets the source go on.
 fn send<R: Wait + Sync>(
     rt: &R,
     desk: &SharedDesk,
     client: Rested,
     plan: Plan,
-    sent: &AtomicU64,
+    steps: &AtomicU64,
 ) -> bool
     requires { (rested_desk client ≡ desk_id desk.now) × ((rested_view client).owner ≡ false) }
 {
@@ -102,16 +119,17 @@ fn send<R: Wait + Sync>(
     let Ok(call) = own_message(plan.alloc) else {
         return false;
     };
+    await_step(steps, SERVED);
     let told = matches!(client.client(call), Ok(ClientReply::Sent));
-    sent.store(1, Ordering::SeqCst);
+    steps.fetch_add(SENT, Ordering::SeqCst);
     told
 }
 
 // Serves, and says whether the client's message was written in time.
-fn serve<R: Wait + Sync>(alloc: Global, owner: DeskOwner<'_, R>, sent: &AtomicU64) -> bool
+fn serve<R: Wait + Sync>(alloc: Global, owner: DeskOwner<'_, R>, steps: &AtomicU64) -> bool
     requires { IsOpening seat_meaning owner }
 {
-    let mut source = Patient { left: READS, sent };
+    let mut source = Patient { left: READS, steps };
     let mut sink = MemorySink::new(alloc, Vec::new(alloc));
     let served = Server::new(ClientSocket::new(owner)).serve(
         alloc,
@@ -130,9 +148,9 @@ fn serve_beside<R: Threads + Wait + Sync>(rt: &R, alloc: Global) -> Result<bool,
     let (desk, seat) = SharedDesk::new(alloc)?;
     let mut owner = desk.owner(rt, seat);
     let client = owner.split()?.rest();
-    let sent = AtomicU64::new(0);
+    let steps = AtomicU64::new(0);
     let plan = Plan { alloc, messages: 1 };
-    Ok(beside(rt, &desk, owner, client, plan, &sent))
+    Ok(beside(rt, &desk, owner, client, plan, &steps))
 }
 
 fn beside<R: Threads + Wait + Sync>(
@@ -141,7 +159,7 @@ fn beside<R: Threads + Wait + Sync>(
     owner: DeskOwner<'_, R>,
     client: Rested,
     plan: Plan,
-    sent: &AtomicU64,
+    steps: &AtomicU64,
 ) -> bool
     requires opening { IsOpening seat_meaning owner }
     requires seat { (rested_desk client ≡ desk_id desk.now)
@@ -152,10 +170,10 @@ fn beside<R: Threads + Wait + Sync>(
         || -> bool
             requires { (rested_desk client ≡ desk_id desk.now)
                 × ((rested_view client).owner ≡ false) }
-        { send(rt, desk, client, plan, sent) },
+        { send(rt, desk, client, plan, steps) },
         || -> bool
             requires { IsOpening seat_meaning owner }
-        { serve(plan.alloc, owner, sent) },
+        { serve(plan.alloc, owner, steps) },
     );
     told && served
 }
