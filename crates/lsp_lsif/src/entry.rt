@@ -62,8 +62,8 @@ impl Wire for Element {
 
     fn from_value(alloc: Global, value: &Value) -> Result<Element, Misfit> {
         match tag(value, "type") {
-            Some("vertex") => Ok(Element::Vertex(Vertex::from_value(alloc, value)?)),
-            Some("edge") => Ok(Element::Edge(Edge::from_value(alloc, value)?)),
+            Some("vertex") => Vertex::from_value(alloc, value).map(Element::Vertex),
+            Some("edge") => Edge::from_value(alloc, value).map(Element::Edge),
             _ => Err(Misfit::Unfit),
         }
     }

@@ -29,14 +29,12 @@ impl Wire for RangeTag {
 
     fn from_value(alloc: Global, value: &Value) -> Result<RangeTag, Misfit> {
         match tag(value, "type") {
-            Some("definition") => Ok(RangeTag::Definition(DefinitionTag::from_value(
-                alloc, value,
-            )?)),
-            Some("declaration") => Ok(RangeTag::Declaration(DeclarationTag::from_value(
-                alloc, value,
-            )?)),
-            Some("reference") => Ok(RangeTag::Reference(ReferenceTag::from_value(alloc, value)?)),
-            Some("unknown") => Ok(RangeTag::Unknown(UnknownTag::from_value(alloc, value)?)),
+            Some("definition") => DefinitionTag::from_value(alloc, value).map(RangeTag::Definition),
+            Some("declaration") => DeclarationTag::from_value(alloc, value).map(
+                RangeTag::Declaration,
+            ),
+            Some("reference") => ReferenceTag::from_value(alloc, value).map(RangeTag::Reference),
+            Some("unknown") => UnknownTag::from_value(alloc, value).map(RangeTag::Unknown),
             _ => Err(Misfit::Unfit),
         }
     }
