@@ -17,7 +17,7 @@ struct Size {
     queries: u32,
 }
 
-const SIZES: [Size; 5] = [
+const SMALL: &[Size] = &[
     Size {
         entries: 12,
         ids: 1,
@@ -39,21 +39,23 @@ const SIZES: [Size; 5] = [
         dumps: 300,
         queries: 20,
     },
-    Size {
-        entries: 500,
-        ids: 8,
-        lines: 2,
-        dumps: 395,
-        queries: 20,
-    },
-    Size {
-        entries: 10_000,
-        ids: 250,
-        lines: 30,
-        dumps: 1,
-        queries: 100,
-    },
 ];
+
+const MIDDLING: &[Size] = &[Size {
+    entries: 500,
+    ids: 8,
+    lines: 2,
+    dumps: 395,
+    queries: 20,
+}];
+
+const LARGE: &[Size] = &[Size {
+    entries: 10_000,
+    ids: 250,
+    lines: 30,
+    dumps: 1,
+    queries: 100,
+}];
 
 // The kinds of vertices, each with ids of its own, which are taken for one of another now and then.
 #[derive(Clone, Copy)]
@@ -372,18 +374,37 @@ fn try_dump(
     Ok(found)
 }
 
-#[test]
-fn plain_walks_answer_the_same(rt: HostRuntime) -> Result<(), RowError> {
-    let alloc = rt.alloc();
+// All dumps of these sizes, of whose queries at least so many have to find something.
+fn walks(alloc: Global, sizes: &[Size], least: u32) -> Result<(), RowError> {
     let mut trial = Trial::new(alloc);
     let mut random = Pcg32::new(20261129, 54);
     let mut found: u32 = 0;
-    for size in &SIZES {
+    for size in sizes {
         for _ in 0..size.dumps {
             found = found.saturating_add(try_dump(alloc, &mut random, size, &mut trial)?);
         }
     }
-    // Of 20,000 queries so many aren't answered by nothing.
-    trial.is_true("4,000 find something", found >= 4_000);
+    trial.is_true(
+        format_args!("{found} queries find something"),
+        found >= least,
+    );
     trial.end()
+}
+
+// 12,000 queries.
+#[test]
+fn plain_walks_over_small_dumps(rt: HostRuntime) -> Result<(), RowError> {
+    walks(rt.alloc(), SMALL, 1_200)
+}
+
+// 7,900 queries.
+#[test]
+fn plain_walks_over_middling_dumps(rt: HostRuntime) -> Result<(), RowError> {
+    walks(rt.alloc(), MIDDLING, 2_800)
+}
+
+// 100 queries.
+#[test]
+fn plain_walks_over_a_large_dump(rt: HostRuntime) -> Result<(), RowError> {
+    walks(rt.alloc(), LARGE, 30)
 }
