@@ -34,7 +34,7 @@ pub fn let_go(call: Call) {
     drop(call);
 }
 
-/// The reply to `initialize` of a server with these capabilities.
+/// The reply to `initialize` of a server with these capabilities. The one error is out of memory.
 pub fn initialize_reply(
     alloc: Global,
     params: Box<InitializeParams>,
