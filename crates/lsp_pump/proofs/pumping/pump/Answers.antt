@@ -17,7 +17,7 @@ use Rattle.lsp_server.specs.Errors.{IsBetweenReads, ComesUnfailed, SaysSpent}
 use Rattle.lsp_server.proofs.KnownLemmas.{if_ok, if_some, if_told, some_at}
 use Rattle.lsp_server.proofs.ErrorLemmas.{never_alone}
 use Rattle.lsp_server.proofs.HandedLemmas.{opened}
-use Rattle.lsp_pump.specs.Pumped.{PumpsOver, RanPumped, IsPumped}
+use Rattle.lsp_pump.specs.Pumped.{PumpsOver, RanPumped, IsPumped, WrotePumped}
 use Rattle.lsp_pump.proofs.HandedBack.{is_pumped, pump_unfailed}
 use Rattle.lsp_pump.proofs.pumping.pump.Goals as goal
 
@@ -65,10 +65,10 @@ returns-in-Err-clause-exact g c between =
     subst (λ (v : SessionView _ _ sem.Call sem.Task). IfSome left (λ bytes. PumpsOver (course_from sem m order c.args.rounds (codec_of set) v p) (start_by (codec_of set)) (bytes_of bytes) (picked after p2) after.desk (result_err c.pump_session-source.result.1))) first
     (subst (λ k. IfSome left (λ bytes. PumpsOver (course_from sem m order c.args.rounds k.settings start p) k (bytes_of bytes) (picked after p2) after.desk (result_err c.pump_session-source.result.1))) fresh c.pump_session-source.ensures.pumps) in
     let last = picked after p2 in
-    if_told left _ (λ bytes is. record {
+    if_told left _ (λ bytes is. subst (λ desk. WrotePumped (course sem m order set) (bytes_of bytes) desk) (sym c.stop.ensures.desk) (record {
       last = last;
       told = (rw c.in-Err.is at (some_at left _ bytes is pumps).exact) (subst IsBetweenReads c.stop.ensures.error between);
-    })
+    }))
 
 pub returns-in-Err-clause-never_alone : goal.returns-in-Err-clause-never_alone
 returns-in-Err-clause-never_alone g c =
