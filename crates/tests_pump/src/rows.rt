@@ -168,7 +168,7 @@ fn pump_by<R: Threads + Wait>(
     cut: usize,
 ) -> Result<Told, AllocError> {
     let mut sink = NeverSink::new(alloc);
-    let source = NeverSource::new(framed(alloc, row.sent)?, cut);
+    let source = NeverSource::new(framed(alloc, row.sent)?, cut.max(1));
     let (source, served) = pump(
         rt,
         alloc,
