@@ -19,7 +19,7 @@ pub(crate) struct Made {
 }
 
 /// A service of the strange server with the custom requests `custom` and `initialize`.
-pub(crate) fn made(alloc: Global) -> Result<Made, RowError>
+pub(crate) fn make_service(alloc: Global) -> Result<Made, RowError>
     ensures { IfOk result (λ made. IsOpening plain_meaning made.socket.desk) }
 {
     let desk = PlainDesk::new(alloc);
@@ -39,7 +39,7 @@ pub(crate) fn made(alloc: Global) -> Result<Made, RowError>
 #[test]
 fn custom_methods_are_numbered(rt: HostRuntime) -> Result<(), RowError> {
     let mut trial = Trial::new(rt.alloc());
-    let made = made(rt.alloc())?;
+    let made = make_service(rt.alloc())?;
     trial.same("their numbers", made.numbers, [0, 1]);
     trial.end()
 }
@@ -48,7 +48,7 @@ fn custom_methods_are_numbered(rt: HostRuntime) -> Result<(), RowError> {
 fn a_service_is_ready_until_exit(rt: HostRuntime) -> Result<(), RowError> {
     let alloc = rt.alloc();
     let mut trial = Trial::new(alloc);
-    let mut made = made(alloc)?;
+    let mut made = make_service(alloc)?;
     let ready = made.service.poll_ready(&mut made.socket);
     trial.shows("at first", ready, "Ok(Ready(Ok(())))");
     let mut desk = PlainDesk::new(alloc);

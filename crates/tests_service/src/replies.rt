@@ -1,5 +1,5 @@
 // What is written for replies, and for params that are none of their method's.
-use crate::made::made;
+use crate::made::make_service;
 use crate::served::{frames, served};
 use lsp_rows::{RowError, Trial};
 
@@ -135,7 +135,7 @@ fn replies(rt: HostRuntime) -> Result<(), RowError> {
     let alloc = rt.alloc();
     let mut trial = Trial::new(alloc);
     for row in ROWS {
-        let made = made(alloc)?;
+        let made = make_service(alloc)?;
         let expected = frames(alloc, row.written)?;
         let written = served(alloc, made.service, made.socket, row.sent);
         trial.text(row.name, written, &expected);
