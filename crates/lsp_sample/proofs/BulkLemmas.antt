@@ -15,7 +15,8 @@ use Rattle.lsp_stdio.specs.Stdio.{ServedWhole, EndsWith}
 use Rattle.lsp_sample_server.specs.declared.sample.Sample.{Sample}
 use Rattle.lsp_sample.specs.declared.arguments.MadeUp.{MadeUp}
 use Rattle.lsp_sample.specs.Arguments.{default_setting}
-use Rattle.lsp_sample.specs.Run.{IsSampleService, ServedBy}
+use Rattle.lsp_sample_server.specs.Sessions.{IsSampleService}
+use Rattle.lsp_sample.specs.Run.{ServedBy}
 use Rattle.lsp_sample.specs.Bulk.{next_drawn, number_drawn, body_of, bodies, generated, summary, Writes, IsSummary}
 use Rattle.lsp_sample.specs.Tally.{one, counts}
 

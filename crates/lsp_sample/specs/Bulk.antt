@@ -13,7 +13,8 @@ use Rattle.lsp_stdio.specs.Stdio.{ServedWhole}
 use Rattle.lsp_sample_server.specs.declared.sample.Sample.{Sample}
 use Rattle.lsp_sample.specs.declared.arguments.MadeUp.{MadeUp}
 use Rattle.lsp_sample.specs.Arguments.{default_setting}
-use Rattle.lsp_sample.specs.Run.{IsSampleService, HoldsOfSession}
+use Rattle.lsp_sample_server.specs.Sessions.{IsSampleService}
+use Rattle.lsp_sample.specs.Run.{HoldsOfSession}
 
 -- ---- what the editor sends
 

@@ -1,5 +1,5 @@
 -- What the program serves, and what it writes.
-use Rattle.std.specs.Prelude.{◌≡◌, ◌≢◌, ◌≤◌, ◌<◌, ◌⊎◌, ◌-◌, ◌^◌, ⊤, ℕ, false, [], List, length, Option, Some, None, String, IfSome}
+use Rattle.std.specs.Prelude.{◌≡◌, ◌≢◌, ◌≤◌, ◌<◌, ◌⊎◌, ◌-◌, ◌^◌, ⊤, ℕ, false, List, length, Option, Some, None, String, IfSome}
 use Rattle.std.specs.FinMap as map
 use Rattle.std.specs.declared.alloc.Global.{Global}
 use Rattle.lsp_desk.specs.declared.plain.PlainDesk.{PlainDesk}
@@ -21,8 +21,6 @@ use Rattle.lsp_stdio.specs.Stdio.{in_order, EndsWith}
 use Rattle.lsp_talk.specs.Talk.{HasTalked, WroteLine, WroteLinePart}
 use Rattle.lsp_docs.specs.declared.docs.DocsServer.{DocsServer}
 use Rattle.lsp_docs.specs.Docs.{docs_methods}
-use Rattle.lsp_sample_server.specs.declared.sample.Sample.{Sample}
-use Rattle.lsp_sample_server.specs.Sessions.{sample}
 use Rattle.lsp_sample.specs.declared.arguments.Setting.{Setting}
 use Rattle.lsp_sample.specs.declared.arguments.MadeUp.{MadeUp}
 use Rattle.lsp_sample.specs.declared.arguments.Clones.{Clones}
@@ -31,11 +29,6 @@ use Rattle.lsp_sample.specs.declared.arguments.Form.TheVariants.{Serve, Docs, Bu
 use Rattle.lsp_sample.specs.Arguments.{form_asked}
 
 -- ---- what a session begins with
-
--- a new service of the sample
-pub record IsSampleService (service : LspService Sample) : Type 0 where
-  pub server : service.server ≡ sample
-  pub customs : customs_of service.table ≡ []
 
 -- a new service of the document server: no document is open
 pub record IsDocsService (service : LspService DocsServer) : Type 0 where

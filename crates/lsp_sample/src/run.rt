@@ -9,7 +9,8 @@ ghost use Rattle.lsp_server.specs.Served.{call_bytes};
 ghost use Rattle.lsp_stdio.specs.Stdio.{in_order, EndsWith};
 ghost use Rattle.lsp_sample.specs.Arguments.{form_asked, default_setting};
 ghost use Rattle.lsp_sample.specs.Bulk.{EndsBulk};
-ghost use Rattle.lsp_sample.specs.Run.{IsSampleService, IsDocsService, ServedBy, ToldByStatus, EndsTalking, server_setting, bytes_served, WhereServing, WhereDocs, WhereMadeUp, WhereTalking, WhereOther};
+ghost use Rattle.lsp_sample_server.specs.Sessions.{IsSampleService};
+ghost use Rattle.lsp_sample.specs.Run.{IsDocsService, ServedBy, ToldByStatus, EndsTalking, server_setting, bytes_served, WhereServing, WhereDocs, WhereMadeUp, WhereTalking, WhereOther};
 
 use crate::arguments::{DEFAULT, Form, read_arguments};
 use crate::bulk::bulk;

@@ -1,5 +1,5 @@
 -- A service of the sample is served, or none can be made.
-use Rattle.lsp_sample.specs.Run.{IsSampleService}
+use Rattle.lsp_sample_server.specs.Sessions.{IsSampleService}
 use Rattle.lsp_sample.proofs.RunLemmas.{served_by, not_begun, told_nothing}
 use Rattle.lsp_sample.proofs.run.serve.Goals as goal
 
