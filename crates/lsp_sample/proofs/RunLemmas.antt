@@ -1,6 +1,6 @@
 -- What a service is served with, and what the status says.
-use Rattle.std.proofs.Common.{◌≡◌, ◌≤◌, ◌<◌, ◌-◌, ◌^◌, ◌⊎◌, ℕ, List, length, Bool, true, false, inl, inr, refl, subst, arith}
-use Rattle.std.specs.Prelude.{Option, Some, None, IfSome, ⊤}
+use Rattle.std.proofs.Common.{◌≡◌, ◌≤◌, ◌<◌, ◌-◌, ◌^◌, ◌⊎◌, ℕ, List, length, Bool, true, false, inl, inr, refl, sym, subst, arith}
+use Rattle.std.specs.Prelude.{◌≢◌, Option, Some, None, IfSome, ⊤}
 use Rattle.lsp_desk.specs.declared.plain.PlainDesk.{PlainDesk}
 use Rattle.lsp_desk.specs.Meaning.{IsOpening}
 use Rattle.lsp_desk.specs.Plain.{plain_meaning}
@@ -9,22 +9,23 @@ use Rattle.lsp_frame.specs.Codec.{Floats, Refused, default_limits}
 use Rattle.lsp_server.specs.Course as server_course
 use Rattle.lsp_server.specs.Course.{course}
 use Rattle.lsp_server.specs.Served.{CallBytes, call_bytes}
-use Rattle.lsp_server.specs.SourceSink.{CountRose}
+use Rattle.lsp_server.specs.SourceSink.{CountRose, IsFlushed}
 use Rattle.lsp_session.specs.Semantics.{Semantics}
 use Rattle.lsp_stdio.specs.Stdio.{in_order, EndsWith}
 use Rattle.lsp_stdio.proofs.StdioLemmas.{on_some}
 use Rattle.lsp_sample.specs.declared.arguments.Setting.{Setting}
-use Rattle.lsp_sample.specs.Run.{server_setting, HoldsOfSession, NotBegun, ServedBy, ToldByStatus}
+use Rattle.lsp_sample.specs.declared.arguments.Form.{Form}
+use Rattle.lsp_sample.specs.Run.{server_setting, HoldsOfSession, NotBegun, ServedBy, ToldByStatus, bytes_served}
 
 -- ---- the session
 
 module _ {H C T : Type 0} (semantics : Semantics H C T) where
-  -- the setting of a server is that of the session
-  setting_is : (service : H) (d desk : PlainDesk) (m w rounds : ℕ) (l : Limits) (f : Floats) (e : Bool) (setting : Setting)
-      → d ≡ desk → m ≡ setting.max → w ≡ 1024 → rounds ≡ setting.rounds → l ≡ default_limits → f ≡ Refused → e ≡ false
-      → (let s : server_course.Setting H PlainDesk ⊤ = record { service = service; desk = d; max = m; wait = w; rounds = rounds; limits = l; floats = f; empty_params = e; pick = tt } in s) ≡ server_setting service desk setting
-  setting_is service d desk m w rounds l f e setting desk_is max_is wait_is rounds_are limits_are floats_are empty_is =
-      rw (desk_is, max_is, wait_is, rounds_are, limits_are, floats_are, empty_is) refl
+  -- the setting of a server that is new but for the calls and the rounds is that of the session
+  pub setting_is : (service : H) (d desk : PlainDesk) (m w : ℕ) (l : Limits) (f : Floats) (e : Bool) (setting : Setting)
+      → d ≡ desk → m ≡ setting.max → w ≡ 1024 → l ≡ default_limits → f ≡ Refused → e ≡ false
+      → (let s : server_course.Setting H PlainDesk ⊤ = record { service = service; desk = d; max = m; wait = w; rounds = setting.rounds; limits = l; floats = f; empty_params = e; pick = tt } in s) ≡ server_setting service desk setting
+  setting_is service d desk m w l f e setting desk_is max_is wait_is limits_are floats_are empty_is =
+      rw (desk_is, max_is, wait_is, limits_are, floats_are, empty_is) refl
 
   pub ends_as : (s t : server_course.Setting H PlainDesk ⊤) (left : Option (List ℕ)) (call : List ℕ → CallBytes) (n : ℕ) → s ≡ t
       → IfSome left (λ bytes. EndsWith (course semantics plain_meaning in_order s) (call bytes) n)
@@ -65,3 +66,43 @@ told_nothing bytes reads writes taken count = record {
     every : (o : Option (List ℕ)) → IfSome o (λ all. length all < 2 ^ 64 - 1 → ¬ CountRose reads reads → ¬ CountRose writes writes → (6 ≤ 1) ⊎ (6 ≡ 6))
     every None = tt
     every (Some all) = λ few read wrote. inr refl
+
+-- what reads nothing: it wrote a line, or it stopped
+pub told_unread : (reads writes writes_after : ℕ) (taken : Option (List ℕ)) (count : Option ℕ) (taken_after : Option (List ℕ)) (count_after : Option ℕ) (status : ℕ)
+    → (status ≡ 0) ⊎ (status ≡ 4) ⊎ (status ≡ 6) ⊎ (status ≡ 7)
+    → (status ≡ 0 → IsFlushed taken count → IsFlushed taken_after count_after) → (status ≡ 7 → IsFlushed taken count → IsFlushed taken_after count_after)
+    → (status ≡ 4 → CountRose writes writes_after) → (writes < writes_after → status ≡ 4)
+    → ToldByStatus None reads reads writes writes_after taken count taken_after count_after status
+told_unread reads writes writes_after taken count taken_after count_after status known zero seven write write_told = record {
+  flushed = λ four six. flushed known four six;
+  read = λ three. absurd (omega (arith, three, known));
+  write = write;
+  read_told = λ rose. absurd (omega (arith, rose));
+  write_told = write_told;
+  complete = tt;
+}
+  where
+    flushed : (status ≡ 0) ⊎ (status ≡ 4) ⊎ (status ≡ 6) ⊎ (status ≡ 7) → status ≢ 4 → status ≢ 6 → IsFlushed taken count → IsFlushed taken_after count_after
+    flushed (inl is) four six = zero is
+    flushed (inr (inl is)) four six = absurd (four is)
+    flushed (inr (inr (inl is))) four six = absurd (six is)
+    flushed (inr (inr (inr is))) four six = seven is
+
+-- what reads and writes nothing
+pub told_untouched : (reads writes : ℕ) (taken : Option (List ℕ)) (count : Option ℕ) → ToldByStatus None reads reads writes writes taken count taken count 2
+told_untouched reads writes taken count = record {
+  flushed = λ four six is. is;
+  read = λ three. absurd (omega (arith, three));
+  write = λ four. absurd (omega (arith, four));
+  read_told = λ rose. absurd (omega (arith, rose));
+  write_told = λ rose. absurd (omega (arith, rose));
+  complete = tt;
+}
+
+-- ---- the forms
+
+pub at_form : (o : Option Form) (form : Form) (P : Form → Type 0) → o ≡ Some form → P form → IfSome o P
+at_form o form P is p = subst (λ x. IfSome x P) (sym is) p
+
+pub told_at : (o : Option Form) (form : Form) (left : Option (List ℕ)) (P : Option (List ℕ) → Type 0) → o ≡ Some form → P (bytes_served (Some form) left) → P (bytes_served o left)
+told_at o form left P is p = subst (λ x. P (bytes_served x left)) (sym is) p

@@ -18,6 +18,7 @@ use crate::{DocsServer, Sample, Setting};
 use lsp_desk::{ClientSocket, PlainDesk};
 use lsp_docs::docs_service;
 use lsp_program::Status;
+use lsp_rpc::NoMemory;
 use lsp_sample_server::sample_service;
 use lsp_server::{Server, Sink, Source};
 use lsp_service::{LanguageServer, LspService};
@@ -102,7 +103,7 @@ pub(crate) fn serve<I: Source, O: Sink>(
         (O.faults sink.old) (O.faults sink.new) (O.taken sink.old) (O.flushed sink.old)
         (O.taken sink.new) (O.flushed sink.new) result }
 {
-    match sample_service(alloc, PlainDesk::new(alloc)) {
+    match sample_service(alloc, new_desk(alloc)) {
         Ok((service, socket)) => serve_service(alloc, setting, source, sink, service, socket),
         Err(_) => Status::NoMemory as u8,
     }
@@ -118,9 +119,9 @@ fn serve_docs<I: Source, O: Sink>(alloc: Global, source: &mut I, sink: &mut O) -
         (O.faults sink.old) (O.faults sink.new) (O.taken sink.old) (O.flushed sink.old)
         (O.taken sink.new) (O.flushed sink.new) result }
 {
-    match docs_service(alloc, PlainDesk::new(alloc)) {
+    match docs_service(alloc, new_desk(alloc)) {
         Ok((service, socket)) => serve_service(alloc, DEFAULT, source, sink, service, socket),
-        Err(_) => Status::NoMemory as u8,
+        Err(NoMemory) => Status::NoMemory as u8,
     }
 }
 
@@ -146,4 +147,11 @@ fn serve_service<I: Source, O: Sink, S: LanguageServer<PlainDesk>>(
 {
     let server = Server::new(socket).concurrency_level(setting.max);
     lsp_service::serve(alloc, source, sink, service, server, setting.rounds)
+}
+
+// A desk of one's own.
+pub(crate) fn new_desk(alloc: Global) -> PlainDesk
+    ensures { IsOpening plain_meaning result }
+{
+    PlainDesk::new(alloc)
 }

@@ -6,6 +6,7 @@ ghost use Rattle.lsp_server.specs.ServerView.{server_desk};
 
 use crate::documents::DOCUMENTS;
 use crate::round_trips::nested;
+use crate::run::new_desk;
 use crate::sessions::{ASKS, EXIT, INITIALIZE, INITIALIZED, Row, SESSIONS, SHUT_DOWN, SHUTDOWN};
 use crate::{Sample, run};
 use lsp_desk::PlainDesk;
@@ -511,7 +512,7 @@ const LIMITED: &[Limited] = &[
 pub(crate) fn sample(alloc: Global) -> Result<(LspService<Sample>, Server<PlainDesk>), Fail>
     ensures { IfOk result (λ made. IsOpening plain_meaning (server_desk made.1)) }
 {
-    match sample_service(alloc, PlainDesk::new(alloc)) {
+    match sample_service(alloc, new_desk(alloc)) {
         Ok((service, socket)) => Ok((service, Server::new(socket))),
         Err(_) => Err(Fail::new("out of memory")),
     }
