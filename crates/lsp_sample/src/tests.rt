@@ -285,7 +285,7 @@ fn each_read_fails(rt: HostRuntime) -> Result<(), Fail> {
             same("the length", written.len(), *length)?;
             same(
                 "it begins the answers",
-                want.starts_with(written.as_slice()),
+                want.as_slice().starts_with(written.as_slice()),
                 true,
             )?;
         }
@@ -302,7 +302,7 @@ fn each_write_fails(rt: HostRuntime) -> Result<(), Fail> {
         let (status, written) = stopped_by(&rt, alloc, WHOLE, 10, 0, call)?;
         same(
             "it begins the answers",
-            want.starts_with(written.as_slice()),
+            want.as_slice().starts_with(written.as_slice()),
             true,
         )?;
         if status != 4 {
