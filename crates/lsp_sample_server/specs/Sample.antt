@@ -24,7 +24,7 @@ use Rattle.lsp_service.specs.Data.{MethodCall, typed, custom, MethodReply, answe
 use Rattle.lsp_service.specs.Server.{Start, Now, ServerSemantics}
 use Rattle.lsp_sample_server.specs.declared.command.Command.{Command}
 use Rattle.lsp_sample_server.specs.declared.command.Command.TheVariants.{Echo, Wait, Ask, Unknown}
-use Rattle.lsp_sample_server.specs.declared.execute.SampleTask.{SampleTask}
+use Rattle.lsp_sample_server.specs.declared.task.SampleTask.{SampleTask}
 use Rattle.lsp_sample_server.specs.declared.sample.Sample.{Sample}
 use Rattle.lsp_sample_server.specs.Command.{command_in, argument_in}
 use Rattle.lsp_sample_server.specs.Execute.{TaskData, ended, ended_with, Executes, GoesOn}

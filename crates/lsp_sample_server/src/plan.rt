@@ -25,7 +25,7 @@ pub(crate) enum Plan {
 }
 
 // What is to be done of a call: it asks nothing of the client yet.
-pub(crate) fn plan(alloc: Global, call: Call) -> Result<Plan, NoMemory>
+pub(crate) fn plan_of(alloc: Global, call: Call) -> Result<Plan, NoMemory>
     ensures { IfOk result (λ plan. show_plan plan ≡ sample_turn (show_call call)) }
 {
     match call {
