@@ -2,7 +2,7 @@
 use Rattle.std.proofs.Common.{◌≡◌, ◌<◌, ◌≤◌, ℕ, List, [], ◌∷◌, ◌++◌, length, map, refl, sym, ap, ◌∙◌, arith}
 use Rattle.std.specs.Prelude.{Option, Some, None, IsSome}
 use Rattle.std.specs.Option.{option_map}
-use Rattle.std.specs.List.{option_to_list}
+use Rattle.std.specs.Option.{option_to_list}
 use Rattle.serde_json.specs.declared.value.Value.{Value}
 use Rattle.lsp_shape.specs.Plain.{present, maybe_of, parts_of}
 use Rattle.lsp_shape.specs.Shown.{show_value}
