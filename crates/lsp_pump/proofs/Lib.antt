@@ -4,5 +4,6 @@ pub mod StepsLemmas
 pub mod SessionLemmas
 pub mod ReadingLemmas
 pub mod PumpedLemmas
+pub mod CausesLemmas
 pub mod HandedBack
 pub mod Crossing

@@ -24,6 +24,7 @@ use Rattle.lsp_server.proofs.RanLemmas.{ran_none, ran_more, part_after, part_non
 use Rattle.lsp_pump.specs.Spaced.{unticked, EndsInTick, through_exit}
 use Rattle.lsp_pump.specs.Steps.{StepsMade, StepsBegun, StepsAnswered}
 use Rattle.lsp_pump.specs.declared.job.Ended.{Ended}
+use Rattle.lsp_pump.specs.declared.job.Ended.TheVariants.{Exit, End, Failed, Spent, Full, NoMemory as Short}
 use Rattle.lsp_pump.specs.Reading.{KeepsAllBytes, TellsAll, HasRead}
 use Rattle.lsp_pump.specs.Pumped.{IsPumpedList, RanPumped, PumpedEnough, PumpedTold, PumpedPart, PumpsOver}
 use Rattle.lsp_pump.proofs.SpacedLemmas.{unticked-append, unticked_admitted, through-open, through-none, through-more, through_admitted, through_same, served_through, served_ends}
@@ -251,3 +252,21 @@ module _ {S D : Type 0} (course : Course S D) (taken : Option (List ℕ)) (codec
       (some_at left1 (λ c. ServesOn (record { step = course.step; meaning = course.meaning; find = find2; codec = settings; start = d.state; desk = d.desk }) codec1 (call_bytes c left2 d.taken taken2) last desk e) rest.0 rest.1 on) in
       went_on course taken codec has.there has.read given has.tells bytes rest.0 rest.2 d p settings find2 same left2 taken2 last desk
       (λ xs more. consumes_more (Some bytes) left1 left2 has.read xs gives (subst (λ l. Consumes l left2 xs) (sym rest.1) more)) e serves
+
+  -- memory was short, and bytes that were read are lost
+  pub pumped_lost : (d : Place S D) → StepsMade course.step course.meaning course.find at_start given false d → (left2 taken2 : Option (List ℕ)) (last : S) (desk : D) (e : Option ServeError) → e ≡ Some NoMemory → desk ≡ d.desk → taken2 ≡ d.taken
+      → PumpsOver course codec (call_bytes bytes left2 taken taken2) last desk e
+  pumped_lost d p left2 taken2 last desk e e_is desk_is taken_is =
+      let rest = what_is_left bytes left1 (has.read ++ has.lost) has_given in
+      let part = begun_part course taken codec has.there has.read given has.tells bytes (has.lost ++ rest.0) (rest.2 ∙ append_assoc has.read has.lost rest.0) left2 d.desk d.taken (made_begun course.find at_start d given false p) in
+      let here = subst (λ t. PumpedPart course (coming codec bytes) (call_bytes bytes left2 taken t) desk) (sym taken_is) (subst (λ k. PumpedPart course (coming codec bytes) (call_bytes bytes left2 taken d.taken) k) (sym desk_is) part) in
+      subst (λ k. PumpsOver course codec (call_bytes bytes left2 taken taken2) last desk k) (sym e_is) (record { ok = tt; enough = tt; exact = λ between. absurd between; part = here })
+
+-- either all bytes were kept, or memory was short
+pub keeps_or_not : (ended : Ended) → KeepsAllBytes ended ⊎ (ended ≡ Short)
+keeps_or_not Exit = inl tt
+keeps_or_not End = inl tt
+keeps_or_not Failed = inl tt
+keeps_or_not Spent = inl tt
+keeps_or_not Short = inr refl
+keeps_or_not Full = inl tt

@@ -8,6 +8,3 @@ mod signal;
 mod steps;
 
 pub use pumping::pump;
-
-#[cfg(test)]
-mod tests;

@@ -14,7 +14,7 @@ ghost use Rattle.lsp_server.specs.ServesOn.{ServesOn};
 ghost use Rattle.lsp_server.specs.ServerView.{standing, IsReady};
 ghost use Rattle.lsp_pump.specs.Pieces.{piece_items, all_items, back_items, AreFloatFree};
 ghost use Rattle.lsp_pump.specs.Steps.{StepsMade, StepsBegun, MayGoOn, StandsAfter, FailsInStep};
-ghost use Rattle.lsp_pump.specs.Reading.{KeepsAllBytes};
+ghost use Rattle.lsp_pump.specs.Reading.{KeepsAllBytes, LeavesReads};
 
 use crate::job::Ended;
 use crate::pieces::Pieces;
@@ -204,6 +204,7 @@ pub(crate) fn finish<I: Source, O: Sink, D: Desk + Drop, H: Handlers<D>, P: Pick
         × (source.new ≡ source.old) × (sink.new ≡ sink.old) }
     ensures within { WithinReads reads 4096 (I.left source.old) (I.left source.new) None None
         (result_err result) }
+    ensures left { IfErr result (λ e. e ≡ ServeError.ReadsSpent → LeavesReads ended) }
 {
     match ended {
         Ended::End => serve_end(alloc, room, codec, sink, session, pick, rounds),

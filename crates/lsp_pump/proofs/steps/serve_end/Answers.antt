@@ -42,7 +42,7 @@ returns-in_err-serve_item-in-Some-clause-serves g c =
     let part : RanPart (Step sem order c.args.rounds) m a (served (sem.find view.state.service) (all_admitted (items_at c.args.codec.now))) (desk_of c.serve_item.new.session) taken =
     subst (λ (l : List ItemData). RanPart (Step sem order c.args.rounds) m a (served (sem.find view.state.service) l) (desk_of c.serve_item.new.session) taken) only
     (part_more (fault c.code.result ∷ []) (tick ∷ []) c.in_err-serve_item-in-Some.ensures.part) in
-    let failed : Result (Unit {0}) ServeError = Err c.in_err-serve_item-in-Some.field-0 in
+    let failed : Result (Unit {0}) ServeError = Err c.in_err-serve_item-in-Some.field-0.0 in
     let all = ends_on way c.args.codec.now (g.O.Sink.taken c.args.sink.now) taken last (desk_of c.serve_item.new.session) failed tt part c.in_err-serve_item-in-Some.ensures.others in
     search rules
 
