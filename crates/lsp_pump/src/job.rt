@@ -55,7 +55,7 @@ pub(crate) struct ReadEnd<I> {
     pub(crate) sender: Sender,
     /// The piece that the full ring did not take.
     pub(crate) back: Option<Vec<Item>>,
-    /// How many reads gave bytes.
+    /// How many reads were made.
     pub(crate) made: u64,
     pub(crate) ended: Ended,
 }
@@ -85,6 +85,7 @@ fn begun<I: Source>(reading: Reading<I>) -> ReadEnd<I>
     requires fresh { sent reading.sender ≡ [] }
     requires told { told_at reading.codec ≡ [] }
     ensures begun { HasBegun I.left I.faults reading result }
+    ensures none { result.made ≡ 0 }
     ensures reading { (reads : ℕ) → IsReadingOf I.left I.faults reading reads result }
 {
     let Reading {
@@ -114,10 +115,10 @@ fn read_all<I: Source>(
 {
     let mut end = begun(reading);
     for _ in 0..reads {
+        end.made += 1;
         match read_piece(alloc, &mut end.source, &mut end.codec) {
             Ok(piece) => {
                 let exits = names_exit(&piece);
-                end.made += 1;
                 end.back = send(&mut end.sender, piece, signal);
                 if end.back.is_some() {
                     end.ended = Ended::Full;
@@ -129,9 +130,6 @@ fn read_all<I: Source>(
                 }
             }
             Err(ended) => {
-                if ended == Ended::NoMemory {
-                    end.made += 1;
-                }
                 end.ended = ended;
                 return end;
             }
@@ -172,11 +170,7 @@ fn read_piece<I: Source>(
 }
 
 // Feeds the bytes to the codec, and gives all items that it tells.
-fn feed(
-    alloc: Global,
-    codec: &mut LanguageServerCodec,
-    bytes: &[u8],
-) -> Result<Vec<Item>, NoMemory>
+fn feed(alloc: Global, codec: &mut LanguageServerCodec, bytes: &[u8]) -> Result<Vec<Item>, NoMemory>
     ensures told { IfOk result (λ piece. TellsAll (more codec.old bytes.now) (piece_items piece)
         codec.new) }
     ensures float_free { IfOk result (λ piece. AreFloatFree (piece_items piece)) }

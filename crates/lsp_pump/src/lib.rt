@@ -3,11 +3,11 @@
 
 mod job;
 mod pieces;
-mod pump;
+mod pumping;
 mod signal;
 mod steps;
 
-pub use pump::pump;
+pub use pumping::pump;
 
 #[cfg(test)]
 mod tests;

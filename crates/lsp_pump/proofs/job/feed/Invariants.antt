@@ -7,7 +7,7 @@ use Rattle.lsp_pump.proofs.job.feed.Given as goal
 
 abbrev pub invariant-items : goal.invariant-items
 invariant-items l = record {
-  given : (found : List CodecItem) × (piece_items l.piece ≡ all_admitted found) × Decodes (more l.fn.codec l.fn.bytes.now) found l.codec;
+  given : (found : List CodecItem) × (piece_items l.piece ≡ all_admitted found) × Decodes (more l.fn.codec l.fn.bytes) found l.codec;
   free : AreFloatFree (piece_items l.piece);
 }
 
