@@ -1,7 +1,7 @@
 """Builds a program that no crate of the repository has, into bench/out.
 
 It is made in a temporary folder, beside copies of the crates that it stands on, and built with `rt run`,
-which proves them.
+which proves those that this checkout hasn't built as they stand.
 """
 import os
 import shutil
@@ -17,7 +17,7 @@ def copy_crates(folder, crates):
     """Copies the crates, and what crates.txt says of them."""
     shutil.copy(os.path.join(ROOT, "HANDLES"), folder)
     for name in crates:
-        for part in ("src", "specs", "proofs"):
+        for part in ("src", "specs", "proofs", "out/rlib"):
             path = os.path.join("crates", name, part)
             if os.path.exists(os.path.join(ROOT, path)):
                 shutil.copytree(os.path.join(ROOT, path), os.path.join(folder, path))

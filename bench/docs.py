@@ -2,8 +2,8 @@
 """Measures changes of one character in an open document of lsp_documents.
 
 --build makes a small program over the crate, bench/out/docs_bench. It opens a document with the text that comes on
-standard input, and types so many letters, one change each, from a line and a character on. What a change takes is
-what the run takes longer than one with no change.
+standard input, and types so many letters, one change each, from a line and a character on, so many of them in each
+notification. What a change takes is what the run takes longer than one with no change.
 
 Usage: bench/docs.py [PROGRAM [PROGRAM]]
        bench/docs.py --build     (`rt` has to be on the path)
@@ -21,6 +21,7 @@ SOURCE = """//! Types letters into an open document, one change each.
 
 use lsp_base::{Position, Range, TextDocumentContentChangeEvent};
 use lsp_documents::Documents;
+use std::alloc::Global;
 use std::io::Read;
 use std::process::ExitCode;
 use std::{env, io};
@@ -33,6 +34,20 @@ fn number(arguments: &Vec<String>, i: usize) -> u32 {
     }
 }
 
+// So many letters that are typed from a position on, one change each.
+fn letters(alloc: Global, from: Position, count: u32) -> io::Result<Vec<TextDocumentContentChangeEvent>> {
+    let mut changes = Vec::new(alloc);
+    for k in 0..count {
+        let position = Position::new(from.line, from.character.saturating_add(k));
+        changes.push(TextDocumentContentChangeEvent {
+            range: Some(Range::new(position, position)),
+            range_length: None,
+            text: String::from_str(alloc, "x")?,
+        })?;
+    }
+    Ok(changes)
+}
+
 fn run(rt: &HostRuntime) -> io::Result<bool> {
     let alloc = rt.alloc();
     let mut arguments = Vec::new(alloc);
@@ -41,17 +56,14 @@ fn run(rt: &HostRuntime) -> io::Result<bool> {
     }
     let line = number(&arguments, 0);
     let character = number(&arguments, 1);
+    let together = number(&arguments, 3).max(1);
     let text = io::read_to_string(alloc, rt.stdin())?;
     let mut documents = Documents::new(alloc);
     let mut all_made = documents.open("file:///a", 0, text).is_ok();
-    for k in 0..number(&arguments, 2) {
-        let position = Position::new(line, character.saturating_add(k));
-        let change = [TextDocumentContentChangeEvent {
-            range: Some(Range::new(position, position)),
-            range_length: None,
-            text: String::from_str(alloc, "x")?,
-        }];
-        all_made = all_made && documents.change("file:///a", 1, &change).is_ok();
+    for k in 0..number(&arguments, 2) / together {
+        let from = Position::new(line, character.saturating_add(k.saturating_mul(together)));
+        let changes = letters(alloc, from, together)?;
+        all_made = all_made && documents.change("file:///a", 1, changes.as_slice()).is_ok();
     }
     Ok(all_made)
 }
@@ -71,27 +83,31 @@ def lines(size):
     return LINE * (size // len(LINE))
 
 
-def rows_of(title, text, line, character, changes):
+def rows_of(title, text, line, character, changes, together=1):
     """The rows of a text and a place."""
     def time(program, path):
         words = [program, str(line), str(character)]
-        return [(measured.spent(words + [str(changes)], path)[0] - measured.spent(words + ["0"], path)[0])
-                * 1e6 / changes]
+        seconds = (measured.spent(words + [str(changes), str(together)], path)[0]
+                   - measured.spent(words + ["0"], path)[0])
+        return [seconds * 1e6 / changes, changes / seconds]
 
     def memory(program, path):
-        return [measured.most_memory([program, str(line), str(character), "10"], path)]
+        return [measured.most_memory([program, str(line), str(character), str(10 * together), str(together)], path)]
     write = lambda file: file.write(text())
-    yield Row("docs/time", "docs_bench", [Figure(title, "us a change")], time, [write])
+    figures = [Figure(title, "us a change"), Figure(title, "changes a second", max)]
+    yield Row("docs/time", "docs_bench", figures, time, [write])
     yield Row("docs/memory", "docs_bench", [Figure(title, "peak KiB", max)], memory, [write], 1)
 
 
-def rows(_):
-    for size, changes in ((10_000, 10_000), (1_000_000, 10_000), (10_000_000, 500)):
+def rows(sizes):
+    for size in sizes.or_else(10_000, 1_000_000, 10_000_000):
         count = size // len(LINE)
         for place, line in (("start", 0), ("middle", count // 2), ("end", count)):
-            yield from rows_of("{:,} bytes, {}".format(size, place), lambda size=size: lines(size), line, 0, changes)
-    yield from rows_of("10,000,000 bytes in one line, end", lambda: b"a" * 10_000_000, 0, 10_000_000, 50)
-    yield from rows_of("10,000,000 empty lines, end", lambda: b"\n" * 10_000_000, 10_000_000, 0, 50)
+            yield from rows_of("{:,} bytes, {}".format(size, place), lambda size=size: lines(size), line, 0, 10_000)
+        yield from rows_of("{:,} bytes, middle, 100 changes a notification".format(size),
+                           lambda size=size: lines(size), count // 2, 0, 10_000, 100)
+    yield from rows_of("10,000,000 bytes in one line, end", lambda: b"a" * 10_000_000, 0, 10_000_000, 500)
+    yield from rows_of("10,000,000 empty lines, end", lambda: b"\n" * 10_000_000, 10_000_000, 0, 500)
 
 
 if __name__ == "__main__":

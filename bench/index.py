@@ -2,21 +2,70 @@
 """Measures queries over an index of a program, and compares the answers with those of a plain script.
 
 The dumps have documents with ranges, result sets, chains of edges `next` that are 1,000 long, and items that
-lead to 1,000 ranges. A row tells lines a second and the most memory that was held, and beside it the same of
-this script's own plain queries, which read with json and look up in dicts. `--compare` makes random dumps, in
-which ids are repeated, missing, numbers or texts, and edges lead in circles, and asks both. With `--large` all
-queries are over one dump of 10,000 entries.
+lead to 1,000 ranges. A row tells what a line takes of a processor and the most memory that was held; beside it
+what reading and decoding each line takes alone, by a small program that lets each entry go (`--build` makes it,
+bench/out/entries_bench), and the same by this script's own plain queries, which read with json and look up in
+dicts. `--instructions` counts by callgrind what a line takes, in place of time. `--compare` makes random dumps,
+in which ids are repeated, missing, numbers or texts, and edges lead in circles, and asks both. With `--large`
+all queries are over one dump of 10,000 entries.
 
 Usage: bench/index.py PROGRAM [LINES..]             rows; lines are 10000 100000 1000000 unless given
+       bench/index.py --instructions PROGRAM [LINES..]
        bench/index.py --compare [--large] PROGRAM [QUERIES [SEED]]
        bench/index.py --plain WORDS.. <DUMP          the plain script alone
+       bench/index.py --build                        (`rt` has to be on the path)
 """
+import contextlib
 import json
 import os
 import random
 import subprocess
 import sys
 import tempfile
+
+import built
+from instructions import counted
+from measured import ROOT, most_memory, spent
+
+# ---- A program that reads entries, and does nothing with them.
+
+ALONE = os.path.join(ROOT, "bench", "out", "entries_bench")
+CRATES = ["no_memory", "lsp_rpc", "lsp_shape", "lsp_uri", "lsp_kinds", "lsp_names", "lsp_base",
+          "lsp_lang_goto", "lsp_tokens", "lsp_lsif"]
+SOURCE = """//! Reads each line of standard input as an entry of an index, lets it go, and counts those that are read.
+#![tactic(auto)]
+
+use lsp_lsif::Entry;
+use lsp_shape::{Wire, read_text};
+use std::alloc::Global;
+use std::io;
+use std::process::ExitCode;
+
+fn is_read<T: Wire>(alloc: Global, line: &str) -> bool {
+    read_text::<T>(alloc, line).is_ok()
+}
+
+fn count(rt: &HostRuntime) -> io::Result<u64> {
+    let mut count: u64 = 0;
+    for line in rt.lines(rt.alloc()) {
+        if is_read::<Entry>(rt.alloc(), line?.as_str()) {
+            count = count.saturating_add(1);
+        }
+    }
+    Ok(count)
+}
+
+fn main(rt: HostRuntime) -> ExitCode {
+    let Ok(count) = count(&rt) else {
+        return ExitCode::from(1);
+    };
+    match println!(rt; "{count}") {
+        Ok(()) => ExitCode::from(0),
+        Err(_) => ExitCode::from(1),
+    }
+}
+"""
+
 
 # ---- The plain queries, by lists and dicts.
 
@@ -230,32 +279,66 @@ def any_dump(draw, lines, spread=3):
 # ---- What is told.
 
 
-def measured(command, dump):
-    """The processor's seconds and the KiB of a run, its status, and what it printed."""
-    with open(dump, "rb") as source, tempfile.NamedTemporaryFile("r") as told:
-        run = subprocess.run(["/usr/bin/time", "-o", told.name, "-f", "%U %S %M"] + command, stdin=source, stdout=subprocess.PIPE)
-        user, system, kib = told.read().split()[-3:]
-        return float(user) + float(system), int(kib), run.returncode, run.stdout
+@contextlib.contextmanager
+def big_dump(size):
+    """The path of a dump of about so many lines, how many these are, and the words of a query but the first."""
+    with tempfile.NamedTemporaryFile("w", suffix=".lsif") as file:
+        documents = big(file, size)
+        file.flush()
+        with open(file.name) as dump:
+            lines = sum(1 for _ in dump)
+        last = documents // 3 * 3 if documents % 3 else documents - 3
+        yield file.name, lines, ["file:///src/module_%d.rs" % last, "500", "6"]
+
+
+def seconds(command, dump, lines):
+    """The processor's seconds of the dump's lines, and what was printed: the least of runs that are more where the
+    dump is short, without what a run over nothing takes."""
+    runs = [spent(command, dump, subprocess.PIPE) for _ in range(max(5, min(40, 500_000 // lines)))]
+    nothing = min(spent(command)[0] for _ in range(20))
+    return min(run[0] for run in runs) - nothing, runs[0][1]
+
+
+def alone(dump, lines):
+    """What reading and decoding the lines takes alone, or none where the program isn't built."""
+    if not os.path.isfile(ALONE):
+        return None
+    took, count = seconds([ALONE], dump, lines)
+    if int(count) != lines:
+        sys.exit("%s of %d lines are read" % (count.decode().strip(), lines))
+    return took
 
 
 def rows(program, sizes):
     for size in sizes:
-        with tempfile.NamedTemporaryFile("w", suffix=".lsif", delete=False) as file:
-            documents = big(file, size)
-        bytes_in = os.path.getsize(file.name)
-        with open(file.name) as dump:
-            lines = sum(1 for _ in dump)
-        for request in ("definition", "references", "hover"):
-            words = [request, "file:///src/module_%d.rs" % (documents // 3 * 3 if documents % 3 else documents - 3), "500", "6"]
-            told = [measured([program] + words, file.name) for _ in range(3)]
-            plain = measured([sys.executable, __file__, "--plain"] + words, file.name)
-            seconds, kib = max(0.005, min(each[0] for each in told)), max(each[1] for each in told)
-            same_answer = told[0][3] == plain[3] and told[0][2] == 0
-            print("%s of %d lines, %.1f MB: %.0f lines a second, %.1f MB a second, %d KiB (%.2f of the dump); "
-                  "plain %.0f lines a second, %d KiB; answers %s"
-                  % (request, lines, bytes_in / 1e6, lines / seconds, bytes_in / 1e6 / seconds, kib, kib * 1024 / bytes_in,
-                     lines / plain[0], plain[1], "agree" if same_answer else "DIFFER"), flush=True)
-        os.unlink(file.name)
+        with big_dump(size) as (dump, lines, place):
+            bytes_in, decoding = os.path.getsize(dump), alone(dump, lines)
+            if decoding is not None:
+                print("reading and decoding %d lines, %.1f MB, alone: %.3f us a line" % (lines, bytes_in / 1e6, decoding * 1e6 / lines),
+                      flush=True)
+            for request in ("definition", "references", "hover"):
+                took, answer = seconds([program, request, *place], dump, lines)
+                kib = most_memory([program, request, *place], dump)
+                command = [sys.executable, __file__, "--plain", request, *place]
+                plain, wanted = spent(command, dump, subprocess.PIPE)
+                print("%s of %d lines, %.1f MB: %.3f us a line, %s times reading and decoding alone, %.0f lines a second, "
+                      "%d KiB (%.2f of the dump); plain %.0f lines a second, %d KiB; answers %s"
+                      % (request, lines, bytes_in / 1e6, took * 1e6 / lines, "%.2f" % (took / decoding) if decoding else "?",
+                         lines / took, kib, kib * 1024 / bytes_in, lines / plain, most_memory(command, dump),
+                         "agree" if answer == wanted else "DIFFER"), flush=True)
+
+
+def instructions(program, sizes):
+    """What a line takes at each size: what all lines take, without what a run over nothing does, shared out."""
+    for size in sizes:
+        with big_dump(size) as (dump, lines, place):
+            told = []
+            for request in ("definition", "references", "hover"):
+                words = [program, request, *place]
+                told.append("%s %.0f" % (request, (counted(words, dump) - counted(words, os.devnull)) / lines))
+            if os.path.isfile(ALONE):
+                told.append("reading and decoding alone %.0f" % ((counted([ALONE], dump) - counted([ALONE], os.devnull)) / lines))
+            print("instructions a line, of %d lines: %s" % (lines, ", ".join(told)), flush=True)
 
 
 def compare_large(program, queries, seed):
@@ -303,8 +386,12 @@ def main(words):
         way = compare_large if words[1:2] == ["--large"] else compare
         words = [word for word in words if word != "--large"]
         sys.exit(way(words[1], int((words[2:3] or ["2000"])[0]), int((words[3:4] or ["1"])[0])) != 0)
+    elif words == ["--build"]:
+        built.build("entries_bench", CRATES, ["lsp_lsif", "lsp_shape"], SOURCE)
     elif words:
-        rows(words[0], [int(each) for each in words[1:]] or [10_000, 100_000, 1_000_000])
+        way = instructions if words[0] == "--instructions" else rows
+        words = [word for word in words if word != "--instructions"]
+        way(words[0], [int(each) for each in words[1:]] or [10_000, 100_000, 1_000_000])
     else:
         sys.exit(__doc__)
 

@@ -32,9 +32,9 @@ MESSAGES = {
 }
 
 
-def counted(program, path):
+def counted(command, path):
     """The instructions of one run on the file's bytes."""
-    words = ["valgrind", "--tool=callgrind", "--callgrind-out-file=/dev/null", program]
+    words = ["valgrind", "--tool=callgrind", "--callgrind-out-file=/dev/null", *command]
     with open(path, "rb") as given:
         done = subprocess.run(words, stdin=given, stdout=subprocess.DEVNULL, stderr=subprocess.PIPE, text=True,
                               env=dict(os.environ, GLIBC_TUNABLES=TUNABLES))
@@ -50,7 +50,7 @@ def row(name):
     inputs = [sessions.session(body, length, sessions.SHUTDOWN, sessions.EXIT) for length in lengths]
 
     def run(program, short, long):
-        return [(counted(program, long) - counted(program, short)) / (many - few)]
+        return [(counted([program], long) - counted([program], short)) / (many - few)]
     return Row("instructions/" + name, "lsp_sample", [Figure(label, "instructions")], run, inputs, 1, "valgrind")
 
 

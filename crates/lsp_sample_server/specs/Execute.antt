@@ -19,20 +19,12 @@ use Rattle.lsp_service.specs.Server.{Start, Now, Later}
 use Rattle.lsp_sample_server.specs.declared.command.Command.{Command}
 use Rattle.lsp_sample_server.specs.declared.command.Command.TheVariants.{Echo, Wait, Ask, Unknown}
 use Rattle.lsp_sample_server.specs.Command.{command_in, argument_in}
-
--- what a command goes on with: for so many polls more, of so many; or the ticket of what it asked
-pub data LeftData : Type 0 where
-  waiting : ℕ → ℕ → LeftData
-  asking : ℕ → LeftData
+use Rattle.lsp_sample_server.specs.Left.{LeftData, waiting, asking, command_left}
 
 -- a command that goes on, with its params as they were read
 pub record TaskData : Type 0 where
   pub params : Plain
   pub left : LeftData
-
-abbrev pub command_left : LeftData → Command
-command_left (waiting left polls) = Wait polls
-command_left (asking n) = Ask
 
 -- ---- replies
 

@@ -1,4 +1,5 @@
 pub mod Command
+pub mod Left
 pub mod Execute
 pub mod Shown
 pub mod Sample

@@ -24,7 +24,7 @@ use Rattle.lsp_service.specs.Data.{MethodCall, typed, custom, MethodReply, answe
 use Rattle.lsp_service.specs.Server.{Start, Now, ServerSemantics}
 use Rattle.lsp_sample_server.specs.declared.command.Command.{Command}
 use Rattle.lsp_sample_server.specs.declared.command.Command.TheVariants.{Echo, Wait, Ask, Unknown}
-use Rattle.lsp_sample_server.specs.declared.execute.SampleTask.{SampleTask}
+use Rattle.lsp_sample_server.specs.declared.task.SampleTask.{SampleTask}
 use Rattle.lsp_sample_server.specs.declared.sample.Sample.{Sample}
 use Rattle.lsp_sample_server.specs.Command.{command_in, argument_in}
 use Rattle.lsp_sample_server.specs.Execute.{TaskData, ended, ended_with, Executes, GoesOn}
@@ -37,9 +37,13 @@ abbrev pub absents : ℕ → Parts
 absents zero = no_parts
 absents (suc n) = part absent (absents n)
 
--- the default `InitializeResult`: none of the 34 capabilities, and no information on the server
+-- none of the 34 capabilities
+abbrev pub no_capabilities_shown : Plain
+no_capabilities_shown = parts (absents 34)
+
+-- the default `InitializeResult`: no capabilities, and no information on the server
 abbrev pub bare_result : Plain
-bare_result = parts (part (parts (absents 34)) (part absent no_parts))
+bare_result = parts (part no_capabilities_shown (part absent no_parts))
 
 -- what the first poll of a call does: it has this reply; it greets the client; or it executes a command with these params
 pub data SampleTurn : Type 0 where

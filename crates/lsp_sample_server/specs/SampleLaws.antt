@@ -18,7 +18,8 @@ use Rattle.lsp_sample_server.specs.declared.command.Command.{Command}
 use Rattle.lsp_sample_server.specs.declared.command.Command.TheVariants.{Echo, Wait, Ask, Unknown}
 use Rattle.lsp_sample_server.specs.declared.sample.Sample.{Sample}
 use Rattle.lsp_sample_server.specs.Command.{command_in}
-use Rattle.lsp_sample_server.specs.Execute.{LeftData, waiting, asking, TaskData, ended, ended_with, waits, Asks, asked_start, PollsAnswer, answered_start, Quietly, Executes, GoesOnLeft, GoesOn, command_left}
+use Rattle.lsp_sample_server.specs.Execute.{TaskData, ended, ended_with, waits, Asks, asked_start, PollsAnswer, answered_start, Quietly, Executes, GoesOnLeft, GoesOn}
+use Rattle.lsp_sample_server.specs.Left.{LeftData, waiting, asking, command_left}
 use Rattle.lsp_sample_server.specs.Sample.{SampleTurn, replies, greets, executes, life_turn, work_turn, sample_turn, Begins, BeginsCall, ResumesTask, MayEnd, MayReply, task_call, sample_semantics}
 
 -- ---- a poll makes no calls of the session

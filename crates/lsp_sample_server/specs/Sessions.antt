@@ -8,7 +8,7 @@ use Rattle.lsp_service.specs.declared.incoming.Incoming.{Incoming}
 use Rattle.lsp_service.specs.declared.service.LspService.{LspService}
 use Rattle.lsp_service.specs.Data.{IncomingCall}
 use Rattle.lsp_service.specs.Service.{KeptTask, service_semantics}
-use Rattle.lsp_sample_server.specs.declared.execute.SampleTask.{SampleTask}
+use Rattle.lsp_sample_server.specs.declared.task.SampleTask.{SampleTask}
 use Rattle.lsp_sample_server.specs.declared.sample.Sample.{Sample}
 use Rattle.lsp_sample_server.specs.Execute.{TaskData}
 use Rattle.lsp_sample_server.specs.Sample.{sample_semantics}

@@ -1,19 +1,13 @@
 -- The plain data that the code's tasks and outcomes stand for.
 use Rattle.lsp_shape.specs.Row.{any, maybe}
 use Rattle.lsp_work.specs.Workspace.{execute_command_params_row}
-use Rattle.lsp_client.specs.Shown.{ticket_number}
 use Rattle.lsp_service.specs.Data.{result_shown}
 use Rattle.lsp_service.specs.Server.{Start, Now, Later}
-use Rattle.lsp_sample_server.specs.declared.execute.Left.{Left}
-use Rattle.lsp_sample_server.specs.declared.execute.Left.TheVariants as lefts
-use Rattle.lsp_sample_server.specs.declared.execute.SampleTask.{SampleTask}
+use Rattle.lsp_sample_server.specs.declared.task.SampleTask.{SampleTask}
 use Rattle.lsp_sample_server.specs.declared.execute.Outcome.{Outcome}
 use Rattle.lsp_sample_server.specs.declared.execute.Outcome.TheVariants as outcomes
-use Rattle.lsp_sample_server.specs.Execute.{LeftData, waiting, asking, TaskData, ended}
-
-abbrev pub show_left : Left → LeftData
-show_left (lefts.Waiting left polls) = waiting left polls
-show_left (lefts.Asking t) = asking (ticket_number t)
+use Rattle.lsp_sample_server.specs.Execute.{TaskData, ended}
+use Rattle.lsp_sample_server.specs.Left.{show_left}
 
 abbrev pub show_task : SampleTask → TaskData
 show_task t = record { params = execute_command_params_row.shown t.params; left = show_left t.left }

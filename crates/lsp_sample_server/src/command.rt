@@ -1,7 +1,7 @@
 // The commands of the server.
 ghost use Rattle.std.specs.Prelude.{◌≡◌, map};
 ghost use Rattle.serde_json.specs.View.{view};
-ghost use Rattle.lsp_shape.specs.Plain.{parts_of};
+ghost use Rattle.lsp_shape.specs.Plain.{no_parts, parts_of};
 ghost use Rattle.lsp_shape.specs.Row.{any, maybe};
 ghost use Rattle.lsp_shape.specs.Shown.{show_value};
 ghost use Rattle.lsp_work.specs.Workspace.{execute_command_params_row};
@@ -48,8 +48,18 @@ fn named(name: &str, arguments: &[Value]) -> Command
     ensures { result ≡ command_of name.now (parts_of (map show_value arguments.now)) }
 {
     match arguments {
-        [] if name == "ask" => Command::Ask,
+        [] => without_argument(name),
         [value] => with_argument(name, value),
+        _ => Command::Unknown,
+    }
+}
+
+// The same without arguments.
+fn without_argument(name: &str) -> Command
+    ensures { result ≡ command_of name.now no_parts }
+{
+    match name {
+        "ask" => Command::Ask,
         _ => Command::Unknown,
     }
 }

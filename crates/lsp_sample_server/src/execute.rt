@@ -7,11 +7,13 @@ ghost use Rattle.lsp_work.specs.Workspace.{execute_command_params_row};
 ghost use Rattle.lsp_desk.specs.Meaning.{PollsOn};
 ghost use Rattle.lsp_session.specs.Fails.{PollFails};
 ghost use Rattle.lsp_client.specs.Methods.{written_by_row};
+ghost use Rattle.lsp_client.specs.Shown.{ticket_number};
 ghost use Rattle.lsp_sample_server.specs.Command.{command_in};
-ghost use Rattle.lsp_sample_server.specs.Execute.{Asks, Executes, GoesOn, PollsAnswer, command_left, waits as waits_lem};
-ghost use Rattle.lsp_sample_server.specs.Shown.{show_left, show_outcome, show_task};
+ghost use Rattle.lsp_sample_server.specs.Execute.{Asks, Executes, GoesOn, PollsAnswer, waits as waits_lem};
+ghost use Rattle.lsp_sample_server.specs.Shown.{show_outcome, show_task};
 
 use crate::command::{Command, echoed, read_command};
+use crate::task::{Left, SampleTask};
 use lsp_base::WorkspaceFolder;
 use lsp_client::{Answered, Asked, Client, Ticket};
 use lsp_desk::{Caller, DeskFault};
@@ -21,24 +23,6 @@ use lsp_shape::Wire;
 use lsp_work::ExecuteCommandParams;
 use serde_json::Value;
 use std::alloc::Global;
-
-/// What a command goes on with.
-#[derive(Drop)]
-pub enum Left {
-    /// A `wait`, for `left` polls more, of `polls`.
-    Waiting { left: u64, polls: u64 },
-    /// An `ask`, until its answer has come.
-    Asking(Ticket<WorkspaceFoldersRequest>),
-}
-
-/// A command that goes on.
-#[derive(Drop)]
-pub struct SampleTask {
-    params: ExecuteCommandParams,
-    left: Left,
-    ghost tied: { command_left (show_left left)
-        ≡ command_in (execute_command_params_row.shown params) },
-}
 
 // What a poll of a command comes to.
 pub(crate) enum Outcome {
@@ -128,8 +112,8 @@ fn answer<D: Caller>(
 ) -> Result<Outcome, DeskFault>
     requires { command_in (execute_command_params_row.shown params) ≡ Command.Ask }
     ensures answered { IfOk result (λ outcome. PollsOn D.meaning client.old client.new
-        (λ asked. PollsAnswer (execute_command_params_row.shown params) ticket.number asked
-        (show_outcome outcome))) }
+        (λ asked. PollsAnswer (execute_command_params_row.shown params) (ticket_number ticket)
+        asked (show_outcome outcome))) }
     ensures failed { IfErr result (λ fault. PollFails D.meaning client.old client.new fault) }
 {
     match client.poll_answer(alloc, ticket)? {

@@ -7,9 +7,10 @@ mod law;
 mod plan;
 mod sample;
 mod service;
+mod task;
 
 pub use command::Command;
-pub use execute::{Left, SampleTask};
 pub use law::sample_is_written_so;
 pub use sample::Sample;
 pub use service::sample_service;
+pub use task::{Left, SampleTask};

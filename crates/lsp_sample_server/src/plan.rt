@@ -1,9 +1,10 @@
 // What is done of a call.
 ghost use Rattle.std.specs.Prelude.{◌≡◌, IfOk};
+ghost use Rattle.lsp_initialize.specs.Server.{server_capabilities_row};
 ghost use Rattle.lsp_service.specs.Calls.{show_call, target_of};
 ghost use Rattle.lsp_service.specs.Replies.{show_reply};
-ghost use Rattle.lsp_sample_server.specs.Sample.{sample_turn, other_reply as other_reply_lem};
 ghost use Rattle.lsp_sample_server.specs.Plan.{show_plan};
+ghost use Rattle.lsp_sample_server.specs.Sample.{no_capabilities_shown, sample_turn, other_reply as other_reply_lem};
 
 use lsp_initialize::ServerCapabilities;
 use lsp_rpc::NoMemory;
@@ -25,12 +26,12 @@ pub(crate) enum Plan {
 }
 
 // What is to be done of a call: it asks nothing of the client yet.
-pub(crate) fn plan(alloc: Global, call: Call) -> Result<Plan, NoMemory>
+pub(crate) fn plan_of(alloc: Global, call: Call) -> Result<Plan, NoMemory>
     ensures { IfOk result (λ plan. show_plan plan ≡ sample_turn (show_call call)) }
 {
     match call {
         Call::Life(LifeCall::Initialize(params)) => {
-            let reply = initialize_reply(alloc, params, ServerCapabilities::default())?;
+            let reply = initialize_reply(alloc, params, no_capabilities())?;
             Ok(Plan::Reply(reply))
         }
         Call::Life(LifeCall::Initialized(_)) => {
@@ -43,6 +44,14 @@ pub(crate) fn plan(alloc: Global, call: Call) -> Result<Plan, NoMemory>
         Call::Work(WorkCall::ExecuteCommand(params)) => Ok(Plan::Execute(params)),
         other => Ok(Plan::Reply(other_reply(alloc, other)?)),
     }
+}
+
+// Nothing is offered.
+#[tactic(auto, unfolding(lsp_initialize::specs::Server::server_capabilities_row, lsp_initialize::specs::Server::server_capabilities_fields))]
+fn no_capabilities() -> ServerCapabilities
+    ensures { server_capabilities_row.shown result ≡ no_capabilities_shown }
+{
+    ServerCapabilities::default()
 }
 
 // A request of another method isn't known, and another notification is taken note of.

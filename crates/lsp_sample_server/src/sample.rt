@@ -4,8 +4,9 @@ ghost use Rattle.lsp_service.specs.Started.{show_started};
 ghost use Rattle.lsp_sample_server.specs.Sample.{sample_semantics};
 ghost use Rattle.lsp_sample_server.specs.Shown.{show_outcome};
 
-use crate::execute::{Outcome, SampleTask, execute, go_on};
-use crate::plan::{Plan, plan};
+use crate::execute::{Outcome, execute, go_on};
+use crate::plan::{Plan, plan_of};
+use crate::task::SampleTask;
 use lsp_client::Client;
 use lsp_desk::{Caller, DeskFault};
 use lsp_kinds::MessageType;
@@ -33,7 +34,7 @@ impl<D: Caller> LanguageServer<D> for Sample {
         call: Call,
         client: &mut D,
     ) -> Result<Started<SampleTask>, DeskFault> {
-        match plan(alloc, call)? {
+        match plan_of(alloc, call)? {
             Plan::Reply(reply) => Ok(Started::Now(reply)),
             Plan::Greet => {
                 client.log_message(alloc, MessageType::INFO, "server initialized!")?;

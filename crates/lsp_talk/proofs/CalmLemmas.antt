@@ -24,7 +24,7 @@ use Rattle.lsp_service.specs.Data.{MethodCall, typed, IncomingCall}
 use Rattle.lsp_service.specs.Server.{Start}
 use Rattle.lsp_service.specs.Service.{KeptTask}
 use Rattle.lsp_service.specs.ServiceLaws.{service_laws}
-use Rattle.lsp_sample_server.specs.declared.execute.SampleTask.{SampleTask}
+use Rattle.lsp_sample_server.specs.declared.task.SampleTask.{SampleTask}
 use Rattle.lsp_sample_server.specs.declared.sample.Sample.{Sample}
 use Rattle.lsp_sample_server.specs.Execute.{TaskData}
 use Rattle.lsp_sample_server.specs.Sample.{sample_semantics, sample_turn, Begins}

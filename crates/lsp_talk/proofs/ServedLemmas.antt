@@ -22,7 +22,7 @@ use Rattle.lsp_callers.specs.Tallies.{tallied_meaning, tallied_view, tallied_des
 use Rattle.lsp_session.specs.declared.table.Kind.{Kind}
 use Rattle.lsp_service.specs.declared.service.LspService.{LspService}
 use Rattle.lsp_service.specs.Service.{service_semantics}
-use Rattle.lsp_sample_server.specs.declared.execute.SampleTask.{SampleTask}
+use Rattle.lsp_sample_server.specs.declared.task.SampleTask.{SampleTask}
 use Rattle.lsp_sample_server.specs.declared.sample.Sample.{Sample}
 use Rattle.lsp_sample_server.specs.Sample.{sample_semantics}
 use Rattle.lsp_sample_server.specs.Sessions.{IsSampleService, in_order, service_of_sample}

@@ -3,7 +3,7 @@ ghost use Rattle.std.specs.Prelude.{◌<◌};
 
 use lsp_index::answer;
 use lsp_rows::{RowError, Trial};
-use lsp_server::{NeverSink, NeverSource};
+use lsp_server::{MemorySink, MemorySource, NeverSink, NeverSource};
 use std::alloc::{AllocError, Global};
 
 // A document of two ranges, of which the second leads over an edge `next` to its definition, which
@@ -250,6 +250,90 @@ fn queries(rt: HostRuntime) -> Result<(), RowError> {
     }
     let no_text = run(alloc, "definition file:///a 1 1", b"\xff\n", 7);
     trial.text("no text", no_text, "8 ");
+    trial.text("the last line is cut", run_cut(alloc), "8 ");
+    trial.end()
+}
+
+// What follows `{"id":9` in the dump, which is all of its last line.
+const LAST: &str = ",\"type\":\"edge\",\"label\":\"contains\",\"outV\":1,\"inVs\":[2,3]}\n";
+
+// The dump without that.
+fn run_cut(alloc: Global) -> Result<String, AllocError> {
+    match DUMP.strip_suffix(LAST) {
+        Some(cut) => run(alloc, "definition file:///a 1 1", cut.as_bytes(), 7),
+        None => String::from_str(alloc, "another last line"),
+    }
+}
+
+// Of these many calls one fails, from the first to the last: the status, and what is written.
+struct Failing {
+    first: u64,
+    last: u64,
+    expected: &'static str,
+}
+
+// The dump comes in seven pieces of 100 bytes, and the eighth read tells its end.
+const READS: &[Failing] = &[
+    Failing {
+        first: 1,
+        last: 8,
+        expected: "3 ",
+    },
+    Failing {
+        first: 9,
+        last: 9,
+        expected: "0 [{\"range\":{\"end\":{\"character\":3,\"line\":0},\"start\":{\"character\":0,\"line\":0}},\"uri\":\"file:///a\"}]\n",
+    },
+];
+
+// Each piece is followed by a flush, and the end by the write of the line and a flush.
+const CALLS: &[Failing] = &[
+    Failing {
+        first: 1,
+        last: 8,
+        expected: "4 ",
+    },
+    Failing {
+        first: 9,
+        last: 9,
+        expected: "4 [{\"range\":{\"end\":{\"character\":3,\"line\":0},\"start\":{\"character\":0,\"line\":0}},\"uri\":\"file:///a\"}]\n",
+    },
+    Failing {
+        first: 10,
+        last: 10,
+        expected: "0 [{\"range\":{\"end\":{\"character\":3,\"line\":0},\"start\":{\"character\":0,\"line\":0}},\"uri\":\"file:///a\"}]\n",
+    },
+];
+
+// The status, and what is written, where the read and the call of the sink of these numbers fail.
+fn run_failing(alloc: Global, read: u64, call: u64) -> Result<String, AllocError> {
+    if read == u64::MAX || call == u64::MAX {
+        return String::from_str(alloc, "no such call");
+    }
+    let words = words_of(alloc, "definition file:///a 1 1")?;
+    let dump = Vec::from_slice(alloc, DUMP.as_bytes())?;
+    let mut source = MemorySource::new(dump, 100, vec![in alloc; read]?);
+    let mut sink = MemorySink::new(alloc, vec![in alloc; call]?);
+    let status = answer(alloc, &words, &mut source, &mut sink);
+    drop(source);
+    shown(alloc, status, sink.bytes())
+}
+
+// Want of memory, status 6, is tried by `.ci/hostile`; no run reaches the last of all reads, status 5.
+#[test]
+fn each_read_write_and_flush_fails(rt: HostRuntime) -> Result<(), RowError> {
+    let alloc = rt.alloc();
+    let mut trial = Trial::new(alloc);
+    for row in READS {
+        for read in row.first..=row.last {
+            trial.text(read, run_failing(alloc, read, 0), row.expected);
+        }
+    }
+    for row in CALLS {
+        for call in row.first..=row.last {
+            trial.text(call, run_failing(alloc, 0, call), row.expected);
+        }
+    }
     trial.end()
 }
 

@@ -12,10 +12,12 @@ use std::str;
 const INITIALIZE: &str =
     "{\"jsonrpc\":\"2.0\",\"method\":\"initialize\",\"params\":{\"capabilities\":{}},\"id\":1}";
 
-const ASK: &str = "{\"jsonrpc\":\"2.0\",\"method\":\"workspace/executeCommand\",\"params\":{\"command\":\"ask\",\"arguments\":[]},\"id\":2}";
+const ASK: &str =
+    "{\"jsonrpc\":\"2.0\",\"method\":\"workspace/executeCommand\",\"params\":{\"command\":\"ask\",\"arguments\":[]},\"id\":2}";
 
 // What is written before the answer.
-const BEGUN: &str = "Content-Length: 53\r\n\r\n{\"jsonrpc\":\"2.0\",\"result\":{\"capabilities\":{}},\"id\":1}Content-Length: 76\r\n\r\n{\"jsonrpc\":\"2.0\",\"method\":\"workspace/workspaceFolders\",\"params\":null,\"id\":0}";
+const BEGUN: &str =
+    "Content-Length: 53\r\n\r\n{\"jsonrpc\":\"2.0\",\"result\":{\"capabilities\":{}},\"id\":1}Content-Length: 76\r\n\r\n{\"jsonrpc\":\"2.0\",\"method\":\"workspace/workspaceFolders\",\"params\":null,\"id\":0}";
 
 // What the client answers, and the frame that the answer to the `ask` is.
 const ANSWERS: [(&str, &str); 4] = [
