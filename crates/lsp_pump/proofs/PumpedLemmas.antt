@@ -1,5 +1,5 @@
 -- What a reading, the steps beside it and what is served after it come to.
-use Rattle.std.proofs.Common.{◌≡◌, ◌≢◌, inl, inr, ℕ, List, [], ◌∷◌, ◌++◌, refl, sym, ◌∙◌, ap, subst, append_assoc, Bool, true, false}
+use Rattle.std.proofs.Common.{◌≡◌, inl, inr, ℕ, List, [], ◌∷◌, ◌++◌, refl, sym, ◌∙◌, ap, subst, append_assoc, true, false}
 use Rattle.std.specs.Prelude.{◌⊎◌, ◌||◌, Option, Some, None, IfSome, IfNone, Result, Ok, Err, IfErr, OnOk, OnErr}
 use Rattle.std.specs.Result.{result_err}
 use Rattle.std.specs.Io.KnownBytes.{Consumes}
@@ -17,18 +17,18 @@ use Rattle.lsp_server.specs.Course.{Course}
 use Rattle.lsp_server.specs.Written.{Place, RanPart}
 use Rattle.lsp_server.specs.Served.{CallBytes, call_bytes, RanFrom}
 use Rattle.lsp_server.specs.ServesOn.{coming, coming_told, ServesOn}
-use Rattle.lsp_server.proofs.CodecLemmas.{more_more, told_now, more_nothing}
-use Rattle.lsp_server.proofs.ItemsLemmas.{has_exit-append, has_exit_same, served_same}
+use Rattle.lsp_server.proofs.CodecLemmas.{more_more, more_nothing}
+use Rattle.lsp_server.proofs.ItemsLemmas.{has_exit-append, has_exit_same}
 use Rattle.lsp_server.proofs.KnownLemmas.{consumes_none, consumes_more, what_is_left, some_at}
 use Rattle.lsp_server.proofs.RanLemmas.{ran_none, ran_more, part_after, part_none, part_whole, grown_none}
 use Rattle.lsp_pump.specs.Spaced.{unticked, EndsInTick, through_exit}
-use Rattle.lsp_pump.specs.Steps.{StepsMade, StepsBegun, StepsAnswered}
+use Rattle.lsp_pump.specs.Steps.{StepsMade, StepsBegun}
 use Rattle.lsp_pump.specs.declared.job.Ended.{Ended}
 use Rattle.lsp_pump.specs.declared.job.Ended.TheVariants.{Exit, End, Failed, Spent, Full, NoMemory as Short}
 use Rattle.lsp_pump.specs.Reading.{KeepsAllBytes, TellsAll, HasRead}
 use Rattle.lsp_pump.specs.Pumped.{IsPumpedList, RanPumped, PumpedEnough, PumpedTold, PumpedPart, PumpsOver}
 use Rattle.lsp_pump.proofs.SpacedLemmas.{unticked-append, unticked_admitted, through-open, through-none, through-more, through_admitted, through_same, served_through, served_ends}
-use Rattle.lsp_pump.proofs.StepsLemmas.{made_longer, made_begun, begun_longer}
+use Rattle.lsp_pump.proofs.StepsLemmas.{made_begun, begun_longer}
 
 -- an error of a step comes between no two reads
 pub never_both : (k : ServeError) → IsInStep k → IsBetweenReads k → ⊥

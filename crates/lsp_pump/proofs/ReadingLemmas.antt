@@ -1,16 +1,16 @@
 -- How a reading goes on, and how it ends.
-use Rattle.std.proofs.Common.{◌≡◌, ◌≢◌, ◌≤◌, ◌<◌, ◌+◌, ◌*◌, ℕ, List, [], ◌++◌, length, refl, sym, ◌∙◌, ap, subst, append_assoc, arith}
+use Rattle.std.proofs.Common.{◌≡◌, ◌≢◌, ◌≤◌, ◌<◌, ◌+◌, ◌*◌, ℕ, List, [], ◌++◌, length, refl, sym, ◌∙◌, ap, subst, arith}
 use Rattle.std.specs.Prelude.{Option, Some, None, IfSome}
 use Rattle.std.specs.Io.KnownBytes.{Consumes}
 use Rattle.std.proofs.lemmas.List.{append-nil, map-append, length-append}
-use Rattle.lsp_frame.specs.Codec.{At, more, items_at, told_at}
+use Rattle.lsp_frame.specs.Codec.{At, more, told_at}
 use Rattle.lsp_session.specs.Item.{ItemData}
 use Rattle.lsp_server.specs.Items.{admitted, all_admitted, Decodes}
 use Rattle.lsp_server.proofs.CodecLemmas.{decodes_nothing, decodes_more, decodes_fed, more_nothing, more_more}
-use Rattle.lsp_server.proofs.KnownLemmas.{consumes_none, consumes_more}
+use Rattle.lsp_server.proofs.KnownLemmas.{consumes_more}
 use Rattle.lsp_server.specs.SourceSink.{CountRose}
 use Rattle.lsp_pump.specs.declared.job.Ended.{Ended}
-use Rattle.lsp_pump.specs.declared.job.Ended.TheVariants.{Exit, End, Failed, Spent, NoMemory, Full}
+use Rattle.lsp_pump.specs.declared.job.Ended.TheVariants.{End, Failed, Spent, Full}
 use Rattle.lsp_pump.specs.Reading.{TellsAll, ReadOnce, ReadEnds, LeavesReads, CountsReads, EndsBy, HasRead}
 
 -- ---- what is told

@@ -1,13 +1,13 @@
 -- One step more of a session.
-use Rattle.std.proofs.Common.{◌≡◌, ℕ, List, [], ◌∷◌, ◌++◌, refl, sym, ◌∙◌, Bool, true, false}
-use Rattle.std.specs.Prelude.{Option, Some, None, is_some, Result, Ok, Err, IfOk, OnErr}
+use Rattle.std.proofs.Common.{◌≡◌, ℕ, List, [], ◌∷◌, ◌++◌, refl, sym, ◌∙◌, Bool, false}
+use Rattle.std.specs.Prelude.{Option, Some, None, is_some}
 use Rattle.lsp_rpc.specs.declared.code.ErrorCode.{ErrorCode}
 use Rattle.lsp_desk.specs.declared.life.Life.{Life}
 use Rattle.lsp_desk.specs.declared.life.Life.TheVariants.{Exited}
 use Rattle.lsp_desk.specs.Meaning.{Meaning}
 use Rattle.lsp_session.specs.Item.{ItemData, fault, tick}
 use Rattle.lsp_session.specs.Semantics.{Semantics, IsLawfulHandlers}
-use Rattle.lsp_session.specs.Run.{Order, Step, is_exit}
+use Rattle.lsp_session.specs.Run.{Order, Step}
 use Rattle.lsp_server.specs.Written.{Ran, RanPart}
 use Rattle.lsp_server.proofs.ItemsLemmas.{run_table}
 use Rattle.lsp_server.proofs.PointLemmas.{Point, find_at}

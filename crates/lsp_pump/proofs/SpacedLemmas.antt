@@ -1,7 +1,6 @@
 -- Lists with ticks between their items, and first exits.
-use Rattle.std.proofs.Common.{◌≡◌, ℕ, List, [], ◌∷◌, ◌++◌, refl, sym, ◌∙◌, ap, append_assoc, Bool, true, false}
+use Rattle.std.proofs.Common.{◌≡◌, ℕ, List, [], ◌∷◌, ◌++◌, refl, ◌∙◌, ap, Bool, true, false}
 use Rattle.std.specs.Prelude.{◌||◌, if◌then◌else◌, Option}
-use Rattle.std.proofs.lemmas.List.{append-nil}
 use Rattle.lsp_frame.specs.Codec.{Item as CodecItem, message as whole, fault as broken, code_of_fault}
 use Rattle.lsp_session.specs.declared.table.Entry.{Entry}
 use Rattle.lsp_session.specs.Item.{ItemData, message, fault, tick}

@@ -1,5 +1,5 @@
 -- Nothing was read, and nothing is on the ring.
-use Rattle.std.proofs.Common.{rules, arith, ◌≡◌, List, [], ◌++◌, refl, sym, ◌∙◌, ap, subst}
+use Rattle.std.proofs.Common.{rules, ◌≡◌, List, [], ◌++◌, refl, sym, ap, subst}
 use Rattle.std.specs.Global.{Vec}
 use Rattle.rtrb.specs.Ring.{sent}
 use Rattle.lsp_frame.specs.Codec.{more}

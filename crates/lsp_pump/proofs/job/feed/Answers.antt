@@ -1,11 +1,10 @@
 -- One item more.
-use Rattle.std.proofs.Common.{rules, arith, refl, ◌≡◌, [], ◌∷◌, ◌++◌, sym, ◌∙◌, ap, subst, length, map}
-use Rattle.std.specs.Prelude.{None}
-use Rattle.std.proofs.lemmas.List.{append-nil, map-append}
-use Rattle.lsp_frame.specs.Codec.{more, told_at}
+use Rattle.std.proofs.Common.{rules, arith, ◌≡◌, [], ◌∷◌, ◌++◌, sym, ◌∙◌, ap, subst, length, map}
+use Rattle.std.proofs.lemmas.List.{map-append}
+use Rattle.lsp_frame.specs.Codec.{more}
 use Rattle.lsp_session.specs.Item.{show_item}
 use Rattle.lsp_server.specs.Items.{admitted, all_admitted, Decodes}
-use Rattle.lsp_server.proofs.CodecLemmas.{decodes_nothing, decodes_more, next_found, next_none, told_now}
+use Rattle.lsp_server.proofs.CodecLemmas.{decodes_nothing, decodes_more, next_found, told_now}
 use Rattle.lsp_pump.specs.Pieces.{piece_items, AreFloatFree}
 use Rattle.lsp_pump.proofs.PiecesLemmas.{free_more}
 use Rattle.lsp_pump.proofs.job.feed.Goals as goal

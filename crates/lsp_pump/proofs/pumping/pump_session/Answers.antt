@@ -1,6 +1,6 @@
 -- A reading, the steps beside it, and what is served after it.
 use Rattle.std.proofs.Common.{rules, ◌≡◌, inl, inr, ℕ, List, [], ◌++◌, refl, sym, ◌∙◌, ap, subst, true, false}
-use Rattle.std.specs.Prelude.{◌⊎◌, Some, None, IfErr, IfSome}
+use Rattle.std.specs.Prelude.{◌⊎◌, Some, None, IfSome}
 use Rattle.std.specs.Result.{result_err}
 use Rattle.lsp_frame.specs.Codec.{told_at}
 use Rattle.lsp_session.specs.Run.{Order, Step}
@@ -8,16 +8,12 @@ use Rattle.lsp_session.specs.SessionView.{session_view, desk_of}
 use Rattle.lsp_session.proofs.StepLemmas.{grown_on}
 use Rattle.lsp_server.specs.declared.step.ServeError.TheVariants.{NoMemory}
 use Rattle.lsp_server.specs.Course.{course_from, picked}
-use Rattle.lsp_server.specs.Errors.{IsInStep}
-use Rattle.lsp_server.specs.Served.{call_bytes}
 use Rattle.lsp_server.specs.ServerView.{standing}
 use Rattle.lsp_server.proofs.KnownLemmas.{consumes_none, if_told, some_at}
 use Rattle.lsp_server.proofs.PointLemmas.{find_at}
 use Rattle.lsp_server.proofs.TakingLemmas.{flushed_then}
-use Rattle.lsp_pump.specs.declared.job.Ended.TheVariants.{End, Full, NoMemory as Short}
-use Rattle.lsp_pump.specs.Pumped.{PumpsOver}
-use Rattle.lsp_pump.specs.Reading.{KeepsAllBytes}
-use Rattle.lsp_pump.specs.Steps.{StepsMade, StepsBegun, FailsInStep}
+use Rattle.lsp_pump.specs.declared.job.Ended.TheVariants.{Full}
+use Rattle.lsp_pump.specs.Steps.{StepsMade, FailsInStep}
 use Rattle.lsp_pump.proofs.ReadingLemmas.{tells_none, counts_none, ended_now}
 use Rattle.lsp_pump.proofs.StepsLemmas.{steps_none, made_begun}
 use Rattle.lsp_pump.proofs.SessionLemmas.{table_after}

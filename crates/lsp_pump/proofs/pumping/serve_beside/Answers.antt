@@ -1,12 +1,10 @@
 -- What was received is the beginning of what was sent, and the rest is on the ring or was handed back.
-use Rattle.std.proofs.Common.{rules, ◌≡◌, ℕ, List, [], ◌∷◌, ◌++◌, sym, ◌∙◌, ap, append_assoc, subst, Bool, true, false}
-use Rattle.std.specs.Prelude.{Result, Ok, Err}
+use Rattle.std.proofs.Common.{rules, ◌≡◌, List, ◌++◌, sym, ◌∙◌, ap, append_assoc, subst, true, false}
 use Rattle.rtrb.specs.Ring.{sent, received, known_items}
 use Rattle.lsp_session.specs.Item.{ItemData}
 use Rattle.lsp_session.specs.Run.{Order, Step}
 use Rattle.lsp_session.specs.SessionView.{desk_of}
 use Rattle.lsp_session.proofs.StepLemmas.{grown_on}
-use Rattle.lsp_server.specs.declared.step.ServeError.{ServeError}
 use Rattle.lsp_server.specs.ServerView.{standing}
 use Rattle.lsp_server.proofs.PointLemmas.{find_at}
 use Rattle.lsp_pump.specs.Pieces.{all_items, back_items}

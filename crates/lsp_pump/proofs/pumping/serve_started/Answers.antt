@@ -1,5 +1,5 @@
 -- Nothing was read, and no step was made.
-use Rattle.std.proofs.Common.{◌≡◌, List, sym, subst, false}
+use Rattle.std.proofs.Common.{List, sym, subst, false}
 use Rattle.std.specs.Global.{Vec}
 use Rattle.lsp_session.specs.declared.item.Item.{Item}
 use Rattle.lsp_session.specs.Run.{Order, Step}

@@ -1,11 +1,9 @@
 -- A failed read and the last of the reads: nothing is served.
-use Rattle.std.proofs.Common.{◌≡◌, sym, subst}
 use Rattle.lsp_session.specs.Run.{Order}
 use Rattle.lsp_session.specs.SessionView.{session_view}
 use Rattle.lsp_server.specs.Course.{course_from}
 use Rattle.lsp_server.specs.declared.step.ServeError.TheVariants.{ReadFault, ReadsSpent}
 use Rattle.lsp_server.proofs.KnownLemmas.{if_told}
-use Rattle.lsp_pump.specs.Reading.{KeepsAllBytes}
 use Rattle.lsp_pump.proofs.PumpedLemmas.{nothing_on}
 use Rattle.lsp_pump.proofs.steps.finish.Goals as goal
 

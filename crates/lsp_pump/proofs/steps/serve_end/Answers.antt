@@ -1,5 +1,5 @@
 -- The fault of an input that ends inside a frame, and the tick after it.
-use Rattle.std.proofs.Common.{rules, ◌≡◌, [], ◌∷◌, ℕ, List, refl, sym, ◌∙◌, ap, subst}
+use Rattle.std.proofs.Common.{rules, ◌≡◌, [], ◌∷◌, List, sym, ◌∙◌, ap, subst}
 use Rattle.std.specs.Prelude.{Result, Err}
 use Rattle.lsp_server.specs.declared.step.ServeError.{ServeError}
 use Rattle.lsp_frame.specs.Codec.{items_at}

@@ -1,6 +1,6 @@
 -- One item more, an exit, and an error.
 use Rattle.std.proofs.Common.{rules, ◌≡◌, List, [], ◌∷◌, ◌++◌, map, refl, sym, ◌∙◌, ap, append_assoc, subst, true, false}
-use Rattle.std.specs.Prelude.{is_some, OnErr}
+use Rattle.std.specs.Prelude.{is_some}
 use Rattle.lsp_session.specs.Item.{ItemData, show_item}
 use Rattle.lsp_session.specs.Run.{Order, Step}
 use Rattle.lsp_session.specs.SessionView.{session_view, desk_of}

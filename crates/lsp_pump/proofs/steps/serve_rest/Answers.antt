@@ -1,5 +1,5 @@
 -- One piece more, an exit, an error, and the piece that the ring did not take.
-use Rattle.std.proofs.Common.{rules, ◌≡◌, List, [], ◌∷◌, ◌++◌, length, refl, sym, ◌∙◌, ap, append_assoc, subst, true, false}
+use Rattle.std.proofs.Common.{rules, ◌≡◌, List, [], ◌++◌, length, refl, sym, ◌∙◌, ap, append_assoc, subst, true, false}
 use Rattle.std.specs.Prelude.{Option}
 use Rattle.std.specs.Global.{Vec}
 use Rattle.lsp_session.specs.declared.item.Item.{Item}

@@ -1,5 +1,5 @@
 -- One piece more, a tick, and an error.
-use Rattle.std.proofs.Common.{rules, ◌≡◌, List, [], ◌∷◌, ◌++◌, refl, sym, ◌∙◌, ap, subst, true, false}
+use Rattle.std.proofs.Common.{◌≡◌, List, ◌++◌, refl, sym, ◌∙◌, ap, subst, true, false}
 use Rattle.std.specs.Global.{Vec}
 use Rattle.rtrb.specs.Ring.{received}
 use Rattle.lsp_session.specs.declared.item.Item.{Item}
