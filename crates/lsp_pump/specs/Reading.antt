@@ -10,7 +10,7 @@ use Rattle.lsp_pump.specs.declared.job.Ended.{Ended}
 use Rattle.lsp_pump.specs.declared.job.Ended.TheVariants.{Exit, End, Failed, Spent, NoMemory, Full}
 use Rattle.lsp_pump.specs.declared.job.Reading.{Reading}
 use Rattle.lsp_pump.specs.declared.job.ReadEnd.{ReadEnd}
-use Rattle.lsp_pump.specs.Pieces.{all_items, back_items, AreFloatFree}
+use Rattle.lsp_pump.specs.Pieces.{all_items, back_items, ItemsAreFloatFree}
 
 -- no bytes were lost at such an end
 abbrev pub KeepsAllBytes : Ended → Type 0
@@ -105,4 +105,4 @@ module _ {I : Type 0} (left_of : I → Option (List ℕ)) (faults_of : I → ℕ
     pub ring : SameProducer start.sender end.sender
     pub has : HasRead start.codec (left_of start.source) (left_of end.source) end.made (given_by end) end.codec end.ended
     pub ends : EndsBy (left_of start.source) (left_of end.source) (faults_of start.source) (faults_of end.source) reads end.made end.ended
-    pub float_free : AreFloatFree (back_items end.back)
+    pub float_free : ItemsAreFloatFree (back_items end.back)

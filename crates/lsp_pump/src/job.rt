@@ -3,7 +3,7 @@ ghost use Rattle.std.specs.Prelude.{◌≡◌, ◌≢◌, ◌≤◌, ◌++◌, [
 ghost use Rattle.rtrb.specs.Ring.{sent, SameProducer};
 ghost use Rattle.lsp_frame.specs.Codec.{more, told_at};
 ghost use Rattle.lsp_server.specs.SourceSink.{CountRose};
-ghost use Rattle.lsp_pump.specs.Pieces.{piece_items, all_items, back_items, AreFloatFree};
+ghost use Rattle.lsp_pump.specs.Pieces.{piece_items, all_items, back_items, ItemsAreFloatFree};
 ghost use Rattle.lsp_pump.specs.Reading.{TellsAll, ReadOnce, ReadEnds, HasBegun, IsReadingOf};
 
 use crate::pieces::Sender;
@@ -147,7 +147,7 @@ fn read_piece<I: Source>(
 ) -> Result<Vec<Item>, Ended>
     ensures told { IfOk result (λ piece. ReadOnce codec.old (I.left source.old)
         (I.left source.new) (piece_items piece) codec.new) }
-    ensures float_free { IfOk result (λ piece. AreFloatFree (piece_items piece)) }
+    ensures float_free { IfOk result (λ piece. ItemsAreFloatFree (piece_items piece)) }
     ensures ended { IfErr result (λ ended. ReadEnds codec.old (I.left source.old)
         (I.left source.new) ended codec.new) }
     ensures failed { result ≡ Err Ended.Failed
@@ -173,7 +173,7 @@ fn read_piece<I: Source>(
 fn feed(alloc: Global, codec: &mut LanguageServerCodec, bytes: &[u8]) -> Result<Vec<Item>, NoMemory>
     ensures told { IfOk result (λ piece. TellsAll (more codec.old bytes.now) (piece_items piece)
         codec.new) }
-    ensures float_free { IfOk result (λ piece. AreFloatFree (piece_items piece)) }
+    ensures float_free { IfOk result (λ piece. ItemsAreFloatFree (piece_items piece)) }
 {
     codec.feed(bytes)?;
     let mut piece = Vec::new(alloc);
@@ -185,11 +185,11 @@ fn feed(alloc: Global, codec: &mut LanguageServerCodec, bytes: &[u8]) -> Result<
 
 // Puts a piece of at least one item onto the ring, and gives back what a full ring doesn't take.
 fn send(sender: &mut Sender, piece: Vec<Item>, signal: &Signal) -> Option<Vec<Item>>
-    requires float_free { AreFloatFree (piece_items piece) }
+    requires float_free { ItemsAreFloatFree (piece_items piece) }
     ensures sent { all_items (sent sender.new) ++ back_items result
         ≡ all_items (sent sender.old) ++ piece_items piece }
     ensures ring { SameProducer sender.old sender.new }
-    ensures float_free { AreFloatFree (back_items result) }
+    ensures float_free { ItemsAreFloatFree (back_items result) }
 {
     if piece.is_empty() {
         return None;

@@ -12,7 +12,7 @@ ghost use Rattle.lsp_server.specs.Leaves.{LeavesFaults, StaysFlushed, TellsFault
 ghost use Rattle.lsp_server.specs.Served.{call_bytes};
 ghost use Rattle.lsp_server.specs.ServesOn.{ServesOn};
 ghost use Rattle.lsp_server.specs.ServerView.{standing, IsReady};
-ghost use Rattle.lsp_pump.specs.Pieces.{piece_items, all_items, back_items, AreFloatFree};
+ghost use Rattle.lsp_pump.specs.Pieces.{piece_items, all_items, back_items, ItemsAreFloatFree};
 ghost use Rattle.lsp_pump.specs.Steps.{StepsMade, StepsBegun, MayGoOn, StandsAfter, FailsInStep};
 ghost use Rattle.lsp_pump.specs.Reading.{KeepsAllBytes, LeavesReads};
 
@@ -40,7 +40,7 @@ pub(crate) fn serve_piece<O: Sink, D: Desk + Drop, H: Handlers<D>, P: Pick>(
     rounds: u64,
 ) -> Result<bool, ServeError>
     requires going { MayGoOn H.semantics D.meaning session.old }
-    requires float_free { AreFloatFree (piece_items piece) }
+    requires float_free { ItemsAreFloatFree (piece_items piece) }
     ensures made { IfOk result
         (λ exits. StepsMade (Step H.semantics (order_by P.gives P.later) rounds) D.meaning
         (H.semantics.find (session_view H.semantics D.meaning session.old).state.service)
@@ -135,7 +135,7 @@ pub(crate) fn serve_rest<O: Sink, D: Desk + Drop, H: Handlers<D>, P: Pick>(
     rounds: u64,
 ) -> Result<bool, ServeError>
     requires going { MayGoOn H.semantics D.meaning session.old }
-    requires float_free { AreFloatFree (back_items back) }
+    requires float_free { ItemsAreFloatFree (back_items back) }
     ensures made { IfOk result
         (λ exits. StepsMade (Step H.semantics (order_by P.gives P.later) rounds) D.meaning
         (H.semantics.find (session_view H.semantics D.meaning session.old).state.service)

@@ -5,7 +5,7 @@ use Rattle.lsp_frame.specs.Codec.{more}
 use Rattle.lsp_session.specs.Item.{show_item}
 use Rattle.lsp_server.specs.Items.{admitted, all_admitted, Decodes}
 use Rattle.lsp_server.proofs.CodecLemmas.{decodes_nothing, decodes_more, next_found, told_now}
-use Rattle.lsp_pump.specs.Pieces.{piece_items, AreFloatFree}
+use Rattle.lsp_pump.specs.Pieces.{piece_items, ItemsAreFloatFree}
 use Rattle.lsp_pump.proofs.PiecesLemmas.{free_more}
 use Rattle.lsp_pump.proofs.job.feed.Goals as goal
 
@@ -35,5 +35,5 @@ items-preserved c =
         pushed ∙ ap (λ l. l ++ x ∷ []) inv.given.1 ∙ ap (λ y. all_admitted inv.given.0 ++ y ∷ []) found.1 ∙ sym (map-append admitted inv.given.0 (found.0 ∷ [])),
         decodes_more (more c.args.codec.now c.args.bytes.now) c.items.codec c.next_item.new.codec inv.given.0 (found.0 ∷ []) inv.given.2 found.2,
       );
-      free = subst AreFloatFree (sym pushed) (free_more (piece_items c.items.piece) x inv.free (rw c.in-Some.is at c.in_ok-item.ensures.float_free));
+      free = subst ItemsAreFloatFree (sym pushed) (free_more (piece_items c.items.piece) x inv.free (rw c.in-Some.is at c.in_ok-item.ensures.float_free));
     }

@@ -8,7 +8,7 @@ use Rattle.lsp_server.specs.ServerView.{standing}
 use Rattle.lsp_server.proofs.KnownLemmas.{err_of}
 use Rattle.lsp_server.proofs.PointLemmas.{find_at}
 use Rattle.lsp_server.proofs.RanLemmas.{ran_grown, grown_after}
-use Rattle.lsp_pump.specs.Pieces.{piece_items, AreFloatFree}
+use Rattle.lsp_pump.specs.Pieces.{piece_items, ItemsAreFloatFree}
 use Rattle.lsp_pump.specs.Steps.{StepsMade, StepsBegun}
 use Rattle.lsp_pump.proofs.PiecesLemmas.{free_tail}
 use Rattle.lsp_pump.proofs.StepsLemmas.{steps_none, made_longer, begun_longer}
@@ -56,7 +56,7 @@ items-preserved g c =
         unexited = unexited_on sem g.met.H.Handlers.laws m order c.args.rounds a b inv.made.0 inv.made.2 x d c.in_ok-serve_item.ensures.ok inv.going.unexited unnoted;
         alive = alive_on sem g.met.H.Handlers.laws m order c.args.rounds a b inv.made.0 inv.made.2 x d c.in_ok-serve_item.ensures.ok inv.going.unexited unnoted inv.going.alive;
       };
-      free = free_tail x rest (subst AreFloatFree here inv.free);
+      free = free_tail x rest (subst ItemsAreFloatFree here inv.free);
       flushed = λ was. c.in_ok-serve_item.ensures.flushed.flushed (inv.flushed was);
       beside = c.in_ok-serve_item.ensures.sink.beside ∙ inv.beside;
       count = c.in_ok-serve_item.ensures.sink.unfailed ∙ inv.count;

@@ -12,7 +12,7 @@ use Rattle.lsp_server.specs.ServerView.{standing}
 use Rattle.lsp_server.proofs.KnownLemmas.{err_of, if_ok, on_err}
 use Rattle.lsp_server.proofs.PointLemmas.{find_at}
 use Rattle.lsp_server.proofs.RanLemmas.{grown_after}
-use Rattle.lsp_pump.specs.Pieces.{piece_items, all_items, back_items, AreFloatFree}
+use Rattle.lsp_pump.specs.Pieces.{piece_items, all_items, back_items, ItemsAreFloatFree}
 use Rattle.lsp_pump.specs.Steps.{StepsMade, StepsBegun}
 use Rattle.lsp_pump.proofs.PiecesLemmas.{none_left}
 use Rattle.lsp_pump.proofs.StepsLemmas.{steps_none, steps_more, begun_more, made_longer, begun_longer}
@@ -106,7 +106,7 @@ returns-then-branch-clause-made g c =
 -- ---- the piece that the ring did not take
 
 pub serve_piece-requires-in-Some-clause-float_free : goal.serve_piece-requires-in-Some-clause-float_free
-serve_piece-requires-in-Some-clause-float_free g c = subst (λ (o : Option (Vec Item)). AreFloatFree (back_items o)) (sym c.pieces.invariant.same ∙ c.in-Some.is) c.requires.float_free
+serve_piece-requires-in-Some-clause-float_free g c = subst (λ (o : Option (Vec Item)). ItemsAreFloatFree (back_items o)) (sym c.pieces.invariant.same ∙ c.in-Some.is) c.requires.float_free
 
 pub returns-in-Some-clause-made : goal.returns-in-Some-clause-made
 returns-in-Some-clause-made g c =
