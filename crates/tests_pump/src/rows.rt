@@ -7,10 +7,12 @@ use lsp_desk::{ClientSocket, PlainDesk};
 use lsp_frame::{Floats, Limits};
 use lsp_pump::pump;
 use lsp_rows::{RowError, Trial};
-use lsp_sample_server::Sample;
+use lsp_rpc::NoMemory;
+use lsp_sample_server::{Sample, sample_service};
 use lsp_server::{NeverSink, NeverSource, ServeError, Served, Server, Stopped};
+use lsp_service::{LspService, serve_session};
 use lsp_session::{InOrder, Life};
-use std::alloc::{AllocError, Global};
+use std::alloc::Global;
 use std::sync::Wait;
 use std::thread::Threads;
 
@@ -97,7 +99,7 @@ const ROWS: &[Row] = &[
 // How many bytes a read gives.
 const CUTS: &[usize] = &[1, 2, 7, 100, 4096];
 
-fn framed(alloc: Global, bodies: &[&str]) -> Result<Vec<u8>, AllocError> {
+fn framed(alloc: Global, bodies: &[&str]) -> Result<Vec<u8>, NoMemory> {
     let mut frames = Vec::new(alloc);
     for body in bodies {
         let length = body.len();
@@ -108,16 +110,15 @@ fn framed(alloc: Global, bodies: &[&str]) -> Result<Vec<u8>, AllocError> {
     Ok(frames)
 }
 
-fn new_server(alloc: Global, row: &Row) -> Server<PlainDesk>
+fn new_server(socket: ClientSocket<PlainDesk>, row: &Row) -> Server<PlainDesk>
+    requires { IsOpening plain_meaning socket.desk }
     ensures { IsOpening plain_meaning (server_desk result) }
 {
     let limits = Limits {
         head: 99,
         body: row.body.max(1),
     };
-    let server = Server::new(ClientSocket::new(PlainDesk::new(alloc)))
-        .limits(limits)
-        .floats(row.floats);
+    let server = Server::new(socket).limits(limits).floats(row.floats);
     if row.empty_params {
         server.allow_empty_params()
     } else {
@@ -134,9 +135,9 @@ struct Told {
 
 fn tell(
     alloc: Global,
-    served: Result<Served<Sample, PlainDesk>, Stopped<PlainDesk>>,
+    served: Result<Served<LspService<Sample>, PlainDesk>, Stopped<PlainDesk>>,
     sink: &NeverSink,
-) -> Result<Told, AllocError> {
+) -> Result<Told, NoMemory> {
     let mut written = Vec::new(alloc);
     written.extend_from_slice(sink.bytes())?;
     let outcome = match served {
@@ -146,14 +147,18 @@ fn tell(
     Ok(Told { outcome, written })
 }
 
-fn serve(alloc: Global, row: &Row) -> Result<Told, AllocError> {
+fn serve(alloc: Global, row: &Row) -> Result<Told, NoMemory> {
     let mut sink = NeverSink::new(alloc);
     let mut source = NeverSource::new(framed(alloc, row.sent)?, 4096);
-    let served = new_server(alloc, row).serve(
+    let Ok((service, socket)) = sample_service(alloc, PlainDesk::new(alloc)) else {
+        return Err(NoMemory);
+    };
+    let served = serve_session(
         alloc,
         &mut source,
         &mut sink,
-        Sample,
+        service,
+        new_server(socket, row),
         &mut InOrder,
         u64::MAX,
         8,
@@ -166,16 +171,19 @@ fn pump_by<R: Threads + Wait>(
     alloc: Global,
     row: &Row,
     cut: usize,
-) -> Result<Told, AllocError> {
+) -> Result<Told, NoMemory> {
     let mut sink = NeverSink::new(alloc);
     let source = NeverSource::new(framed(alloc, row.sent)?, cut);
+    let Ok((service, socket)) = sample_service(alloc, PlainDesk::new(alloc)) else {
+        return Err(NoMemory);
+    };
     let (source, served) = pump(
         rt,
         alloc,
-        new_server(alloc, row),
+        new_server(socket, row),
         source,
         &mut sink,
-        Sample,
+        service,
         &mut InOrder,
         u64::MAX,
         8,
@@ -189,7 +197,7 @@ fn try_row<R: Threads + Wait>(
     trial: &mut Trial,
     alloc: Global,
     row: &Row,
-) -> Result<(), AllocError> {
+) -> Result<(), NoMemory> {
     let served = serve(alloc, row)?;
     for cut in CUTS {
         let pumped = pump_by(rt, alloc, row, *cut)?;
