@@ -173,7 +173,7 @@ fn pump_by<R: Threads + Wait>(
     cut: usize,
 ) -> Result<Told, NoMemory> {
     let mut sink = NeverSink::new(alloc);
-    let source = NeverSource::new(framed(alloc, row.sent)?, cut);
+    let source = NeverSource::new(framed(alloc, row.sent)?, cut.max(1));
     let Ok((service, socket)) = sample_service(alloc, PlainDesk::new(alloc)) else {
         return Err(NoMemory);
     };
