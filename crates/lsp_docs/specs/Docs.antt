@@ -1,5 +1,5 @@
 -- What a server that keeps its client's open documents does (LSP 3.17, "Text Document Synchronization").
-use Rattle.std.specs.Prelude.{◌≡◌, ℕ, pos, Bool, true, false, List, [], codes, Option, Some, None, option_map, unwrap_or, is_none, not, string_bytes, Result, Ok, Err}
+use Rattle.std.specs.Prelude.{◌≡◌, ℕ, pos, Bool, true, false, List, [], ◌∷◌, codes, Option, Some, None, option_map, unwrap_or, is_none, not, string_bytes, Result, Ok, Err}
 use Rattle.std.specs.Option.{option_and_then}
 use Rattle.std.specs.Str.{chars, encode_utf8_all}
 use Rattle.std.specs.FinMap as map
@@ -8,6 +8,9 @@ use Rattle.serde_json.specs.Find.{get, as_str, of_integer}
 use Rattle.serde_json.specs.View.{view}
 use Rattle.lsp_rpc.specs.declared.code.ErrorCode.TheVariants.{InvalidParams, MethodNotFound}
 use Rattle.lsp_rpc.specs.Message.{ErrorData, error_with_code}
+use Rattle.lsp_session.specs.declared.table.Kind.TheVariants as kinds
+use Rattle.lsp_session.specs.declared.table.Layer.TheVariants as layers
+use Rattle.lsp_session.specs.Table.{MethodData}
 use Rattle.lsp_desk.specs.Call.{Call as DeskCall}
 use Rattle.lsp_desk.specs.Trace.{DeskEntry}
 use Rattle.lsp_uri.specs.Uri.{uri_text}
@@ -69,14 +72,59 @@ text_answer ds (Some uri) = Ok (found_data (map.get ds uri))
 
 -- ---- what a call comes to
 
--- a reply to `initialize`; another reply; or a notification of a document
+-- documents are to be told when they are opened, changed and closed, and changes in ranges
+abbrev pub wanted_sync : TextDocumentSyncOptions
+wanted_sync = record { open_close = Some true; change = Some (pos 2); will_save = None; will_save_wait_until = None; save = None }
+
+-- nothing else is offered
+unfoldable pub offered : ServerCapabilities
+offered = record {
+  position_encoding = None;
+  text_document_sync = Some (sync_capability.Options wanted_sync);
+  notebook_document_sync = None;
+  selection_range_provider = None;
+  hover_provider = None;
+  completion_provider = None;
+  signature_help_provider = None;
+  definition_provider = None;
+  type_definition_provider = None;
+  implementation_provider = None;
+  references_provider = None;
+  document_highlight_provider = None;
+  document_symbol_provider = None;
+  workspace_symbol_provider = None;
+  code_action_provider = None;
+  code_lens_provider = None;
+  document_formatting_provider = None;
+  document_range_formatting_provider = None;
+  document_on_type_formatting_provider = None;
+  rename_provider = None;
+  document_link_provider = None;
+  color_provider = None;
+  folding_range_provider = None;
+  declaration_provider = None;
+  execute_command_provider = None;
+  workspace = None;
+  call_hierarchy_provider = None;
+  semantic_tokens_provider = None;
+  moniker_provider = None;
+  linked_editing_range_provider = None;
+  inline_value_provider = None;
+  inlay_hint_provider = None;
+  diagnostic_provider = None;
+  experimental = None;
+}
+
+abbrev pub initialize_answer : MethodReply
+initialize_answer = answer (methods.Life life.Initialize) (Ok (initialize_result_row.shown (record { capabilities = offered; server_info = None })))
+
+-- a reply, or a notification of a document
 pub data DocsTurn : Type 0 where
-  offers : DocsTurn
   replies : MethodReply → DocsTurn
   tells : Notification → DocsTurn
 
 abbrev pub docs_turn : DocumentMap → Call → DocsTurn
-docs_turn ds (calls.Life (life_calls.Initialize p)) = offers
+docs_turn ds (calls.Life (life_calls.Initialize p)) = replies initialize_answer
 docs_turn ds (calls.Life life_calls.Shutdown) = replies (answer (methods.Life life.Shutdown) (Ok (nil_row.shown tt)))
 docs_turn ds (calls.Sync (sync_calls.DidOpen p)) = tells (opening_of p)
 docs_turn ds (calls.Sync (sync_calls.DidChange p)) = tells (change_of p)
@@ -84,24 +132,13 @@ docs_turn ds (calls.Sync (sync_calls.DidClose p)) = tells (closing_of p)
 docs_turn ds (calls.Custom n params) = replies (custom_answer (text_answer ds (requested_uri (option_map view params))))
 docs_turn ds c = replies (refusal (error_with_code MethodNotFound))
 
--- documents are to be told when they are opened, changed and closed, and changes in ranges
-abbrev pub wanted_sync : TextDocumentSyncOptions
-wanted_sync = record { open_close = Some true; change = Some (pos 2); will_save = None; will_save_wait_until = None; save = None }
-
-pub record OffersSync (reply : MethodReply) : Type 0 where
-  pub capabilities : ServerCapabilities
-  pub sync : capabilities.text_document_sync ≡ Some (sync_capability.Options wanted_sync)
-  pub is : reply ≡ answer (methods.Life life.Initialize) (Ok (initialize_result_row.shown (record { capabilities = capabilities; server_info = None })))
-
 -- the documents and the reply then
 abbrev pub TurnsTo : DocsTurn → DocumentMap → DocumentMap → MethodReply → Type 0
-TurnsTo offers ds ds2 reply = (ds2 ≡ ds) × OffersSync reply
 TurnsTo (replies r) ds ds2 reply = (ds2 ≡ ds) × (reply ≡ r)
 TurnsTo (tells n) ds ds2 reply = (ds2 ≡ unwrap_or (accepted n ds) ds) × (reply ≡ noted)
 
 -- whether it is a notification that isn't accepted
 abbrev pub is_refused : DocsTurn → DocumentMap → Bool
-is_refused offers ds = false
 is_refused (replies r) ds = false
 is_refused (tells n) ds = is_none (accepted n ds)
 
@@ -123,6 +160,10 @@ LogsRefusal true asked = (told : Told) × IsTold refused_call told asked
 LogsRefusal false asked = asked ≡ []
 
 -- ---- the server
+
+-- the one custom method
+abbrev pub docs_methods : List MethodData
+docs_methods = record { name = codes "docs/text"; layer = layers.Normal; kind = kinds.Request } ∷ []
 
 -- the call, as the code has it, came to this
 pub record DocsPoll (s : DocsServer) (c : MethodCall) (asked : List DeskEntry) (s2 : DocsServer) (start : Start NoTask) : Type 0 where

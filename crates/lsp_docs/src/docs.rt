@@ -4,8 +4,7 @@ ghost use Rattle.std.specs.FinMap as map;
 ghost use Rattle.std.specs.Str.{encode_utf8_all};
 ghost use Rattle.serde_json.specs.View.{view};
 ghost use Rattle.lsp_rpc.specs.Shown.{show_body};
-ghost use Rattle.lsp_offer_text.specs.declared.sync.TextDocumentSyncCapability.TheVariants as sync_capability;
-ghost use Rattle.lsp_docs.specs.Docs.{docs_turn, requested_uri as requested_uri_lem, text_answer, found_data, opening_of, change_of, closing_of, wanted_sync, Heeded, Turned};
+ghost use Rattle.lsp_docs.specs.Docs.{docs_turn, requested_uri as requested_uri_lem, text_answer, found_data, opening_of, change_of, closing_of, offered, Heeded, Turned};
 
 use lsp_client::Client;
 use lsp_desk::{Caller, DeskFault};
@@ -177,9 +176,11 @@ fn noted_if(heeded: bool) -> Option<Reply>
     if heeded { Some(Reply::Noted) } else { None }
 }
 
-// Documents are to be told when they are opened, changed and closed, and changes in ranges.
+// Documents are to be told when they are opened, changed and closed, and changes in ranges. Nothing
+// else is offered.
+#[tactic(auto, unfolding(crate::specs::Docs::offered))]
 fn capabilities() -> ServerCapabilities
-    ensures { result.text_document_sync ≡ Some (sync_capability.Options wanted_sync) }
+    ensures { result ≡ offered }
 {
     let mut capabilities = ServerCapabilities::default();
     let wanted = TextDocumentSyncOptions {

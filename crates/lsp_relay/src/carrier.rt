@@ -20,7 +20,7 @@ use crate::notes::{event, note};
 use crate::reads::Relayed;
 use crate::write::send;
 use bytes::BytesMut;
-use lsp_frame::{Decoded, LanguageServerCodec};
+use lsp_frame::{Decoded, LanguageServerCodec, push_message};
 use lsp_proxy::{Outgoing, Proxy, Sent, Side};
 use lsp_rpc::{Message, NoMemory};
 use lsp_server::{ServeError, Sink};
@@ -61,10 +61,9 @@ fn push_notes(alloc: Global, sent: Sent, out: &mut BytesMut) -> Result<(), NoMem
     requires { AreFloatFree (all_sent sent.items) }
     ensures { OnOk result (out.new.items ≡ out.old.items ++ sent_frames (all_sent sent.items)) }
 {
-    let mut codec = LanguageServerCodec::default(alloc);
     for (side, message) in sent {
         let note = note(alloc, side, message)?;
-        codec.encode(&note, out)?;
+        push_message(alloc, &note, out)?;
     }
     Ok(())
 }

@@ -36,6 +36,8 @@ pub struct Clones {
 pub enum Form {
     /// Serves a session over its source and its sink.
     Serve(Setting),
+    /// Serves the document server over its source and its sink, as by default.
+    Docs,
     /// Serves a made-up session in memory, and writes its summary.
     Bulk(MadeUp),
     /// Serves one message in memory while callers talk, and writes how much they said.
@@ -53,7 +55,7 @@ pub const MOST_CLONES: u64 = 4;
 /// The most messages of a caller.
 pub const MOST_SAID: u64 = 1000;
 
-/// What the arguments ask for: none, `serve`, `serve MAX ROUNDS`, `bulk SEED COUNT`, or
+/// What the arguments ask for: none, `serve`, `serve MAX ROUNDS`, `docs`, `bulk SEED COUNT`, or
 /// `talk CLONES MESSAGES`, where all are decimal numbers, MAX and ROUNDS of at least 1, COUNT from 1
 /// to [`MOST`], CLONES from 1 to [`MOST_CLONES`], and MESSAGES at most [`MOST_SAID`].
 pub(crate) fn read_arguments(arguments: &Vec<String>) -> Option<Form>
@@ -63,6 +65,7 @@ pub(crate) fn read_arguments(arguments: &Vec<String>) -> Option<Form>
     match arguments.as_slice() {
         [] => Some(Form::Serve(DEFAULT)),
         [argument] if argument.as_str() == "serve" => Some(Form::Serve(DEFAULT)),
+        [argument] if argument.as_str() == "docs" => Some(Form::Docs),
         [argument, max, rounds] if argument.as_str() == "serve" => {
             Some(Form::Serve(numbers(max.as_str(), rounds.as_str())?))
         }

@@ -1,1 +1,3 @@
-mod ParamsLemmas
+pub mod CommandLemmas
+pub mod PlanLemmas
+pub mod PollLemmas

@@ -12,6 +12,7 @@ pub mod TakingLemmas
 pub mod ServesLemmas
 pub mod ServingLemmas
 pub mod ServedLemmas
+pub mod ServesOnLemmas
 pub mod ErrorLemmas
 pub mod HandedLemmas
 pub mod HistoryLemmas

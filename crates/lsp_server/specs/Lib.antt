@@ -8,6 +8,7 @@ pub mod Course
 pub mod Written
 pub mod Errors
 pub mod Served
+pub mod ServesOn
 pub mod Reads
 pub mod ReadAt
 pub mod MemoryTransport

@@ -179,6 +179,34 @@ impl<D: Desk + Drop> Server<D> {
         }
     }
 
+    /// How the server reads bodies: within which limits, and what becomes of floats.
+    pub fn codec_settings(&self) -> CodecSettings
+        ensures limits { result.limits ≡ server_limits self.now }
+        ensures floats { result.floats ≡ server_floats self.now }
+        ensures limited { AreLimits result.limits }
+    {
+        self.settings
+    }
+
+    /// Whether params that hold nothing are read as absent where a method takes none.
+    pub fn allows_empty_params(&self) -> bool
+        ensures { result ≡ server_empty_params self.now }
+    {
+        self.empty_params
+    }
+
+    /// The socket, how many calls are polled in a round at most, how many calls that wait let no
+    /// further request wait, and the limits. It takes no memory.
+    pub fn into_parts(self) -> (ClientSocket<D>, usize, usize, Limits)
+        ensures desk { result.0.desk ≡ server_desk self }
+        ensures concurrency { result.1 ≡ concurrency self }
+        ensures waiting { result.2 ≡ waiting self }
+        ensures limits { result.3 ≡ server_limits self }
+        ensures some { 1 ≤ result.1 }
+    {
+        (self.socket, self.max, self.wait, self.settings.limits)
+    }
+
     /// Makes the step of one item: it is admitted, so many rounds are made, and the frames of all
     /// that was put out are written and flushed. After an error no clause lets the session go
     /// on, since what was put out may be lost.
@@ -362,8 +390,8 @@ impl<D: Desk + Drop> Server<D> {
     }
 }
 
-// The session that a server serves with.
-fn open<D: Desk + Drop, H: Handlers<D>>(
+/// The session that a server serves with.
+pub fn open<D: Desk + Drop, H: Handlers<D>>(
     alloc: Global,
     service: H,
     desk: D,
@@ -388,8 +416,8 @@ fn open<D: Desk + Drop, H: Handlers<D>>(
     }
 }
 
-// What is handed back at the end of a session.
-fn hand_back<D: Desk + Drop, H: Handlers<D>>(
+/// What is handed back at the end of a session.
+pub fn hand_back<D: Desk + Drop, H: Handlers<D>>(
     session: Session<H, D>,
 ) -> Result<Served<H, D>, Stopped<D>>
     requires running { has_stopped session ≡ false }
@@ -413,8 +441,8 @@ fn hand_back<D: Desk + Drop, H: Handlers<D>>(
     }
 }
 
-// What is handed back where a session stopped.
-fn stop<D: Desk + Drop, H: Handlers<D>>(session: Session<H, D>, error: ServeError) -> Stopped<D>
+/// What is handed back where a session stopped.
+pub fn stop<D: Desk + Drop, H: Handlers<D>>(session: Session<H, D>, error: ServeError) -> Stopped<D>
     ensures error { result.error ≡ error }
     ensures desk { result.desk ≡ desk_of session }
 {

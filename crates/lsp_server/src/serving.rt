@@ -9,7 +9,8 @@ ghost use Rattle.lsp_session.specs.SessionView.{session_view, desk_of, life_of};
 ghost use Rattle.lsp_server.specs.Items.{all_admitted, GivesNext};
 ghost use Rattle.lsp_server.specs.Course.{course_from, picked};
 ghost use Rattle.lsp_server.specs.Written.{Ran, RanPart};
-ghost use Rattle.lsp_server.specs.Served.{ServedTold, ServesOver};
+ghost use Rattle.lsp_server.specs.Served.{call_bytes, ServedTold, ServesOver};
+ghost use Rattle.lsp_server.specs.ServesOn.{ServesOn};
 ghost use Rattle.lsp_server.specs.Reads.{moment};
 ghost use Rattle.lsp_server.specs.Errors.{IsInStep, SaysSpent, StaysWhole};
 ghost use Rattle.lsp_server.specs.Leaves.{LeavesFaults, StaysFlushed, TellsFaults, WithinReads};
@@ -17,7 +18,7 @@ ghost use Rattle.lsp_server.specs.Serving.{PartTold};
 ghost use Rattle.lsp_server.specs.ServerView.{standing, IsReady};
 
 use crate::reads::over_reads;
-use crate::step::{ServeError, write_step};
+use crate::step::{ServeError, flush, flush_after, write_step};
 use crate::{Consumer, Sink, Transport};
 use bytes::BytesMut;
 use lsp_desk::Desk;
@@ -142,8 +143,92 @@ pub fn serve_over<T: Transport, D: Desk + Drop, H: Handlers<D>, P: Pick>(
     over_reads(io, &mut serving, session, reads)
 }
 
-// The next item that the codec tells, as a session admits it.
-fn next_item(codec: &mut LanguageServerCodec) -> Result<Option<Item>, NoMemory>
+/// Serves a session on over a transport, from where it and the codec stand, to the end of input or
+/// the first `exit`: as [`serve_over`] does with a codec that was fed nothing.
+pub fn serve_from<T: Transport, D: Desk + Drop, H: Handlers<D>, P: Pick>(
+    alloc: Global,
+    io: &mut T,
+    codec: &mut LanguageServerCodec,
+    session: &mut Session<H, D>,
+    pick: &mut P,
+    reads: u64,
+    rounds: u64,
+) -> Result<(), ServeError>
+    requires told { told_at codec.old ≡ [] }
+    requires ready { IsReady H.semantics D.meaning session.old }
+    requires alive { life_of D.meaning session.old ≢ Life.Exited }
+    requires unexited { (session_view H.semantics D.meaning session.old).state.exited ≡ None }
+
+    // The steps of the items that come of what the codec holds and of the transport's bytes were
+    // made, and their frames were written.
+    ensures serves { IfSome (T.left io.old) (λ bytes. ServesOn
+        (course_from H.semantics D.meaning (order_by P.gives P.later) rounds codec.old.settings
+        (session_view H.semantics D.meaning session.old) (P.state pick.old)) codec.old
+        (call_bytes bytes (T.left io.new) (T.taken io.old) (T.taken io.new))
+        (picked (session_view H.semantics D.meaning session.new) (P.state pick.new))
+        (desk_of session.new) (result_err result)) }
+    ensures ready { StaysWhole result → IsReady H.semantics D.meaning session.new }
+    ensures grown { Grown D.meaning (desk_of session.old) (desk_of session.new) }
+    ensures desk_spent { IfErr result (λ e. SaysSpent D.meaning (desk_of session.new) e) }
+
+    // All is flushed, each failure is told and has its cause, and at most `reads` reads are made.
+    ensures flushed { StaysFlushed (T.taken io.old) (T.flushed io.old)
+        (T.taken io.new) (T.flushed io.new) (result_err result) }
+    ensures faults { TellsFaults (T.read_faults io.old) (T.read_faults io.new)
+        (T.faults io.old) (T.faults io.new) (result_err result) }
+    ensures within { WithinReads reads 4096 (T.left io.old) (T.left io.new)
+        (T.reads io.old) (T.reads io.new) (result_err result) }
+    ensures tied { T.tied io.new ≡ T.tied io.old }
+{
+    let mut room = BytesMut::new(alloc);
+    let mut serving = Serving {
+        alloc,
+        codec,
+        room: &mut room,
+        pick,
+        rounds,
+    };
+    over_reads(io, &mut serving, session, reads)
+}
+
+/// Makes the step of one item by way of the room, and flushes what was written, also where the step
+/// fails.
+pub fn serve_item<O: Sink, D: Desk + Drop, H: Handlers<D>, P: Pick>(
+    alloc: Global,
+    room: &mut BytesMut,
+    sink: &mut O,
+    session: &mut Session<H, D>,
+    item: Item,
+    pick: &mut P,
+    rounds: u64,
+) -> Result<(), ServeError>
+    requires ready { IsReady H.semantics D.meaning session.old }
+    requires alive { life_of D.meaning session.old ≢ Life.Exited }
+    requires float_free { item_has_float (show_item item) ≡ false }
+    ensures ok { OnOk result (Ran (Step H.semantics (order_by P.gives P.later) rounds) D.meaning
+        (standing H.semantics D.meaning session.old (P.state pick.old) (O.taken sink.old))
+        (show_item item ∷ [])
+        (standing H.semantics D.meaning session.new (P.state pick.new) (O.taken sink.new))) }
+    ensures ready { OnOk result (IsReady H.semantics D.meaning session.new) }
+    ensures part { OnErr result (RanPart (Step H.semantics (order_by P.gives P.later) rounds)
+        D.meaning
+        (standing H.semantics D.meaning session.old (P.state pick.old) (O.taken sink.old))
+        (show_item item ∷ []) (desk_of session.new) (O.taken sink.new)) }
+    ensures grown { OnErr result (Grown D.meaning (desk_of session.old) (desk_of session.new)) }
+    ensures flushed { StaysFlushed (O.taken sink.old) (O.flushed sink.old)
+        (O.taken sink.new) (O.flushed sink.new) (result_err result) }
+    ensures sink { LeavesFaults O.faults O.beside sink.old sink.new (result_err result) }
+    ensures spent { IfErr result (λ e. SaysSpent D.meaning (desk_of session.new) e) }
+    ensures others { IfErr result IsInStep }
+{
+    match write_step(alloc, room, sink, session, item, pick, rounds) {
+        Ok(()) => flush(sink),
+        Err(error) => Err(flush_after(sink, error)),
+    }
+}
+
+/// The next item that the codec tells, as a session admits it.
+pub fn next_item(codec: &mut LanguageServerCodec) -> Result<Option<Item>, NoMemory>
     ensures next { IfOk result (λ item. GivesNext codec.old (option_map show_item item) codec.new) }
     ensures waits { IfOk result (λ item. item ≡ None → told_at codec.new ≡ []) }
     ensures float_free { IfOk result (λ item. IfSome item (λ x. item_has_float (show_item x)

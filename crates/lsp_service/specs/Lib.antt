@@ -10,4 +10,5 @@ pub mod Open
 pub mod Answering
 pub mod Service
 pub mod Ready
+pub mod Serving
 pub mod ServiceLaws

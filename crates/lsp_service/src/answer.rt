@@ -1,8 +1,8 @@
-// What is written for a reply of a server.
+// What a reply of a server comes to.
 ghost use Rattle.std.specs.Prelude.{◌≡◌, IfOk};
 ghost use Rattle.lsp_rpc.specs.Shown.{show_body};
 ghost use Rattle.lsp_methods.specs.Shapes.{result_shape};
-ghost use Rattle.lsp_service.specs.Data.{answer, custom_answer as custom_answer_of, noted as noted_lem, result_shown, write_body, written_by, mismatch as mismatch_lem, unless_float as unless_float_lem};
+ghost use Rattle.lsp_service.specs.Data.{answer, custom_answer as custom_answer_of, noted as noted_lem, outcome_by, result_shown, write_body, mismatch as mismatch_lem, unless_float as unless_float_lem};
 
 use crate::call::Target;
 use lsp_methods::Method;
@@ -19,7 +19,7 @@ fn mismatch(alloc: Global) -> Result<Result<Value, Error>, NoMemory>
     Ok(Err(Error::internal_error(alloc)?))
 }
 
-/// The answer to a request of `method`, where `target` was called.
+/// What the answer to a request of `method` comes to, where `target` was called.
 pub(crate) fn answered<T: Wire>(
     alloc: Global,
     target: Target,
@@ -27,11 +27,14 @@ pub(crate) fn answered<T: Wire>(
     body: Result<T, Error>,
 ) -> Result<Result<Value, Error>, NoMemory>
     requires { result_shape method ≡ T.shape }
-    ensures { IfOk result (λ written. show_body written
-        ≡ written_by target (answer method (result_shown T.shown body))) }
+    ensures { IfOk result (λ sent. show_body sent
+        ≡ outcome_by target (answer method (result_shown T.shown body))) }
 {
     match target {
-        Target::Typed(called) if called.place() == method.place() => written(alloc, method, body),
+        Target::Typed(called) if called.place() == method.place() => {
+            let written = written(alloc, method, body)?;
+            unless_float(alloc, written)
+        }
         _ => mismatch(alloc),
     }
 }
@@ -51,24 +54,24 @@ fn written<T: Wire>(
     }
 }
 
-/// The answer to a custom request.
+/// What the answer to a custom request comes to.
 pub(crate) fn custom_answered(
     alloc: Global,
     target: Target,
     body: Result<Value, Error>,
 ) -> Result<Result<Value, Error>, NoMemory>
-    ensures { IfOk result (λ written. show_body written
-        ≡ written_by target (custom_answer_of (show_body body))) }
+    ensures { IfOk result (λ sent. show_body sent
+        ≡ outcome_by target (custom_answer_of (show_body body))) }
 {
     match target {
         Target::Typed(_) => mismatch(alloc),
-        Target::Custom(_) => Ok(body),
+        Target::Custom(_) => unless_float(alloc, body),
     }
 }
 
 /// No answer: what a notification is owed.
 pub(crate) fn noted(alloc: Global, target: Target) -> Result<Result<Value, Error>, NoMemory>
-    ensures { IfOk result (λ written. show_body written ≡ written_by target noted_lem) }
+    ensures { IfOk result (λ sent. show_body sent ≡ outcome_by target noted_lem) }
 {
     let kind = match target {
         Target::Typed(method) => method.kind(),

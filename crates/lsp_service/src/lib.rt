@@ -14,6 +14,7 @@ mod read;
 mod reply;
 mod server;
 mod service;
+mod serving;
 mod stdio;
 mod write;
 
@@ -33,4 +34,5 @@ pub use reply::{
 };
 pub use server::{LanguageServer, NoTask, Started};
 pub use service::{Held, LspService};
+pub use serving::{serve, serve_session};
 pub use stdio::serve_stdio;

@@ -28,20 +28,26 @@ fn read_life(
         (option_map (λ v. view v.now) params.entry)) e) }
 {
     match method {
-        LifeMethod::Initialize => Ok(LifeCall::Initialize(params_of(
+        LifeMethod::Initialize => match params_of(
             alloc,
             Method::Life(LifeMethod::Initialize),
             params,
-        )?)),
-        LifeMethod::Initialized => Ok(LifeCall::Initialized(params_of(
+        ) {
+            Ok(params) => Ok(LifeCall::Initialize(params)),
+            Err(misfit) => Err(misfit),
+        },
+        LifeMethod::Initialized => match params_of(
             alloc,
             Method::Life(LifeMethod::Initialized),
             params,
-        )?)),
-        LifeMethod::Shutdown => {
-            no_params(Method::Life(LifeMethod::Shutdown), params)?;
-            Ok(LifeCall::Shutdown)
-        }
+        ) {
+            Ok(params) => Ok(LifeCall::Initialized(params)),
+            Err(misfit) => Err(misfit),
+        },
+        LifeMethod::Shutdown => match no_params(Method::Life(LifeMethod::Shutdown), params) {
+            Ok(()) => Ok(LifeCall::Shutdown),
+            Err(misfit) => Err(misfit),
+        },
     }
 }
 
@@ -56,36 +62,38 @@ fn read_sync(
         (option_map (λ v. view v.now) params.entry)) e) }
 {
     match method {
-        SyncMethod::DidOpen => Ok(SyncCall::DidOpen(params_of(
-            alloc,
-            Method::Sync(SyncMethod::DidOpen),
-            params,
-        )?)),
-        SyncMethod::DidChange => Ok(SyncCall::DidChange(params_of(
+        SyncMethod::DidOpen => match params_of(alloc, Method::Sync(SyncMethod::DidOpen), params) {
+            Ok(params) => Ok(SyncCall::DidOpen(params)),
+            Err(misfit) => Err(misfit),
+        },
+        SyncMethod::DidChange => match params_of(
             alloc,
             Method::Sync(SyncMethod::DidChange),
             params,
-        )?)),
-        SyncMethod::WillSave => Ok(SyncCall::WillSave(params_of(
-            alloc,
-            Method::Sync(SyncMethod::WillSave),
-            params,
-        )?)),
-        SyncMethod::WillSaveWaitUntil => Ok(SyncCall::WillSaveWaitUntil(params_of(
+        ) {
+            Ok(params) => Ok(SyncCall::DidChange(params)),
+            Err(misfit) => Err(misfit),
+        },
+        SyncMethod::WillSave => match params_of(alloc, Method::Sync(SyncMethod::WillSave), params) {
+            Ok(params) => Ok(SyncCall::WillSave(params)),
+            Err(misfit) => Err(misfit),
+        },
+        SyncMethod::WillSaveWaitUntil => match params_of(
             alloc,
             Method::Sync(SyncMethod::WillSaveWaitUntil),
             params,
-        )?)),
-        SyncMethod::DidSave => Ok(SyncCall::DidSave(params_of(
-            alloc,
-            Method::Sync(SyncMethod::DidSave),
-            params,
-        )?)),
-        SyncMethod::DidClose => Ok(SyncCall::DidClose(params_of(
-            alloc,
-            Method::Sync(SyncMethod::DidClose),
-            params,
-        )?)),
+        ) {
+            Ok(params) => Ok(SyncCall::WillSaveWaitUntil(params)),
+            Err(misfit) => Err(misfit),
+        },
+        SyncMethod::DidSave => match params_of(alloc, Method::Sync(SyncMethod::DidSave), params) {
+            Ok(params) => Ok(SyncCall::DidSave(params)),
+            Err(misfit) => Err(misfit),
+        },
+        SyncMethod::DidClose => match params_of(alloc, Method::Sync(SyncMethod::DidClose), params) {
+            Ok(params) => Ok(SyncCall::DidClose(params)),
+            Err(misfit) => Err(misfit),
+        },
     }
 }
 
@@ -100,36 +108,54 @@ fn read_goto(
         (option_map (λ v. view v.now) params.entry)) e) }
 {
     match method {
-        GotoMethod::GotoDeclaration => Ok(GotoCall::GotoDeclaration(params_of(
+        GotoMethod::GotoDeclaration => match params_of(
             alloc,
             Method::Goto(GotoMethod::GotoDeclaration),
             params,
-        )?)),
-        GotoMethod::GotoDefinition => Ok(GotoCall::GotoDefinition(params_of(
+        ) {
+            Ok(params) => Ok(GotoCall::GotoDeclaration(params)),
+            Err(misfit) => Err(misfit),
+        },
+        GotoMethod::GotoDefinition => match params_of(
             alloc,
             Method::Goto(GotoMethod::GotoDefinition),
             params,
-        )?)),
-        GotoMethod::GotoTypeDefinition => Ok(GotoCall::GotoTypeDefinition(params_of(
+        ) {
+            Ok(params) => Ok(GotoCall::GotoDefinition(params)),
+            Err(misfit) => Err(misfit),
+        },
+        GotoMethod::GotoTypeDefinition => match params_of(
             alloc,
             Method::Goto(GotoMethod::GotoTypeDefinition),
             params,
-        )?)),
-        GotoMethod::GotoImplementation => Ok(GotoCall::GotoImplementation(params_of(
+        ) {
+            Ok(params) => Ok(GotoCall::GotoTypeDefinition(params)),
+            Err(misfit) => Err(misfit),
+        },
+        GotoMethod::GotoImplementation => match params_of(
             alloc,
             Method::Goto(GotoMethod::GotoImplementation),
             params,
-        )?)),
-        GotoMethod::References => Ok(GotoCall::References(params_of(
+        ) {
+            Ok(params) => Ok(GotoCall::GotoImplementation(params)),
+            Err(misfit) => Err(misfit),
+        },
+        GotoMethod::References => match params_of(
             alloc,
             Method::Goto(GotoMethod::References),
             params,
-        )?)),
-        GotoMethod::DocumentHighlight => Ok(GotoCall::DocumentHighlight(params_of(
+        ) {
+            Ok(params) => Ok(GotoCall::References(params)),
+            Err(misfit) => Err(misfit),
+        },
+        GotoMethod::DocumentHighlight => match params_of(
             alloc,
             Method::Goto(GotoMethod::DocumentHighlight),
             params,
-        )?)),
+        ) {
+            Ok(params) => Ok(GotoCall::DocumentHighlight(params)),
+            Err(misfit) => Err(misfit),
+        },
     }
 }
 
@@ -144,40 +170,54 @@ fn read_hierarchy(
         (option_map (λ v. view v.now) params.entry)) e) }
 {
     match method {
-        HierarchyMethod::PrepareCallHierarchy => Ok(HierarchyCall::PrepareCallHierarchy(
-            params_of(
-                alloc,
-                Method::Hierarchy(HierarchyMethod::PrepareCallHierarchy),
-                params,
-            )?,
-        )),
-        HierarchyMethod::IncomingCalls => Ok(HierarchyCall::IncomingCalls(params_of(
+        HierarchyMethod::PrepareCallHierarchy => match params_of(
+            alloc,
+            Method::Hierarchy(HierarchyMethod::PrepareCallHierarchy),
+            params,
+        ) {
+            Ok(params) => Ok(HierarchyCall::PrepareCallHierarchy(params)),
+            Err(misfit) => Err(misfit),
+        },
+        HierarchyMethod::IncomingCalls => match params_of(
             alloc,
             Method::Hierarchy(HierarchyMethod::IncomingCalls),
             params,
-        )?)),
-        HierarchyMethod::OutgoingCalls => Ok(HierarchyCall::OutgoingCalls(params_of(
+        ) {
+            Ok(params) => Ok(HierarchyCall::IncomingCalls(params)),
+            Err(misfit) => Err(misfit),
+        },
+        HierarchyMethod::OutgoingCalls => match params_of(
             alloc,
             Method::Hierarchy(HierarchyMethod::OutgoingCalls),
             params,
-        )?)),
-        HierarchyMethod::PrepareTypeHierarchy => Ok(HierarchyCall::PrepareTypeHierarchy(
-            params_of(
-                alloc,
-                Method::Hierarchy(HierarchyMethod::PrepareTypeHierarchy),
-                params,
-            )?,
-        )),
-        HierarchyMethod::Supertypes => Ok(HierarchyCall::Supertypes(params_of(
+        ) {
+            Ok(params) => Ok(HierarchyCall::OutgoingCalls(params)),
+            Err(misfit) => Err(misfit),
+        },
+        HierarchyMethod::PrepareTypeHierarchy => match params_of(
+            alloc,
+            Method::Hierarchy(HierarchyMethod::PrepareTypeHierarchy),
+            params,
+        ) {
+            Ok(params) => Ok(HierarchyCall::PrepareTypeHierarchy(params)),
+            Err(misfit) => Err(misfit),
+        },
+        HierarchyMethod::Supertypes => match params_of(
             alloc,
             Method::Hierarchy(HierarchyMethod::Supertypes),
             params,
-        )?)),
-        HierarchyMethod::Subtypes => Ok(HierarchyCall::Subtypes(params_of(
+        ) {
+            Ok(params) => Ok(HierarchyCall::Supertypes(params)),
+            Err(misfit) => Err(misfit),
+        },
+        HierarchyMethod::Subtypes => match params_of(
             alloc,
             Method::Hierarchy(HierarchyMethod::Subtypes),
             params,
-        )?)),
+        ) {
+            Ok(params) => Ok(HierarchyCall::Subtypes(params)),
+            Err(misfit) => Err(misfit),
+        },
     }
 }
 
@@ -192,51 +232,66 @@ fn read_show(
         (option_map (λ v. view v.now) params.entry)) e) }
 {
     match method {
-        ShowMethod::DocumentLink => Ok(ShowCall::DocumentLink(params_of(
+        ShowMethod::DocumentLink => match params_of(
             alloc,
             Method::Show(ShowMethod::DocumentLink),
             params,
-        )?)),
-        ShowMethod::DocumentLinkResolve => Ok(ShowCall::DocumentLinkResolve(params_of(
+        ) {
+            Ok(params) => Ok(ShowCall::DocumentLink(params)),
+            Err(misfit) => Err(misfit),
+        },
+        ShowMethod::DocumentLinkResolve => match params_of(
             alloc,
             Method::Show(ShowMethod::DocumentLinkResolve),
             params,
-        )?)),
-        ShowMethod::Hover => Ok(ShowCall::Hover(params_of(
-            alloc,
-            Method::Show(ShowMethod::Hover),
-            params,
-        )?)),
-        ShowMethod::CodeLens => Ok(ShowCall::CodeLens(params_of(
-            alloc,
-            Method::Show(ShowMethod::CodeLens),
-            params,
-        )?)),
-        ShowMethod::CodeLensResolve => Ok(ShowCall::CodeLensResolve(params_of(
+        ) {
+            Ok(params) => Ok(ShowCall::DocumentLinkResolve(params)),
+            Err(misfit) => Err(misfit),
+        },
+        ShowMethod::Hover => match params_of(alloc, Method::Show(ShowMethod::Hover), params) {
+            Ok(params) => Ok(ShowCall::Hover(params)),
+            Err(misfit) => Err(misfit),
+        },
+        ShowMethod::CodeLens => match params_of(alloc, Method::Show(ShowMethod::CodeLens), params) {
+            Ok(params) => Ok(ShowCall::CodeLens(params)),
+            Err(misfit) => Err(misfit),
+        },
+        ShowMethod::CodeLensResolve => match params_of(
             alloc,
             Method::Show(ShowMethod::CodeLensResolve),
             params,
-        )?)),
-        ShowMethod::FoldingRange => Ok(ShowCall::FoldingRange(params_of(
+        ) {
+            Ok(params) => Ok(ShowCall::CodeLensResolve(params)),
+            Err(misfit) => Err(misfit),
+        },
+        ShowMethod::FoldingRange => match params_of(
             alloc,
             Method::Show(ShowMethod::FoldingRange),
             params,
-        )?)),
-        ShowMethod::SelectionRange => Ok(ShowCall::SelectionRange(params_of(
+        ) {
+            Ok(params) => Ok(ShowCall::FoldingRange(params)),
+            Err(misfit) => Err(misfit),
+        },
+        ShowMethod::SelectionRange => match params_of(
             alloc,
             Method::Show(ShowMethod::SelectionRange),
             params,
-        )?)),
-        ShowMethod::DocumentSymbol => Ok(ShowCall::DocumentSymbol(params_of(
+        ) {
+            Ok(params) => Ok(ShowCall::SelectionRange(params)),
+            Err(misfit) => Err(misfit),
+        },
+        ShowMethod::DocumentSymbol => match params_of(
             alloc,
             Method::Show(ShowMethod::DocumentSymbol),
             params,
-        )?)),
-        ShowMethod::Moniker => Ok(ShowCall::Moniker(params_of(
-            alloc,
-            Method::Show(ShowMethod::Moniker),
-            params,
-        )?)),
+        ) {
+            Ok(params) => Ok(ShowCall::DocumentSymbol(params)),
+            Err(misfit) => Err(misfit),
+        },
+        ShowMethod::Moniker => match params_of(alloc, Method::Show(ShowMethod::Moniker), params) {
+            Ok(params) => Ok(ShowCall::Moniker(params)),
+            Err(misfit) => Err(misfit),
+        },
     }
 }
 
@@ -251,36 +306,54 @@ fn read_token(
         (option_map (λ v. view v.now) params.entry)) e) }
 {
     match method {
-        TokenMethod::SemanticTokensFull => Ok(TokenCall::SemanticTokensFull(params_of(
+        TokenMethod::SemanticTokensFull => match params_of(
             alloc,
             Method::Token(TokenMethod::SemanticTokensFull),
             params,
-        )?)),
-        TokenMethod::SemanticTokensFullDelta => Ok(TokenCall::SemanticTokensFullDelta(params_of(
+        ) {
+            Ok(params) => Ok(TokenCall::SemanticTokensFull(params)),
+            Err(misfit) => Err(misfit),
+        },
+        TokenMethod::SemanticTokensFullDelta => match params_of(
             alloc,
             Method::Token(TokenMethod::SemanticTokensFullDelta),
             params,
-        )?)),
-        TokenMethod::SemanticTokensRange => Ok(TokenCall::SemanticTokensRange(params_of(
+        ) {
+            Ok(params) => Ok(TokenCall::SemanticTokensFullDelta(params)),
+            Err(misfit) => Err(misfit),
+        },
+        TokenMethod::SemanticTokensRange => match params_of(
             alloc,
             Method::Token(TokenMethod::SemanticTokensRange),
             params,
-        )?)),
-        TokenMethod::InlineValue => Ok(TokenCall::InlineValue(params_of(
+        ) {
+            Ok(params) => Ok(TokenCall::SemanticTokensRange(params)),
+            Err(misfit) => Err(misfit),
+        },
+        TokenMethod::InlineValue => match params_of(
             alloc,
             Method::Token(TokenMethod::InlineValue),
             params,
-        )?)),
-        TokenMethod::InlayHint => Ok(TokenCall::InlayHint(params_of(
+        ) {
+            Ok(params) => Ok(TokenCall::InlineValue(params)),
+            Err(misfit) => Err(misfit),
+        },
+        TokenMethod::InlayHint => match params_of(
             alloc,
             Method::Token(TokenMethod::InlayHint),
             params,
-        )?)),
-        TokenMethod::InlayHintResolve => Ok(TokenCall::InlayHintResolve(params_of(
+        ) {
+            Ok(params) => Ok(TokenCall::InlayHint(params)),
+            Err(misfit) => Err(misfit),
+        },
+        TokenMethod::InlayHintResolve => match params_of(
             alloc,
             Method::Token(TokenMethod::InlayHintResolve),
             params,
-        )?)),
+        ) {
+            Ok(params) => Ok(TokenCall::InlayHintResolve(params)),
+            Err(misfit) => Err(misfit),
+        },
     }
 }
 
@@ -295,66 +368,98 @@ fn read_edit(
         (option_map (λ v. view v.now) params.entry)) e) }
 {
     match method {
-        EditMethod::Completion => Ok(EditCall::Completion(params_of(
+        EditMethod::Completion => match params_of(
             alloc,
             Method::Edit(EditMethod::Completion),
             params,
-        )?)),
-        EditMethod::CompletionResolve => Ok(EditCall::CompletionResolve(params_of(
+        ) {
+            Ok(params) => Ok(EditCall::Completion(params)),
+            Err(misfit) => Err(misfit),
+        },
+        EditMethod::CompletionResolve => match params_of(
             alloc,
             Method::Edit(EditMethod::CompletionResolve),
             params,
-        )?)),
-        EditMethod::SignatureHelp => Ok(EditCall::SignatureHelp(params_of(
+        ) {
+            Ok(params) => Ok(EditCall::CompletionResolve(params)),
+            Err(misfit) => Err(misfit),
+        },
+        EditMethod::SignatureHelp => match params_of(
             alloc,
             Method::Edit(EditMethod::SignatureHelp),
             params,
-        )?)),
-        EditMethod::CodeAction => Ok(EditCall::CodeAction(params_of(
+        ) {
+            Ok(params) => Ok(EditCall::SignatureHelp(params)),
+            Err(misfit) => Err(misfit),
+        },
+        EditMethod::CodeAction => match params_of(
             alloc,
             Method::Edit(EditMethod::CodeAction),
             params,
-        )?)),
-        EditMethod::CodeActionResolve => Ok(EditCall::CodeActionResolve(params_of(
+        ) {
+            Ok(params) => Ok(EditCall::CodeAction(params)),
+            Err(misfit) => Err(misfit),
+        },
+        EditMethod::CodeActionResolve => match params_of(
             alloc,
             Method::Edit(EditMethod::CodeActionResolve),
             params,
-        )?)),
-        EditMethod::Formatting => Ok(EditCall::Formatting(params_of(
+        ) {
+            Ok(params) => Ok(EditCall::CodeActionResolve(params)),
+            Err(misfit) => Err(misfit),
+        },
+        EditMethod::Formatting => match params_of(
             alloc,
             Method::Edit(EditMethod::Formatting),
             params,
-        )?)),
-        EditMethod::RangeFormatting => Ok(EditCall::RangeFormatting(params_of(
+        ) {
+            Ok(params) => Ok(EditCall::Formatting(params)),
+            Err(misfit) => Err(misfit),
+        },
+        EditMethod::RangeFormatting => match params_of(
             alloc,
             Method::Edit(EditMethod::RangeFormatting),
             params,
-        )?)),
-        EditMethod::OnTypeFormatting => Ok(EditCall::OnTypeFormatting(params_of(
+        ) {
+            Ok(params) => Ok(EditCall::RangeFormatting(params)),
+            Err(misfit) => Err(misfit),
+        },
+        EditMethod::OnTypeFormatting => match params_of(
             alloc,
             Method::Edit(EditMethod::OnTypeFormatting),
             params,
-        )?)),
-        EditMethod::Rename => Ok(EditCall::Rename(params_of(
-            alloc,
-            Method::Edit(EditMethod::Rename),
-            params,
-        )?)),
-        EditMethod::PrepareRename => Ok(EditCall::PrepareRename(params_of(
+        ) {
+            Ok(params) => Ok(EditCall::OnTypeFormatting(params)),
+            Err(misfit) => Err(misfit),
+        },
+        EditMethod::Rename => match params_of(alloc, Method::Edit(EditMethod::Rename), params) {
+            Ok(params) => Ok(EditCall::Rename(params)),
+            Err(misfit) => Err(misfit),
+        },
+        EditMethod::PrepareRename => match params_of(
             alloc,
             Method::Edit(EditMethod::PrepareRename),
             params,
-        )?)),
-        EditMethod::LinkedEditingRange => Ok(EditCall::LinkedEditingRange(params_of(
+        ) {
+            Ok(params) => Ok(EditCall::PrepareRename(params)),
+            Err(misfit) => Err(misfit),
+        },
+        EditMethod::LinkedEditingRange => match params_of(
             alloc,
             Method::Edit(EditMethod::LinkedEditingRange),
             params,
-        )?)),
-        EditMethod::Diagnostic => Ok(EditCall::Diagnostic(params_of(
+        ) {
+            Ok(params) => Ok(EditCall::LinkedEditingRange(params)),
+            Err(misfit) => Err(misfit),
+        },
+        EditMethod::Diagnostic => match params_of(
             alloc,
             Method::Edit(EditMethod::Diagnostic),
             params,
-        )?)),
+        ) {
+            Ok(params) => Ok(EditCall::Diagnostic(params)),
+            Err(misfit) => Err(misfit),
+        },
     }
 }
 
@@ -369,73 +474,106 @@ fn read_work(
         (option_map (λ v. view v.now) params.entry)) e) }
 {
     match method {
-        WorkMethod::WorkspaceDiagnostic => Ok(WorkCall::WorkspaceDiagnostic(params_of(
+        WorkMethod::WorkspaceDiagnostic => match params_of(
             alloc,
             Method::Work(WorkMethod::WorkspaceDiagnostic),
             params,
-        )?)),
-        WorkMethod::Symbol => Ok(WorkCall::Symbol(params_of(
-            alloc,
-            Method::Work(WorkMethod::Symbol),
-            params,
-        )?)),
-        WorkMethod::SymbolResolve => Ok(WorkCall::SymbolResolve(params_of(
+        ) {
+            Ok(params) => Ok(WorkCall::WorkspaceDiagnostic(params)),
+            Err(misfit) => Err(misfit),
+        },
+        WorkMethod::Symbol => match params_of(alloc, Method::Work(WorkMethod::Symbol), params) {
+            Ok(params) => Ok(WorkCall::Symbol(params)),
+            Err(misfit) => Err(misfit),
+        },
+        WorkMethod::SymbolResolve => match params_of(
             alloc,
             Method::Work(WorkMethod::SymbolResolve),
             params,
-        )?)),
-        WorkMethod::DidChangeConfiguration => Ok(WorkCall::DidChangeConfiguration(params_of(
+        ) {
+            Ok(params) => Ok(WorkCall::SymbolResolve(params)),
+            Err(misfit) => Err(misfit),
+        },
+        WorkMethod::DidChangeConfiguration => match params_of(
             alloc,
             Method::Work(WorkMethod::DidChangeConfiguration),
             params,
-        )?)),
-        WorkMethod::DidChangeWorkspaceFolders => Ok(WorkCall::DidChangeWorkspaceFolders(
-            params_of(
-                alloc,
-                Method::Work(WorkMethod::DidChangeWorkspaceFolders),
-                params,
-            )?,
-        )),
-        WorkMethod::WillCreateFiles => Ok(WorkCall::WillCreateFiles(params_of(
+        ) {
+            Ok(params) => Ok(WorkCall::DidChangeConfiguration(params)),
+            Err(misfit) => Err(misfit),
+        },
+        WorkMethod::DidChangeWorkspaceFolders => match params_of(
+            alloc,
+            Method::Work(WorkMethod::DidChangeWorkspaceFolders),
+            params,
+        ) {
+            Ok(params) => Ok(WorkCall::DidChangeWorkspaceFolders(params)),
+            Err(misfit) => Err(misfit),
+        },
+        WorkMethod::WillCreateFiles => match params_of(
             alloc,
             Method::Work(WorkMethod::WillCreateFiles),
             params,
-        )?)),
-        WorkMethod::DidCreateFiles => Ok(WorkCall::DidCreateFiles(params_of(
+        ) {
+            Ok(params) => Ok(WorkCall::WillCreateFiles(params)),
+            Err(misfit) => Err(misfit),
+        },
+        WorkMethod::DidCreateFiles => match params_of(
             alloc,
             Method::Work(WorkMethod::DidCreateFiles),
             params,
-        )?)),
-        WorkMethod::WillRenameFiles => Ok(WorkCall::WillRenameFiles(params_of(
+        ) {
+            Ok(params) => Ok(WorkCall::DidCreateFiles(params)),
+            Err(misfit) => Err(misfit),
+        },
+        WorkMethod::WillRenameFiles => match params_of(
             alloc,
             Method::Work(WorkMethod::WillRenameFiles),
             params,
-        )?)),
-        WorkMethod::DidRenameFiles => Ok(WorkCall::DidRenameFiles(params_of(
+        ) {
+            Ok(params) => Ok(WorkCall::WillRenameFiles(params)),
+            Err(misfit) => Err(misfit),
+        },
+        WorkMethod::DidRenameFiles => match params_of(
             alloc,
             Method::Work(WorkMethod::DidRenameFiles),
             params,
-        )?)),
-        WorkMethod::WillDeleteFiles => Ok(WorkCall::WillDeleteFiles(params_of(
+        ) {
+            Ok(params) => Ok(WorkCall::DidRenameFiles(params)),
+            Err(misfit) => Err(misfit),
+        },
+        WorkMethod::WillDeleteFiles => match params_of(
             alloc,
             Method::Work(WorkMethod::WillDeleteFiles),
             params,
-        )?)),
-        WorkMethod::DidDeleteFiles => Ok(WorkCall::DidDeleteFiles(params_of(
+        ) {
+            Ok(params) => Ok(WorkCall::WillDeleteFiles(params)),
+            Err(misfit) => Err(misfit),
+        },
+        WorkMethod::DidDeleteFiles => match params_of(
             alloc,
             Method::Work(WorkMethod::DidDeleteFiles),
             params,
-        )?)),
-        WorkMethod::DidChangeWatchedFiles => Ok(WorkCall::DidChangeWatchedFiles(params_of(
+        ) {
+            Ok(params) => Ok(WorkCall::DidDeleteFiles(params)),
+            Err(misfit) => Err(misfit),
+        },
+        WorkMethod::DidChangeWatchedFiles => match params_of(
             alloc,
             Method::Work(WorkMethod::DidChangeWatchedFiles),
             params,
-        )?)),
-        WorkMethod::ExecuteCommand => Ok(WorkCall::ExecuteCommand(params_of(
+        ) {
+            Ok(params) => Ok(WorkCall::DidChangeWatchedFiles(params)),
+            Err(misfit) => Err(misfit),
+        },
+        WorkMethod::ExecuteCommand => match params_of(
             alloc,
             Method::Work(WorkMethod::ExecuteCommand),
             params,
-        )?)),
+        ) {
+            Ok(params) => Ok(WorkCall::ExecuteCommand(params)),
+            Err(misfit) => Err(misfit),
+        },
     }
 }
 
@@ -451,13 +589,37 @@ pub(crate) fn read_call(
         (option_map (λ v. view v.now) params.entry)) e) }
 {
     match method {
-        Method::Life(method) => Ok(Call::Life(read_life(alloc, method, params)?)),
-        Method::Sync(method) => Ok(Call::Sync(read_sync(alloc, method, params)?)),
-        Method::Goto(method) => Ok(Call::Goto(read_goto(alloc, method, params)?)),
-        Method::Hierarchy(method) => Ok(Call::Hierarchy(read_hierarchy(alloc, method, params)?)),
-        Method::Show(method) => Ok(Call::Show(read_show(alloc, method, params)?)),
-        Method::Token(method) => Ok(Call::Token(read_token(alloc, method, params)?)),
-        Method::Edit(method) => Ok(Call::Edit(read_edit(alloc, method, params)?)),
-        Method::Work(method) => Ok(Call::Work(read_work(alloc, method, params)?)),
+        Method::Life(method) => match read_life(alloc, method, params) {
+            Ok(call) => Ok(Call::Life(call)),
+            Err(misfit) => Err(misfit),
+        },
+        Method::Sync(method) => match read_sync(alloc, method, params) {
+            Ok(call) => Ok(Call::Sync(call)),
+            Err(misfit) => Err(misfit),
+        },
+        Method::Goto(method) => match read_goto(alloc, method, params) {
+            Ok(call) => Ok(Call::Goto(call)),
+            Err(misfit) => Err(misfit),
+        },
+        Method::Hierarchy(method) => match read_hierarchy(alloc, method, params) {
+            Ok(call) => Ok(Call::Hierarchy(call)),
+            Err(misfit) => Err(misfit),
+        },
+        Method::Show(method) => match read_show(alloc, method, params) {
+            Ok(call) => Ok(Call::Show(call)),
+            Err(misfit) => Err(misfit),
+        },
+        Method::Token(method) => match read_token(alloc, method, params) {
+            Ok(call) => Ok(Call::Token(call)),
+            Err(misfit) => Err(misfit),
+        },
+        Method::Edit(method) => match read_edit(alloc, method, params) {
+            Ok(call) => Ok(Call::Edit(call)),
+            Err(misfit) => Err(misfit),
+        },
+        Method::Work(method) => match read_work(alloc, method, params) {
+            Ok(call) => Ok(Call::Work(call)),
+            Err(misfit) => Err(misfit),
+        },
     }
 }

@@ -1,25 +1,20 @@
 // A service: a language server behind a method table.
-ghost use Rattle.std.specs.Prelude.{◌≡◌, IfOk, IfErr, OnOk, None, true, not, option_map};
+ghost use Rattle.std.specs.Prelude.{◌≡◌, IfOk, IfErr, None, true, not, option_map};
 ghost use Rattle.serde_json.specs.View.{view};
-ghost use Rattle.lsp_rpc.specs.Shown.{show_body};
 ghost use Rattle.lsp_session.specs.Semantics.{call as call_read};
 ghost use Rattle.lsp_methods.specs.Methods.{method_at};
-ghost use Rattle.lsp_service.specs.Calls.{show_call, target_of};
-ghost use Rattle.lsp_service.specs.Data.{outcome_by};
+ghost use Rattle.lsp_service.specs.Calls.{target_of};
+ghost use Rattle.lsp_service.specs.Data.{custom};
 ghost use Rattle.lsp_service.specs.Incoming.{show_incoming};
-ghost use Rattle.lsp_service.specs.Reads.{reading_at, reading_custom, reading_entry, Refuses};
-ghost use Rattle.lsp_service.specs.Replies.{show_reply};
+ghost use Rattle.lsp_service.specs.Reads.{reading_custom, Refuses};
 
-use crate::answer::unless_float;
 use crate::call::{Call, Target};
 use crate::incoming::Incoming;
 use crate::read::read_call;
-use crate::reply::Reply;
 use crate::server::{LanguageServer, Started};
-use crate::write::write_reply;
+use crate::write::outcome;
 use lsp_desk::{Caller, DeskFault};
 use lsp_methods::{Method, STANDARD, ServiceTable};
-use lsp_rpc::{Error, NoMemory};
 use lsp_session::{CallMisfit, Entry, Handlers, Kind, Progress};
 use serde_json::Value;
 use std::alloc::Global;
@@ -74,7 +69,20 @@ impl<D: Caller, S: LanguageServer<D>> Handlers<D> for LspService<S> {
         entry: Entry,
         params: Option<&Value>,
     ) -> Result<Incoming, CallMisfit> {
-        read_entry(alloc, entry, params)
+        let kind = entry.kind;
+        match Method::at(entry.place) {
+            Some(method) => match read_call(alloc, method, params) {
+                Ok(call) => Ok(Incoming { call, kind }),
+                Err(misfit) => Err(misfit),
+            },
+            None => match read_custom(entry.place, params) {
+                Ok((number, params)) => Ok(Incoming {
+                    call: Call::Custom(number, params),
+                    kind,
+                }),
+                Err(misfit) => Err(misfit),
+            },
+        }
     }
 
     fn begin(
@@ -116,47 +124,11 @@ impl<D: Caller, S: LanguageServer<D>> Handlers<D> for LspService<S> {
     }
 }
 
-// What a reply to this call comes to.
-fn outcome(alloc: Global, target: Target, reply: Reply) -> Result<Result<Value, Error>, NoMemory>
-    ensures { IfOk result (λ body. show_body body ≡ outcome_by target (show_reply reply)) }
-{
-    let body = write_reply(alloc, target, reply)?;
-    unless_float(alloc, body)
-}
-
-// The call that the params of a request by that entry are.
-fn read_entry(alloc: Global, entry: Entry, params: Option<&Value>) -> Result<Incoming, CallMisfit>
-    ensures ok { IfOk result (λ c. reading_entry entry (option_map (λ v. view v.now) params.entry)
-        ≡ call_read (show_incoming c)) }
-    ensures err { IfErr result (λ e. Refuses (reading_entry entry (option_map (λ v. view v.now)
-        params.entry)) e) }
-{
-    match read_at(alloc, entry.place, params) {
-        Ok(call) => Ok(Incoming {
-            call,
-            kind: entry.kind,
-        }),
-        Err(misfit) => Err(misfit),
-    }
-}
-
-// The call that the params of the method at that place are.
-fn read_at(alloc: Global, place: u64, params: Option<&Value>) -> Result<Call, CallMisfit>
-    ensures ok { IfOk result (λ c. reading_at place (option_map (λ v. view v.now) params.entry)
-        ≡ call_read (show_call c)) }
-    ensures err { IfErr result (λ e. Refuses (reading_at place (option_map (λ v. view v.now)
-        params.entry)) e) }
-{
-    match Method::at(place) {
-        Some(method) => read_call(alloc, method, params),
-        None => read_custom(alloc, place, params),
-    }
-}
-
-// A custom method takes any params or none.
-fn read_custom(alloc: Global, place: u64, params: Option<&Value>) -> Result<Call, CallMisfit>
+// Behind the standard methods stand the custom ones, which take any params or none. The answer is
+// the method's number and its params.
+fn read_custom(place: u64, params: Option<&Value>) -> Result<(u64, Option<Value>), CallMisfit>
     ensures ok { IfOk result (λ c. reading_custom place (option_map (λ v. view v.now) params.entry)
-        ≡ call_read (show_call c)) }
+        ≡ call_read (custom c.0 (option_map view c.1))) }
     ensures err { IfErr result (λ e. Refuses (reading_custom place (option_map (λ v. view v.now)
         params.entry)) e) }
 {
@@ -164,9 +136,9 @@ fn read_custom(alloc: Global, place: u64, params: Option<&Value>) -> Result<Call
         return Err(CallMisfit::Unfit);
     }
     match params {
-        None => Ok(Call::Custom(place - STANDARD, None)),
+        None => Ok((place - STANDARD, None)),
         Some(value) => match value.clone() {
-            Ok(copy) => Ok(Call::Custom(place - STANDARD, Some(copy))),
+            Ok(copy) => Ok((place - STANDARD, Some(copy))),
             Err(_) => Err(CallMisfit::NoMemory),
         },
     }

@@ -1,10 +1,10 @@
-// What is written for a reply.
+// What a reply comes to.
 ghost use Rattle.std.specs.Prelude.{◌≡◌, IfOk};
 ghost use Rattle.lsp_rpc.specs.Shown.{show_body};
-ghost use Rattle.lsp_service.specs.Data.{written_by};
+ghost use Rattle.lsp_service.specs.Data.{outcome_by};
 ghost use Rattle.lsp_service.specs.Replies.{show_reply, show_life_reply, show_sync_reply, show_goto_reply, show_hierarchy_reply, show_show_reply, show_token_reply, show_edit_reply, show_work_reply};
 
-use crate::answer::{answered, custom_answered, noted};
+use crate::answer::{answered, custom_answered, noted, unless_float};
 use crate::call::Target;
 use crate::reply::{
     EditReply, GotoReply, HierarchyReply, LifeReply, Reply, ShowReply, SyncReply, TokenReply,
@@ -24,7 +24,7 @@ fn write_life(
     reply: LifeReply,
 ) -> Result<Result<Value, Error>, NoMemory>
     ensures { IfOk result (λ body. show_body body
-        ≡ written_by target (show_life_reply reply)) }
+        ≡ outcome_by target (show_life_reply reply)) }
 {
     match reply {
         LifeReply::Initialize(body) => answered(
@@ -48,7 +48,7 @@ fn write_sync(
     reply: SyncReply,
 ) -> Result<Result<Value, Error>, NoMemory>
     ensures { IfOk result (λ body. show_body body
-        ≡ written_by target (show_sync_reply reply)) }
+        ≡ outcome_by target (show_sync_reply reply)) }
 {
     match reply {
         SyncReply::WillSaveWaitUntil(body) => answered(
@@ -66,7 +66,7 @@ fn write_goto(
     reply: GotoReply,
 ) -> Result<Result<Value, Error>, NoMemory>
     ensures { IfOk result (λ body. show_body body
-        ≡ written_by target (show_goto_reply reply)) }
+        ≡ outcome_by target (show_goto_reply reply)) }
 {
     match reply {
         GotoReply::GotoDeclaration(body) => answered(
@@ -114,7 +114,7 @@ fn write_hierarchy(
     reply: HierarchyReply,
 ) -> Result<Result<Value, Error>, NoMemory>
     ensures { IfOk result (λ body. show_body body
-        ≡ written_by target (show_hierarchy_reply reply)) }
+        ≡ outcome_by target (show_hierarchy_reply reply)) }
 {
     match reply {
         HierarchyReply::PrepareCallHierarchy(body) => answered(
@@ -162,7 +162,7 @@ fn write_show(
     reply: ShowReply,
 ) -> Result<Result<Value, Error>, NoMemory>
     ensures { IfOk result (λ body. show_body body
-        ≡ written_by target (show_show_reply reply)) }
+        ≡ outcome_by target (show_show_reply reply)) }
 {
     match reply {
         ShowReply::DocumentLink(body) => answered(
@@ -223,7 +223,7 @@ fn write_token(
     reply: TokenReply,
 ) -> Result<Result<Value, Error>, NoMemory>
     ensures { IfOk result (λ body. show_body body
-        ≡ written_by target (show_token_reply reply)) }
+        ≡ outcome_by target (show_token_reply reply)) }
 {
     match reply {
         TokenReply::SemanticTokensFull(body) => answered(
@@ -271,7 +271,7 @@ fn write_edit(
     reply: EditReply,
 ) -> Result<Result<Value, Error>, NoMemory>
     ensures { IfOk result (λ body. show_body body
-        ≡ written_by target (show_edit_reply reply)) }
+        ≡ outcome_by target (show_edit_reply reply)) }
 {
     match reply {
         EditReply::Completion(body) => answered(
@@ -350,7 +350,7 @@ fn write_work(
     reply: WorkReply,
 ) -> Result<Result<Value, Error>, NoMemory>
     ensures { IfOk result (λ body. show_body body
-        ≡ written_by target (show_work_reply reply)) }
+        ≡ outcome_by target (show_work_reply reply)) }
 {
     match reply {
         WorkReply::WorkspaceDiagnostic(body) => answered(
@@ -393,13 +393,13 @@ fn write_work(
     }
 }
 
-/// What is written for a reply, where this was called.
-pub(crate) fn write_reply(
+/// What a reply comes to, where this was called.
+pub(crate) fn outcome(
     alloc: Global,
     target: Target,
     reply: Reply,
 ) -> Result<Result<Value, Error>, NoMemory>
-    ensures { IfOk result (λ body. show_body body ≡ written_by target (show_reply reply)) }
+    ensures { IfOk result (λ body. show_body body ≡ outcome_by target (show_reply reply)) }
 {
     match reply {
         Reply::Life(reply) => write_life(alloc, target, reply),
@@ -411,7 +411,7 @@ pub(crate) fn write_reply(
         Reply::Edit(reply) => write_edit(alloc, target, reply),
         Reply::Work(reply) => write_work(alloc, target, reply),
         Reply::Custom(body) => custom_answered(alloc, target, body),
-        Reply::Error(error) => Ok(Err(error)),
+        Reply::Error(error) => unless_float(alloc, Err(error)),
         Reply::Noted => noted(alloc, target),
     }
 }

@@ -22,13 +22,13 @@ loop-side-preserved c =
     let free = subst (λ (l : List (Side × Message)). AreFloatFree (all_sent l)) coming c.loop-side.invariant.free in
     record {
       free = free.1;
-      framed = ap (λ l. l ++ sent_frames (all_sent left)) (c.in_ok-encode.ensures.ok ∙ ap (λ m. before ++ frame_text m) c.in_ok-note.ensures)
+      framed = ap (λ l. l ++ sent_frames (all_sent left)) (c.in_ok-push_message.ensures.ok ∙ ap (λ m. before ++ frame_text m) c.in_ok-note.ensures)
           ∙ append_assoc before text (sent_frames (all_sent left))
           ∙ ap (λ (l : List (Side × Message)). before ++ sent_frames (all_sent l)) (sym coming)
           ∙ c.loop-side.invariant.framed;
     }
 
-pub encode-requires : goal.encode-requires
-encode-requires c =
+pub push_message-requires : goal.push_message-requires
+push_message-requires c =
     let free = subst (λ (l : List (Side × Message)). AreFloatFree (all_sent l)) c.in-Some.ensures.steps.0 c.loop-side.invariant.free in
     ap message_has_float c.in_ok-note.ensures ∙ note_free (c.in-Some.side, show_message c.in-Some.message) free.0

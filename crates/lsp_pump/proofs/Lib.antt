@@ -1,0 +1,4 @@
+pub mod SpacedLemmas
+pub mod StepsLemmas
+pub mod ReadingLemmas
+pub mod PumpedLemmas

@@ -1,0 +1,5 @@
+pub mod Spaced
+pub mod Pieces
+pub mod Steps
+pub mod Reading
+pub mod Pumped

@@ -1,0 +1,20 @@
+// Pieces of items, and the ring that they go through.
+use lsp_session::Item;
+use rtrb::{Consumer, Producer, Protocol};
+use std::alloc::Global;
+
+/// No message of a piece holds a float.
+#[derive(Clone, Copy)]
+pub struct FloatFree;
+
+impl Protocol<Vec<Item>> for FloatFree {
+    ghost use Rattle.lsp_pump.specs.Pieces.{piece_items, AreFloatFree};
+
+    ghost allows = { λ before piece. AreFloatFree (piece_items piece) };
+}
+
+/// The reader's end of the ring.
+pub(crate) type Sender = Producer<Vec<Item>, Global, FloatFree>;
+
+/// The session's end of the ring.
+pub(crate) type Pieces = Consumer<Vec<Item>, Global, FloatFree>;

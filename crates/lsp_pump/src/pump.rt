@@ -1,0 +1,406 @@
+//! A session that is served while a thread of its own reads.
+ghost use Rattle.std.specs.Prelude.{◌≡◌, ◌≢◌, ◌≤◌, ◌<◌, ◌+◌, ◌*◌, ◌⊎◌, [], ℕ, true, None, length, is_some, IfOk, IfErr, IfSome, OnOk, IsErrAnd};
+ghost use Rattle.std.specs.Result.{result_err};
+ghost use Rattle.rtrb.specs.Ring.{sent, received, IsPair};
+ghost use Rattle.lsp_desk.specs.Meaning.{IsOpening, Grown};
+ghost use Rattle.lsp_frame.specs.Codec.{start_by, told_at};
+ghost use Rattle.lsp_session.specs.Run.{Step, order_by};
+ghost use Rattle.lsp_session.specs.SessionView.{session_view, desk_of};
+ghost use Rattle.lsp_server.specs.SourceSink.{CountRose, IsFlushed};
+ghost use Rattle.lsp_server.specs.Items.{stream_items};
+ghost use Rattle.lsp_server.specs.Course.{course, course_from, codec_of, picked};
+ghost use Rattle.lsp_server.specs.Errors.{IsBetweenReads, IsFlushedAt, IsInStep, ComesUnfailed, SaysSpent};
+ghost use Rattle.lsp_server.specs.Leaves.{LeavesFaults, StaysFlushed, WithinReads};
+ghost use Rattle.lsp_server.specs.Served.{call_bytes};
+ghost use Rattle.lsp_server.specs.ServedView.{show_served};
+ghost use Rattle.lsp_server.specs.ServerView.{standing, IsReady, server_desk, setting};
+ghost use Rattle.lsp_pump.specs.Steps.{StepsAnswered, MayGoOn, StandsAfter, FailsInStep};
+ghost use Rattle.lsp_pump.specs.Reading.{EndsBy, ReadAndServed, IsReadingOf};
+ghost use Rattle.lsp_pump.specs.Pumped.{PumpsOver, TellsPumpFaults, IsPumped, PumpedEnough, WrotePumped, PumpedPart};
+
+use crate::job::{Ended, ReadEnd, Reading, read_job};
+use crate::pieces::{FloatFree, Pieces, Sender};
+use crate::signal::Signal;
+use crate::steps::{finish, serve_rest, serve_waiting};
+use bytes::BytesMut;
+use lsp_desk::{Desk, Loopback};
+use lsp_frame::{CodecSettings, LanguageServerCodec};
+use lsp_server::{ServeError, Served, Server, Sink, Source, Stopped, hand_back, open, stop};
+use lsp_session::{Handlers, Pick, Session};
+use rtrb::RingBuffer;
+use std::alloc::{AllocError, Global};
+use std::snapshot::Snapshot;
+use std::sync::{Arc, Wait};
+use std::thread::{self, Promise, PromisedHandle, Threads};
+
+// How many pieces wait on the ring at most.
+const PLACES: usize = 16;
+
+/// What a reading thread promises of the reading that it was given.
+#[derive(Drop)]
+struct Promised<I> {
+    start: Snapshot<Reading<I>>,
+    reads: u64,
+}
+
+impl<I: Source> Promise<ReadEnd<I>> for Promised<I> {
+    ghost kept_by = { λ p end. IsReadingOf I.left I.faults p.start.value p.reads end };
+}
+
+// The session's end of the ring, and the signal twice: for the reader and for the session.
+#[derive(Drop)]
+struct Lines {
+    pieces: Pieces,
+    theirs: Arc<Signal, Global>,
+    ours: Arc<Signal, Global>,
+}
+
+fn make_lines(alloc: Global) -> Result<(Sender, Lines), AllocError>
+    ensures fresh { IfOk result (λ r. sent r.0 ≡ []) }
+    ensures pair { IfOk result (λ r. (received r.1.pieces ≡ []) × IsPair r.0 r.1.pieces) }
+{
+    let (sender, pieces) = RingBuffer::with_protocol::<Global, FloatFree>(alloc, PLACES)?;
+    let ours = Arc::new(alloc, Signal::new())?;
+    let theirs = Arc::try_clone(&ours)?;
+    let lines = Lines {
+        pieces,
+        theirs,
+        ours,
+    };
+    Ok((sender, lines))
+}
+
+// Starts the reading on a thread of its own. Where none can be started nothing is read.
+fn start<R: Threads, I: Source + Send + Drop + 'static>(
+    rt: &R,
+    alloc: Global,
+    reading: Reading<I>,
+    reads: u64,
+    theirs: Arc<Signal, Global>,
+    ours: &Signal,
+) -> Result<PromisedHandle<ReadEnd<I>, Promised<I>>, ReadEnd<I>>
+    requires fresh { sent reading.sender ≡ [] }
+    requires told { told_at reading.codec ≡ [] }
+    ensures started { IfOk result (λ handle. (handle.promise.start.value ≡ reading)
+        × (handle.promise.reads ≡ reads)) }
+    ensures refused { IfErr result (λ end. IsReadingOf I.left I.faults reading reads end) }
+{
+    let promise = Promised {
+        start: Snapshot::of(&reading),
+        reads,
+    };
+    let started = thread::spawn_with(
+        rt,
+        promise,
+        move || -> ReadEnd<I>
+            requires { (sent reading.sender ≡ []) × (told_at reading.codec ≡ []) }
+            ensures { IsReadingOf I.left I.faults reading reads result }
+        { read_job(alloc, reading, reads, &theirs) },
+    );
+    match started {
+        Ok(handle) => Ok(handle),
+        Err(refused) => {
+            ours.call_off();
+            Err((refused.value)())
+        }
+    }
+}
+
+// What is left of a reading whose items were served.
+#[derive(Drop)]
+struct Rest<I> {
+    source: I,
+    codec: LanguageServerCodec,
+    made: u64,
+    ended: Ended,
+}
+
+// Serves all that a reading gives, which goes on beside it, through the first exit. It says whether
+// there was one.
+fn serve_beside<
+    R: Threads + Wait,
+    I: Source + Send + Drop + 'static,
+    O: Sink,
+    D: Desk + Drop,
+    H: Handlers<D>,
+    P: Pick,
+>(
+    rt: &R,
+    alloc: Global,
+    reading: Reading<I>,
+    lines: Lines,
+    sink: &mut O,
+    session: &mut Session<H, D>,
+    pick: &mut P,
+    reads: u64,
+    rounds: u64,
+) -> (Rest<I>, Result<bool, ServeError>)
+    requires going { MayGoOn H.semantics D.meaning session.old }
+    requires told { told_at reading.codec ≡ [] }
+    requires fresh { sent reading.sender ≡ [] }
+    requires pair { (received lines.pieces ≡ []) × IsPair reading.sender lines.pieces }
+    ensures serves { ReadAndServed reading.codec (I.left reading.source) (I.left result.0.source)
+        result.0.made result.0.codec result.0.ended
+        (λ given. StepsAnswered (Step H.semantics (order_by P.gives P.later) rounds) D.meaning
+        (H.semantics.find (session_view H.semantics D.meaning session.old).state.service)
+        (standing H.semantics D.meaning session.old (P.state pick.old) (O.taken sink.old))
+        given result.1
+        (standing H.semantics D.meaning session.new (P.state pick.new) (O.taken sink.new))) }
+    ensures ends { EndsBy (I.left reading.source) (I.left result.0.source)
+        (I.faults reading.source) (I.faults result.0.source) reads result.0.made result.0.ended }
+    ensures stands { IfOk result.1 (StandsAfter H.semantics D.meaning session.new) }
+    ensures fails { IfErr result.1 (FailsInStep D.meaning (desk_of session.new)) }
+    ensures grown { Grown D.meaning (desk_of session.old) (desk_of session.new) }
+    ensures flushed { StaysFlushed (O.taken sink.old) (O.flushed sink.old)
+        (O.taken sink.new) (O.flushed sink.new) (result_err result.1) }
+    ensures sink { LeavesFaults O.faults O.beside sink.old sink.new (result_err result.1) }
+{
+    let Lines {
+        mut pieces,
+        theirs,
+        ours,
+    } = lines;
+    let mut room = BytesMut::new(alloc);
+    let (end, served) = match start(rt, alloc, reading, reads, theirs, &ours) {
+        Ok(handle) => {
+            let served = serve_waiting(
+                rt,
+                alloc,
+                &mut room,
+                sink,
+                session,
+                &mut pieces,
+                &ours,
+                pick,
+                rounds,
+            );
+            (handle.join(rt), served)
+        }
+        Err(end) => (end, Ok(false)),
+    };
+    let ReadEnd {
+        source,
+        codec,
+        mut sender,
+        back,
+        made,
+        ended,
+    } = end;
+    pieces.slots_beside(&mut sender);
+    let served = match served {
+        Ok(false) => serve_rest(
+            alloc,
+            &mut room,
+            sink,
+            session,
+            &mut pieces,
+            back,
+            pick,
+            rounds,
+        ),
+        _ => served,
+    };
+    let rest = Rest {
+        source,
+        codec,
+        made,
+        ended,
+    };
+    (rest, served)
+}
+
+// Serves a session from where it stands, while a thread of its own reads on from a codec.
+fn pump_session<
+    R: Threads + Wait,
+    I: Source + Send + Drop + 'static,
+    O: Sink,
+    D: Desk + Drop,
+    H: Handlers<D>,
+    P: Pick,
+>(
+    rt: &R,
+    alloc: Global,
+    source: I,
+    codec: LanguageServerCodec,
+    sink: &mut O,
+    session: &mut Session<H, D>,
+    pick: &mut P,
+    reads: u64,
+    rounds: u64,
+) -> (I, Result<(), ServeError>)
+    requires going { MayGoOn H.semantics D.meaning session.old }
+    requires told { told_at codec ≡ [] }
+    ensures pumps { IfSome (I.left source) (λ bytes. PumpsOver
+        (course_from H.semantics D.meaning (order_by P.gives P.later) rounds codec.settings
+        (session_view H.semantics D.meaning session.old) (P.state pick.old)) codec
+        (call_bytes bytes (I.left result.0) (O.taken sink.old) (O.taken sink.new))
+        (picked (session_view H.semantics D.meaning session.new) (P.state pick.new))
+        (desk_of session.new) (result_err result.1)) }
+    ensures ready { OnOk result.1 (IsReady H.semantics D.meaning session.new) }
+    ensures grown { Grown D.meaning (desk_of session.old) (desk_of session.new) }
+    ensures desk_spent { IfErr result.1 (λ e. SaysSpent D.meaning (desk_of session.new) e) }
+    ensures flushed { StaysFlushed (O.taken sink.old) (O.flushed sink.old)
+        (O.taken sink.new) (O.flushed sink.new) (result_err result.1) }
+    ensures faults { TellsPumpFaults (I.faults source) (I.faults result.0)
+        (O.faults sink.old) (O.faults sink.new)
+        (is_some (session_view H.semantics D.meaning session.new).state.exited)
+        (result_err result.1) }
+    ensures within { WithinReads reads 4096 (I.left source) (I.left result.0) None None
+        (result_err result.1) }
+{
+    let Ok((sender, lines)) = make_lines(alloc) else {
+        return (source, Err(ServeError::NoMemory));
+    };
+    let reading = Reading {
+        source,
+        codec,
+        sender,
+    };
+    let (rest, served) = serve_beside(
+        rt, alloc, reading, lines, sink, session, pick, reads, rounds,
+    );
+    let Rest {
+        mut source,
+        mut codec,
+        made,
+        ended,
+    } = rest;
+    match served {
+        Ok(false) => {
+            let left = reads - made;
+            let mut room = BytesMut::new(alloc);
+            let finished = finish(
+                alloc,
+                &mut room,
+                &mut source,
+                &mut codec,
+                sink,
+                session,
+                pick,
+                ended,
+                left,
+                rounds,
+            );
+            (source, finished)
+        }
+        Ok(true) => (source, Ok(())),
+        Err(error) => (source, Err(error)),
+    }
+}
+
+/// Serves the messages of the source to the sink, to the end of input or the first `exit`, as
+/// [`Server::serve`] does, while a thread of its own reads: where input waits ticks are made, so that
+/// what the desk holds goes out. It hands the source back too.
+///
+/// It may wait for the source: what is said of its answer holds if it returns. Where no thread can
+/// be started the reads are made between the steps.
+pub fn pump<
+    R: Threads + Wait,
+    I: Source + Send + Drop + 'static,
+    O: Sink,
+    H: Handlers<D>,
+    D: Desk + Drop,
+    P: Pick,
+>(
+    rt: &R,
+    alloc: Global,
+    server: Server<D>,
+    source: I,
+    sink: &mut O,
+    service: H,
+    pick: &mut P,
+    reads: u64,
+    rounds: u64,
+) -> (I, Result<Served<H, D>, Stopped<D>>)
+    requires rounds { 1 ≤ rounds }
+    requires opening { IsOpening D.meaning (server_desk server) }
+
+    // The bytes written, and the service and desk handed back, are those of a session run over the
+    // items that the frame grammar finds in all the source's bytes, with ticks between them.
+    ensures headline { IfOk result.1 (λ served. IfSome (I.left source) (λ bytes. IsPumped
+        (course H.semantics D.meaning (order_by P.gives P.later)
+        (setting server service (P.state pick.old) rounds))
+        (call_bytes bytes (I.left result.0) (O.taken sink.old) (O.taken sink.new))
+        (show_served served) (P.state pick.new))) }
+
+    // Ok comes only at the end of input or at an exit.
+    ensures enough { OnOk result.1 (IfSome (I.left source) (λ bytes. PumpedEnough
+        (course H.semantics D.meaning (order_by P.gives P.later)
+        (setting server service (P.state pick.old) rounds))
+        (start_by (codec_of (setting server service (P.state pick.old) rounds)))
+        (call_bytes bytes (I.left result.0) (O.taken sink.old) (O.taken sink.new)))) }
+
+    // The bytes taken are flushed, if they were at the start, also at an error that isn't of the
+    // sink or of memory.
+    ensures flushed { OnOk result.1 (IsFlushed (O.taken sink.old) (O.flushed sink.old)
+        → IsFlushed (O.taken sink.new) (O.flushed sink.new)) }
+    ensures flushed_at { IfErr result.1 (λ stopped. IsFlushedAt stopped.error
+        → IsFlushed (O.taken sink.old) (O.flushed sink.old)
+        → IsFlushed (O.taken sink.new) (O.flushed sink.new)) }
+
+    // Each error has its cause.
+    ensures read { IfErr result.1 (λ stopped. stopped.error ≡ ServeError.ReadFault
+        → CountRose (I.faults source) (I.faults result.0)) }
+    ensures write { IfErr result.1 (λ stopped. stopped.error ≡ ServeError.WriteFault
+        → CountRose (O.faults sink.old) (O.faults sink.new)) }
+
+    // A failed write is told. A failed read is told, unless the session has ended by then.
+    ensures counts { (I.faults source ≤ I.faults result.0) × (O.faults sink.old ≤ O.faults sink.new) }
+    ensures write_told { O.faults sink.old < O.faults sink.new
+        → IsErrAnd result.1 (λ stopped. stopped.error ≡ ServeError.WriteFault) }
+    ensures read_told { I.faults source < I.faults result.0 → IfErr result.1
+        (λ stopped. (stopped.error ≡ ServeError.ReadFault) ⊎ IsInStep stopped.error) }
+    ensures unread { I.faults source < I.faults result.0
+        → IfOk result.1 (λ served. is_some served.exited ≡ true) }
+    ensures reads_spent { IfErr result.1 (λ stopped. stopped.error ≡ ServeError.ReadsSpent
+        → IfSome (I.left source) (λ bytes.
+        IfSome (I.left result.0) (λ rest. reads + length rest ≤ length bytes))) }
+    ensures desk_spent { IfErr result.1
+        (λ stopped. SaysSpent D.meaning stopped.desk stopped.error) }
+    ensures never_alone { IfErr result.1 (λ stopped. D.meaning.alone (server_desk server) ≡ true
+        → (n : ℕ) → stopped.error ≢ ServeError.DeskSpent n) }
+    ensures few { IfSome (I.left source) (λ bytes. IfSome (I.left result.0)
+        (λ rest. length bytes ≤ length rest + reads * 4096)) }
+
+    // So with no failure, and with more reads than bytes, only `NoMemory` may come, and `DeskSpent`
+    // over a desk that others use.
+    ensures complete { IfErr result.1 (λ stopped. IfSome (I.left source)
+        (λ bytes. length bytes < reads
+        → ¬ CountRose (I.faults source) (I.faults result.0)
+        → ¬ CountRose (O.faults sink.old) (O.faults sink.new)
+        → ComesUnfailed (D.meaning.alone (server_desk server)) stopped.error)) }
+
+    // What was written by then.
+    ensures exact { IfErr result.1 (λ stopped. IsBetweenReads stopped.error
+        → IfSome (I.left source) (λ bytes. WrotePumped
+        (course H.semantics D.meaning (order_by P.gives P.later)
+        (setting server service (P.state pick.old) rounds))
+        (call_bytes bytes (I.left result.0) (O.taken sink.old) (O.taken sink.new))
+        stopped.desk)) }
+    ensures part { IfErr result.1 (λ stopped. IfSome (I.left source) (λ bytes. PumpedPart
+        (course H.semantics D.meaning (order_by P.gives P.later)
+        (setting server service (P.state pick.old) rounds))
+        (stream_items (codec_of (setting server service (P.state pick.old) rounds)) bytes)
+        (call_bytes bytes (I.left result.0) (O.taken sink.old) (O.taken sink.new))
+        stopped.desk)) }
+
+    // At each answer the desk that is handed back has grown from the one that was handed in.
+    ensures grown { IfOk result.1 (λ served. Grown D.meaning (server_desk server) served.desk) }
+    ensures grown_stopped { IfErr result.1 (λ stopped. Grown D.meaning
+        (server_desk server) stopped.desk) }
+{
+    let settings = server.codec_settings();
+    let empty_params = server.allows_empty_params();
+    let (socket, max, wait, limits) = server.into_parts();
+    let floats = settings.floats;
+    let codec = LanguageServerCodec::with_settings(alloc, CodecSettings { limits, floats });
+    let desk = socket.into_desk();
+    let mut session = open(alloc, service, desk, max, wait, empty_params);
+    let (source, pumped) = pump_session(
+        rt, alloc, source, codec, sink, &mut session, pick, reads, rounds,
+    );
+    match pumped {
+        Ok(()) => (source, hand_back(session)),
+        Err(error) => (source, Err(stop(session, error))),
+    }
+}

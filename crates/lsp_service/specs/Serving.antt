@@ -1,0 +1,68 @@
+-- What serving a session comes to, over any source and sink.
+use Rattle.std.specs.Prelude.{◌≡◌, ◌≢◌, ◌≤◌, ◌<◌, ◌+◌, ◌*◌, ℕ, true, List, length, Option, Result, IfSome, OnOk, IfOk, IfErr, IsErrAnd}
+use Rattle.lsp_desk.specs.Meaning.{Grown}
+use Rattle.lsp_session.specs.State.{State}
+use Rattle.lsp_session.specs.Run.{Picked}
+use Rattle.lsp_server.specs.declared.server.Served.{Served}
+use Rattle.lsp_server.specs.declared.server.Stopped.{Stopped}
+use Rattle.lsp_server.specs.declared.step.ServeError.TheVariants.{ReadFault, WriteFault, ReadsSpent, DeskSpent}
+use Rattle.lsp_server.specs.SourceSink.{CountRose, IsFlushed}
+use Rattle.lsp_server.specs.Course.{Course}
+use Rattle.lsp_server.specs.Served.{CallBytes, call_bytes, IsServed, ReadEnough, WroteTold, WrotePart}
+use Rattle.lsp_server.specs.ServedView.{show_served}
+use Rattle.lsp_server.specs.Errors.{IsBetweenReads, IsFlushedAt, ComesUnfailed, SaysSpent}
+
+-- what a source and a sink tell of themselves before a call, and after it
+pub record SourceSinkTold : Type 0 where
+  -- the bytes that a source still has, and how many of its reads failed
+  pub left : Option (List ℕ)
+  pub left_after : Option (List ℕ)
+  pub reads_failed : ℕ
+  pub reads_failed_after : ℕ
+  -- the bytes that a sink took, how many of them are flushed, and how many of its writes failed
+  pub taken : Option (List ℕ)
+  pub taken_after : Option (List ℕ)
+  pub flushed : Option ℕ
+  pub flushed_after : Option ℕ
+  pub writes_failed : ℕ
+  pub writes_failed_after : ℕ
+
+abbrev pub bytes_of : SourceSinkTold → List ℕ → CallBytes
+bytes_of told bytes = call_bytes bytes told.left_after told.taken told.taken_after
+
+-- what was flushed stays so
+abbrev pub KeepsFlushed : SourceSinkTold → Type 0
+KeepsFlushed told = IsFlushed told.taken told.flushed → IsFlushed told.taken_after told.flushed_after
+
+module _ {H D C T P : Type 0} (course : Course (Picked (State H C T) P) D) where
+  -- the session was served to this result with at most so many reads, and left the pick in this state; `Server::serve`
+  -- ensures the same
+  pub record ServesSession (told : SourceSinkTold) (reads : ℕ) (pick : P) (result : Result (Served H D) (Stopped D)) : Type 0 where
+    -- what was written and is handed back is of a session over all the source's bytes
+    pub headline : IfOk result (λ view. IfSome told.left (λ bytes. IsServed course (bytes_of told bytes) (show_served view) pick))
+    -- it ends at the end of input or at an exit, and nothing is read after the piece that tells the exit
+    pub enough : OnOk result (IfSome told.left (λ bytes. ReadEnough course (bytes_of told bytes) 4096))
+    -- all bytes taken are flushed, if they were before, also at an error that isn't of the sink or of memory
+    pub flushed : OnOk result (KeepsFlushed told)
+    pub flushed_at : IfErr result (λ stopped. IsFlushedAt stopped.error → KeepsFlushed told)
+    -- each error has its cause
+    pub read : IfErr result (λ stopped. stopped.error ≡ ReadFault → CountRose told.reads_failed told.reads_failed_after)
+    pub write : IfErr result (λ stopped. stopped.error ≡ WriteFault → CountRose told.writes_failed told.writes_failed_after)
+    pub reads_spent : IfErr result (λ stopped. stopped.error ≡ ReadsSpent → IfSome told.left (λ bytes. IfSome told.left_after (λ rest. reads + length rest ≤ length bytes)))
+    pub desk_spent : IfErr result (λ stopped. SaysSpent course.meaning stopped.desk stopped.error)
+    pub never_alone : IfErr result (λ stopped. course.meaning.alone course.desk ≡ true → (n : ℕ) → stopped.error ≢ DeskSpent n)
+    -- and each failure is told
+    pub counts : (told.reads_failed ≤ told.reads_failed_after) × (told.writes_failed ≤ told.writes_failed_after)
+    pub read_told : told.reads_failed < told.reads_failed_after → IsErrAnd result (λ stopped. stopped.error ≡ ReadFault)
+    pub write_told : told.writes_failed < told.writes_failed_after → IsErrAnd result (λ stopped. stopped.error ≡ WriteFault)
+    -- each read takes at most 4,096 bytes
+    pub few : IfSome told.left (λ bytes. IfSome told.left_after (λ rest. length bytes ≤ length rest + reads * 4096))
+    -- so with no failure, and with more reads than bytes, memory alone may lack, or turns at a desk that others use
+    pub complete : IfErr result (λ stopped. IfSome told.left (λ bytes. length bytes < reads → ¬ CountRose told.reads_failed told.reads_failed_after
+        → ¬ CountRose told.writes_failed told.writes_failed_after → ComesUnfailed (course.meaning.alone course.desk) stopped.error))
+    -- what was written by then
+    pub exact : IfErr result (λ stopped. IsBetweenReads stopped.error → IfSome told.left (λ bytes. WroteTold course (bytes_of told bytes) stopped.desk))
+    pub part : IfErr result (λ stopped. IfSome told.left (λ bytes. WrotePart course (bytes_of told bytes) 4096 stopped.desk))
+    -- the desk that is handed back has grown from the one that was handed in
+    pub grown : IfOk result (λ view. Grown course.meaning course.desk view.desk)
+    pub grown_stopped : IfErr result (λ stopped. Grown course.meaning course.desk stopped.desk)

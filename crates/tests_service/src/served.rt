@@ -1,0 +1,54 @@
+// A session of a server, from the bodies that its editor sends to the bytes that it is sent.
+ghost use Rattle.lsp_desk.specs.Meaning.{IsOpening};
+ghost use Rattle.lsp_desk.specs.Plain.{plain_meaning};
+
+use lsp_desk::{ClientSocket, PlainDesk};
+use lsp_rows::RowError;
+use lsp_server::Server;
+use lsp_service::{LanguageServer, LspService, serve_stdio};
+use std::alloc::{AllocError, Global};
+
+/// The frames of bodies of these lengths.
+pub(crate) fn frames(alloc: Global, bodies: &[(usize, &str)]) -> Result<String, AllocError> {
+    let mut frames = String::new(alloc);
+    for (length, body) in bodies {
+        let frame = format!(in alloc; "Content-Length: {length}\r\n\r\n{body}")?;
+        frames.push_str(&frame)?;
+    }
+    Ok(frames)
+}
+
+// The same, of the lengths that they have.
+fn sent(alloc: Global, bodies: &[&str]) -> Result<Vec<u8>, AllocError> {
+    let mut bytes = Vec::new(alloc);
+    for body in bodies {
+        let head = format!(in alloc; "Content-Length: {}\r\n\r\n", body.len())?;
+        bytes.extend_from_slice(head.as_bytes())?;
+        bytes.extend_from_slice(body.as_bytes())?;
+    }
+    Ok(bytes)
+}
+
+/// What a session of the service writes, from its beginning to the end of these bodies.
+pub(crate) fn served<S: LanguageServer<PlainDesk>>(
+    alloc: Global,
+    service: LspService<S>,
+    socket: ClientSocket<PlainDesk>,
+    bodies: &[&str],
+) -> Result<String, RowError>
+    requires { IsOpening plain_meaning socket.desk }
+{
+    let bytes = sent(alloc, bodies)?;
+    let mut written = Vec::new(alloc);
+    let _ = serve_stdio(
+        alloc,
+        bytes.as_slice(),
+        &mut written,
+        service,
+        Server::new(socket),
+    );
+    match String::from_utf8(written) {
+        Ok(text) => Ok(text),
+        Err(_) => Err(RowError::NoMemory),
+    }
+}

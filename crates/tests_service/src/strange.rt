@@ -1,0 +1,50 @@
+// A server that answers otherwise than it was asked.
+use lsp_initialize::ServerCapabilities;
+use lsp_lang_item::InlayHint;
+use lsp_service::{
+    Answering, Call, LifeCall, NoMemory, Reply, ShowReply, TokenCall, TokenReply, WorkCall,
+    initialize_reply, not_found_for,
+};
+use lsp_work::ExecuteCommandParams;
+use serde_json::Value;
+use std::alloc::Global;
+
+/// It answers a command without arguments with a hover, and one with arguments as a notification;
+/// puts a float into a hint; gives the params of its first custom method back; and answers a custom
+/// method without params as a notification.
+#[derive(Drop)]
+pub(crate) struct Strange;
+
+impl Answering for Strange {
+    fn answer(&mut self, alloc: Global, call: Call) -> Result<Reply, NoMemory> {
+        match call {
+            Call::Life(LifeCall::Initialize(params)) => {
+                initialize_reply(alloc, params, ServerCapabilities::default())
+            }
+            Call::Work(WorkCall::ExecuteCommand(params)) => {
+                if has_arguments(params) {
+                    Ok(Reply::Noted)
+                } else {
+                    Ok(Reply::Show(ShowReply::Hover(Ok(None))))
+                }
+            }
+            Call::Token(TokenCall::InlayHintResolve(hint)) => {
+                let hint = with_float(hint);
+                Ok(Reply::Token(TokenReply::InlayHintResolve(Ok(hint))))
+            }
+            Call::Custom(0, Some(params)) => Ok(Reply::Custom(Ok(params))),
+            Call::Custom(_, None) => Ok(Reply::Noted),
+            other => not_found_for(alloc, other),
+        }
+    }
+}
+
+fn has_arguments(params: ExecuteCommandParams) -> bool {
+    !params.arguments.is_empty()
+}
+
+fn with_float(hint: InlayHint) -> InlayHint {
+    let mut hint = hint;
+    hint.payload = Some(Value::from(1.5));
+    hint
+}
