@@ -1,5 +1,5 @@
 -- A dump, byte by byte.
-use Rattle.std.proofs.Common.{◌≡◌, ◌==◌, ℕ, ◌+◌, ◌<◌, length, take, drop, get_or, take-append-drop, List, [], ◌∷◌, ◌++◌, Bool, true, false, cond, ◌||◌, not, Option, Some, None, option_map, map, fold, refl, sym, ◌∙◌, ap, subst, append_assoc, true≢false, eq-eqb}
+use Rattle.std.proofs.Common.{◌≡◌, ◌==◌, ℕ, ◌+◌, ◌<◌, length, take, drop, get_or, take-append-drop, List, [], ◌∷◌, ◌++◌, Bool, true, false, cond, ◌||◌, not, Option, Some, None, option_map, map, fold, refl, sym, ◌∙◌, ap, subst, append_assoc, eq-eqb}
 use borrow.Author.Tests.{eqb-true}
 use Rattle.std.specs.Prelude.{is_none}
 use Rattle.std.specs.List.{list_any}

@@ -1,5 +1,5 @@
 -- What stands under the id.
-use Rattle.std.proofs.Common.{◌∙◌, sym, ap, map, option_map}
+use Rattle.std.proofs.Common.{◌∙◌, sym}
 use Rattle.lsp_rpc.specs.Shown.{show_id}
 use Rattle.lsp_index.proofs.TableLemmas.{lookup-shown, shown_of}
 use Rattle.lsp_index.proofs.search.target.Goals as goal
