@@ -128,7 +128,8 @@ fn main(rt: HostRuntime) -> ExitCode {
         return ExitCode::from(6);
     }
     let (service, socket) = builder.finish();
-    serve_stdio(rt.alloc(), rt.stdin(), rt.stdout(), service, Server::new(socket))
+    let _ = serve_stdio(rt.alloc(), rt.stdin(), rt.stdout(), service, Server::new(socket));
+    ExitCode::from(0)
 }
 """
 

@@ -1,4 +1,9 @@
 pub mod SpacedLemmas
+pub mod PiecesLemmas
 pub mod StepsLemmas
+pub mod SessionLemmas
 pub mod ReadingLemmas
 pub mod PumpedLemmas
+pub mod CausesLemmas
+pub mod HandedBack
+pub mod Crossing

@@ -1,8 +1,10 @@
 -- What a reading, the steps beside it and what is served after it come to.
-use Rattle.std.proofs.Common.{◌≡◌, ◌≢◌, inl, inr, ℕ, List, [], ◌∷◌, ◌++◌, refl, sym, ◌∙◌, ap, subst, append_assoc, Bool, true, false}
-use Rattle.std.specs.Prelude.{◌⊎◌, ◌||◌, Option, Some, None, IfSome, IfNone, Result, Ok, Err}
+use Rattle.std.proofs.Common.{◌≡◌, inl, inr, ℕ, List, [], ◌∷◌, ◌++◌, refl, sym, ◌∙◌, ap, subst, append_assoc, true, false}
+use Rattle.std.specs.Prelude.{◌⊎◌, ◌||◌, Option, Some, None, IfSome, IfNone, Result, Ok, Err, IfErr, OnOk, OnErr}
+use Rattle.std.specs.Result.{result_err}
 use Rattle.std.specs.Io.KnownBytes.{Consumes}
 use Rattle.std.proofs.lemmas.List.{append-nil, map-append}
+use Rattle.lsp_frame.specs.declared.settings.CodecSettings.{CodecSettings}
 use Rattle.lsp_frame.specs.Codec.{At, more, items_at, told_at}
 use Rattle.lsp_session.specs.declared.table.Entry.{Entry}
 use Rattle.lsp_session.specs.Item.{ItemData, tick}
@@ -15,16 +17,26 @@ use Rattle.lsp_server.specs.Course.{Course}
 use Rattle.lsp_server.specs.Written.{Place, RanPart}
 use Rattle.lsp_server.specs.Served.{CallBytes, call_bytes, RanFrom}
 use Rattle.lsp_server.specs.ServesOn.{coming, coming_told, ServesOn}
-use Rattle.lsp_server.proofs.CodecLemmas.{more_more, told_now, more_nothing}
-use Rattle.lsp_server.proofs.ItemsLemmas.{has_exit-append, has_exit_same, served_same}
-use Rattle.lsp_server.proofs.KnownLemmas.{what_is_left, consumes_more}
-use Rattle.lsp_server.proofs.RanLemmas.{ran_more, part_after, part_none, grown_none}
+use Rattle.lsp_server.proofs.CodecLemmas.{more_more, more_nothing}
+use Rattle.lsp_server.proofs.ItemsLemmas.{has_exit-append, has_exit_same}
+use Rattle.lsp_server.proofs.KnownLemmas.{consumes_none, consumes_more, what_is_left, some_at}
+use Rattle.lsp_server.proofs.RanLemmas.{ran_none, ran_more, part_after, part_none, part_whole, grown_none}
 use Rattle.lsp_pump.specs.Spaced.{unticked, EndsInTick, through_exit}
-use Rattle.lsp_pump.specs.Steps.{StepsMade, StepsBegun, StepsAnswered}
-use Rattle.lsp_pump.specs.Reading.{TellsAll}
+use Rattle.lsp_pump.specs.Steps.{StepsMade, StepsBegun}
+use Rattle.lsp_pump.specs.declared.job.Ended.{Ended}
+use Rattle.lsp_pump.specs.declared.job.Ended.TheVariants.{Exit, End, Failed, Spent, Full, NoMemory as Short}
+use Rattle.lsp_pump.specs.Reading.{KeepsAllBytes, TellsAll, HasRead}
 use Rattle.lsp_pump.specs.Pumped.{IsPumpedList, RanPumped, PumpedEnough, PumpedTold, PumpedPart, PumpsOver}
 use Rattle.lsp_pump.proofs.SpacedLemmas.{unticked-append, unticked_admitted, through-open, through-none, through-more, through_admitted, through_same, served_through, served_ends}
-use Rattle.lsp_pump.proofs.StepsLemmas.{made_longer, made_begun, begun_longer}
+use Rattle.lsp_pump.proofs.StepsLemmas.{made_begun, begun_longer}
+
+-- an error of a step comes between no two reads
+pub never_both : (k : ServeError) → IsInStep k → IsBetweenReads k → ⊥
+never_both ReadFault i b = i
+never_both WriteFault i b = b
+never_both ReadsSpent i b = i
+never_both (DeskSpent n) i b = b
+never_both NoMemory i b = b
 
 -- ---- no tick comes of a codec
 
@@ -89,19 +101,12 @@ module _ {S D : Type 0} (course : Course S D) (taken : Option (List ℕ)) (codec
   -- an error stopped the steps
   pub at_error : (d : Place S D) (left : Option (List ℕ)) (e : ServeError) → IsInStep e → StepsBegun course.step course.meaning course.find start given d.desk d.taken
       → PumpsOver course codec (call_bytes bytes left taken d.taken) d.state d.desk (Some e)
-  at_error d left e in_step p = record { ok = tt; enough = tt; exact = λ between. absurd (never e in_step between); part = begun_part left d.desk d.taken p }
-    where
-      never : (k : ServeError) → IsInStep k → IsBetweenReads k → ⊥
-      never ReadFault i b = i
-      never WriteFault i b = b
-      never ReadsSpent i b = i
-      never (DeskSpent n) i b = b
-      never NoMemory i b = b
+  at_error d left e in_step p = record { ok = tt; enough = tt; exact = λ between. absurd (never_both e in_step between); part = begun_part left d.desk d.taken p }
 
   -- all steps were made, and it went on from there
-  module _ (d : Place S D) (p : StepsMade course.step course.meaning course.find start given false d) (find2 : List ℕ → Option Entry) (same : (name : List ℕ) → find2 name ≡ course.find name) where
+  module _ (d : Place S D) (p : StepsMade course.step course.meaning course.find start given false d) (settings : CodecSettings) (find2 : List ℕ → Option Entry) (same : (name : List ℕ) → find2 name ≡ course.find name) where
     abbrev later_course : Course S D
-    later_course = record course { find = find2; start = d.state; desk = d.desk }
+    later_course = record { step = course.step; meaning = course.meaning; find = find2; codec = settings; start = d.state; desk = d.desk }
 
     steps_plain : unticked p.list ≡ given
     steps_plain = p.spaced ∙ ap unticked (through-none course.find given p.is) ∙ given_plain codec there read given tells
@@ -163,3 +168,105 @@ module _ {S D : Type 0} (course : Course S D) (taken : Option (List ℕ)) (codec
         exact = on_exact e q.read q.gives q.unexited q.exact;
         part = record { list = p.list ++ served find2 (coming there c); spaced = on_spaced; part = part_after start d desk taken2 p.list (served find2 (coming there c)) p.ran q.part };
       }
+
+-- ---- what is served after all that was given
+
+module _ {S D : Type 0} (course : Course S D) (codec : At) (taken : Option (List ℕ)) where
+  abbrev from_here : Place S D
+  from_here = record { state = course.start; desk = course.desk; taken = taken }
+
+  -- nothing is
+  pub nothing_on : (bytes : List ℕ) (left : Option (List ℕ)) (e : ServeError) → left ≡ Some bytes → told_at codec ≡ [] → ServesOn course codec (call_bytes bytes left taken taken) course.start course.desk (Some e)
+  nothing_on bytes left e is told =
+      let none : coming_told codec [] ≡ [] = ap (λ k. all_admitted (told_at k)) (more_nothing codec) ∙ ap all_admitted told in
+      record {
+        read = [];
+        gives = subst (λ l. Consumes (Some bytes) l []) (sym is) (consumes_none (Some bytes));
+        ok = tt;
+        enough = tt;
+        unexited = λ _. ap (has_exit course.find) none;
+        exact = λ _. subst (λ (l : List ItemData). RanFrom course (call_bytes bytes left taken taken) l course.start course.desk) (sym none) (ran_none from_here);
+        part = part_none from_here course.desk (served course.find (coming codec bytes)) (grown_none course.meaning course.desk);
+      }
+
+  -- the end of input is
+  module _ (taken1 : Option (List ℕ)) (last : S) (desk : D) where
+    abbrev at_end_items : List ItemData
+    at_end_items = served course.find (all_admitted (items_at codec))
+
+    end_items : at_end_items ≡ served course.find (coming codec [])
+    end_items = ap (λ k. served course.find (all_admitted (items_at k))) (sym (more_nothing codec))
+
+    pub ends_on : {A : Type 0} (r : Result A ServeError) → OnOk r (RanFrom course (call_bytes [] (Some []) taken taken1) at_end_items last desk)
+        → OnErr r (RanPart course.step course.meaning from_here at_end_items desk taken1) → IfErr r IsInStep → ServesOn course codec (call_bytes [] (Some []) taken taken1) last desk (result_err r)
+    ends_on (Ok x) ran part others =
+        let all = subst (λ l. RanFrom course (call_bytes [] (Some []) taken taken1) l last desk) end_items ran in
+        record {
+          read = [];
+          gives = consumes_none (Some []);
+          ok = all;
+          enough = inl refl;
+          unexited = tt;
+          exact = tt;
+          part = part_whole from_here (record { state = last; desk = desk; taken = taken1 }) (served course.find (coming codec [])) all;
+        }
+    ends_on (Err e) ran part others = record {
+      read = [];
+      gives = consumes_none (Some []);
+      ok = tt;
+      enough = tt;
+      unexited = λ between. absurd (never_both e others between);
+      exact = λ between. absurd (never_both e others between);
+      part = subst (λ l. RanPart course.step course.meaning from_here l desk taken1) end_items part;
+    }
+
+-- ---- a reading, the steps beside it, and what is served after it
+
+module _ {S D : Type 0} (course : Course S D) (taken : Option (List ℕ)) (codec : At) (bytes : List ℕ) (left0 left1 : Option (List ℕ)) (is : left0 ≡ Some bytes) (made : ℕ) (given : List ItemData) (codec1 : At) (ended : Ended)
+    (has : HasRead codec left0 left1 made given codec1 ended) where
+  abbrev at_start : Place S D
+  at_start = record { state = course.start; desk = course.desk; taken = taken }
+
+  has_given : Consumes (Some bytes) left1 (has.read ++ has.lost)
+  has_given = subst (λ l. Consumes l left1 (has.read ++ has.lost)) is has.gives
+
+  pub pumped_exit : (d : Place S D) → StepsMade course.step course.meaning course.find at_start given true d → PumpsOver course codec (call_bytes bytes left1 taken d.taken) d.state d.desk None
+  pumped_exit d p =
+      let rest = what_is_left bytes left1 (has.read ++ has.lost) has_given in
+      at_exit course taken codec has.there has.read given has.tells bytes (has.lost ++ rest.0) (rest.2 ∙ append_assoc has.read has.lost rest.0) d p left1 has.lost has_given
+
+  pub pumped_error : (d : Place S D) (e : ServeError) → IsInStep e → StepsBegun course.step course.meaning course.find at_start given d.desk d.taken → PumpsOver course codec (call_bytes bytes left1 taken d.taken) d.state d.desk (Some e)
+  pumped_error d e in_step p =
+      let rest = what_is_left bytes left1 (has.read ++ has.lost) has_given in
+      at_error course taken codec has.there has.read given has.tells bytes (has.lost ++ rest.0) (rest.2 ∙ append_assoc has.read has.lost rest.0) d left1 e in_step p
+
+  pub pumped_on : KeepsAllBytes ended → (d : Place S D) → StepsMade course.step course.meaning course.find at_start given false d → (settings : CodecSettings) (find2 : List ℕ → Option Entry) → ((name : List ℕ) → find2 name ≡ course.find name)
+      → (left2 taken2 : Option (List ℕ)) (last : S) (desk : D) (e : Option ServeError)
+      → IfSome left1 (λ c. ServesOn (record { step = course.step; meaning = course.meaning; find = find2; codec = settings; start = d.state; desk = d.desk }) codec1 (call_bytes c left2 d.taken taken2) last desk e)
+      → PumpsOver course codec (call_bytes bytes left2 taken taken2) last desk e
+  pumped_on keeps d p settings find2 same left2 taken2 last desk e on =
+      let whole = has.whole keeps in
+      let gives : Consumes (Some bytes) left1 has.read = subst (λ l. Consumes (Some bytes) left1 l) (ap (λ l. has.read ++ l) whole.0 ∙ append-nil has.read) has_given in
+      let rest = what_is_left bytes left1 has.read gives in
+      let serves = subst (λ k. ServesOn (record { step = course.step; meaning = course.meaning; find = find2; codec = settings; start = d.state; desk = d.desk }) k (call_bytes rest.0 left2 d.taken taken2) last desk e) whole.1
+      (some_at left1 (λ c. ServesOn (record { step = course.step; meaning = course.meaning; find = find2; codec = settings; start = d.state; desk = d.desk }) codec1 (call_bytes c left2 d.taken taken2) last desk e) rest.0 rest.1 on) in
+      went_on course taken codec has.there has.read given has.tells bytes rest.0 rest.2 d p settings find2 same left2 taken2 last desk
+      (λ xs more. consumes_more (Some bytes) left1 left2 has.read xs gives (subst (λ l. Consumes l left2 xs) (sym rest.1) more)) e serves
+
+  -- memory was short, and bytes that were read are lost
+  pub pumped_lost : (d : Place S D) → StepsMade course.step course.meaning course.find at_start given false d → (left2 taken2 : Option (List ℕ)) (last : S) (desk : D) (e : Option ServeError) → e ≡ Some NoMemory → desk ≡ d.desk → taken2 ≡ d.taken
+      → PumpsOver course codec (call_bytes bytes left2 taken taken2) last desk e
+  pumped_lost d p left2 taken2 last desk e e_is desk_is taken_is =
+      let rest = what_is_left bytes left1 (has.read ++ has.lost) has_given in
+      let part = begun_part course taken codec has.there has.read given has.tells bytes (has.lost ++ rest.0) (rest.2 ∙ append_assoc has.read has.lost rest.0) left2 d.desk d.taken (made_begun course.find at_start d given false p) in
+      let here = subst (λ t. PumpedPart course (coming codec bytes) (call_bytes bytes left2 taken t) desk) (sym taken_is) (subst (λ k. PumpedPart course (coming codec bytes) (call_bytes bytes left2 taken d.taken) k) (sym desk_is) part) in
+      subst (λ k. PumpsOver course codec (call_bytes bytes left2 taken taken2) last desk k) (sym e_is) (record { ok = tt; enough = tt; exact = λ between. absurd between; part = here })
+
+-- either all bytes were kept, or memory was short
+pub keeps_or_not : (ended : Ended) → KeepsAllBytes ended ⊎ (ended ≡ Short)
+keeps_or_not Exit = inl tt
+keeps_or_not End = inl tt
+keeps_or_not Failed = inl tt
+keeps_or_not Spent = inl tt
+keeps_or_not Short = inr refl
+keeps_or_not Full = inl tt

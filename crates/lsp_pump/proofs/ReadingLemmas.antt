@@ -1,16 +1,17 @@
 -- How a reading goes on, and how it ends.
-use Rattle.std.proofs.Common.{◌≡◌, ◌≢◌, ◌≤◌, ◌<◌, ◌+◌, ◌*◌, ℕ, List, [], ◌++◌, length, refl, sym, ◌∙◌, ap, subst, append_assoc, arith}
+use Rattle.std.proofs.Common.{◌≡◌, ◌≢◌, ◌≤◌, ◌<◌, ◌+◌, ◌*◌, ℕ, List, [], ◌++◌, length, refl, sym, ◌∙◌, ap, subst, arith}
 use Rattle.std.specs.Prelude.{Option, Some, None, IfSome}
 use Rattle.std.specs.Io.KnownBytes.{Consumes}
 use Rattle.std.proofs.lemmas.List.{append-nil, map-append, length-append}
-use Rattle.lsp_frame.specs.Codec.{At, more, items_at, told_at}
+use Rattle.lsp_frame.specs.Codec.{At, more, told_at}
 use Rattle.lsp_session.specs.Item.{ItemData}
 use Rattle.lsp_server.specs.Items.{admitted, all_admitted, Decodes}
 use Rattle.lsp_server.proofs.CodecLemmas.{decodes_nothing, decodes_more, decodes_fed, more_nothing, more_more}
-use Rattle.lsp_server.proofs.KnownLemmas.{consumes_none, consumes_more}
+use Rattle.lsp_server.proofs.KnownLemmas.{consumes_more}
+use Rattle.lsp_server.specs.SourceSink.{CountRose}
 use Rattle.lsp_pump.specs.declared.job.Ended.{Ended}
-use Rattle.lsp_pump.specs.declared.job.Ended.TheVariants.{Exit, End, Failed, Spent, NoMemory, Full}
-use Rattle.lsp_pump.specs.Reading.{KeepsAllBytes, TellsAll, ReadOnce, ReadEnds, CountsReads, HasRead}
+use Rattle.lsp_pump.specs.declared.job.Ended.TheVariants.{End, Failed, Spent, Full}
+use Rattle.lsp_pump.specs.Reading.{TellsAll, ReadOnce, ReadEnds, LeavesReads, CountsReads, EndsBy, HasRead}
 
 -- ---- what is told
 
@@ -49,7 +50,8 @@ module _ (codec : At) (left0 left1 : Option (List ℕ)) (read : List ℕ) (given
     gives = subst (λ l. Consumes left0 left1 l) (sym (append-nil read)) gives;
     tells = tells;
     whole = λ _. (refl, refl);
-    reads = subst (λ l. CountsReads l made) (sym (append-nil read)) reads;
+    few = subst (λ (l : List ℕ). length l ≤ made * 4096) (sym (append-nil read)) reads.few;
+    each = λ _. subst (λ (l : List ℕ). made ≤ length l) (sym (append-nil read)) reads.each;
   }
 
   -- after one read more
@@ -61,29 +63,53 @@ module _ (codec : At) (left0 left1 : Option (List ℕ)) (read : List ℕ) (given
     gives = subst (λ l. Consumes left0 left2 l) (sym (append-nil (read ++ o.read))) (consumes_more left0 left1 left2 read o.read gives o.gives);
     tells = tells_more codec there later read o.read given items tells o.tells;
     whole = λ _. (refl, refl);
-    reads = subst (λ l. CountsReads l (made + 1)) (sym (append-nil (read ++ o.read))) (counts_more read o.read made reads o.some o.short);
+    few = subst (λ (l : List ℕ). length l ≤ (made + 1) * 4096) (sym (append-nil (read ++ o.read))) (counts_more read o.read made reads o.some o.short).few;
+    each = λ _. subst (λ (l : List ℕ). made + 1 ≤ length l) (sym (append-nil (read ++ o.read))) (counts_more read o.read made reads o.some o.short).each;
   }
 
   -- by a read that gave nothing to the codec
-  pub ended_by : (left2 : Option (List ℕ)) (later : At) (ended : Ended) (made_after : ℕ) → (e : ReadEnds there left1 left2 ended later) → (KeepsAllBytes ended → made_after ≡ made)
-      → (ended ≡ NoMemory → made_after ≡ made + 1) → HasRead codec left0 left2 made_after given later ended
-  ended_by left2 later ended made_after e same counted = record {
+  pub ended_by : (left2 : Option (List ℕ)) (later : At) (ended : Ended) → ReadEnds there left1 left2 ended later → HasRead codec left0 left2 (made + 1) given later ended
+  ended_by left2 later ended e = record {
     read = read;
     lost = e.lost;
     there = there;
     gives = consumes_more left0 left1 left2 read e.lost gives e.gives;
     tells = tells;
     whole = e.whole;
-    reads = at ended e.whole e.some same counted;
+    few = omega (arith, length-append read e.lost, reads.few, e.short);
+    each = λ leaves. absurd (e.stops leaves);
   }
-    where
-      kept : (k : Ended) → KeepsAllBytes k → (e.lost ≡ []) × (later ≡ there) → made_after ≡ made → CountsReads (read ++ e.lost) made_after
-      kept k keeps whole same = subst (λ l. CountsReads l made_after) (sym (ap (λ l. read ++ l) whole.0 ∙ append-nil read)) (subst (λ n. CountsReads read n) (sym same) reads)
 
-      at : (k : Ended) → (KeepsAllBytes k → (e.lost ≡ []) × (later ≡ there)) → (k ≡ NoMemory → 0 < length e.lost) → (KeepsAllBytes k → made_after ≡ made) → (k ≡ NoMemory → made_after ≡ made + 1) → CountsReads (read ++ e.lost) made_after
-      at Exit whole some same counted = kept Exit tt (whole tt) (same tt)
-      at End whole some same counted = kept End tt (whole tt) (same tt)
-      at Failed whole some same counted = kept Failed tt (whole tt) (same tt)
-      at Spent whole some same counted = kept Spent tt (whole tt) (same tt)
-      at Full whole some same counted = kept Full tt (whole tt) (same tt)
-      at NoMemory whole some same counted = subst (λ n. CountsReads (read ++ e.lost) n) (sym (counted refl)) (counts_more read e.lost made reads (some refl) e.short)
+-- ---- the causes of ends
+
+-- nothing failed, and reading ended for another cause
+pub ends_so : (left0 left1 : Option (List ℕ)) (faults0 faults1 reads made : ℕ) (ended : Ended) → faults1 ≡ faults0 → made ≤ reads → ended ≢ End → ended ≢ Failed → (ended ≡ Spent → made ≡ reads)
+    → EndsBy left0 left1 faults0 faults1 reads made ended
+ends_so left0 left1 faults0 faults1 reads made ended same most not_end not_failed spent = record {
+  at_end = λ is. absurd (not_end is);
+  failed = λ is. absurd (not_failed is);
+  unfailed = λ _. same;
+  counts = omega (arith, same);
+  most = most;
+  spent = spent;
+}
+
+pub ends_full : (left0 left1 : Option (List ℕ)) (faults reads : ℕ) → EndsBy left0 left1 faults faults reads 0 Full
+ends_full left0 left1 faults reads = ends_so left0 left1 faults faults reads 0 Full refl (omega arith) (λ is. cc) (λ is. cc) (λ is. cc)
+
+-- a read ended the reading
+pub ends_by_read : (codec later : At) (left0 left1 left2 : Option (List ℕ)) (read : List ℕ) (faults0 faults1 faults2 reads made : ℕ) (ended : Ended) → Consumes left0 left1 read → ReadEnds codec left1 left2 ended later → faults1 ≡ faults0
+    → made ≤ reads → (ended ≡ Failed → CountRose faults1 faults2) → (ended ≢ Failed → faults2 ≡ faults1) → faults1 ≤ faults2 → EndsBy left0 left2 faults0 faults2 reads made ended
+ends_by_read codec later left0 left1 left2 read faults0 faults1 faults2 reads made ended gives e same most failed unfailed counts = record {
+  at_end = λ is. told_end left0 left1 left2 read gives (e.at_end is);
+  failed = λ is. subst (λ n. CountRose n faults2) same (failed is);
+  unfailed = λ not_failed. unfailed not_failed ∙ same;
+  counts = omega (arith, same, counts);
+  most = most;
+  spent = λ is. absurd (e.stops (subst LeavesReads (sym is) tt));
+}
+  where
+    told_end : (l0 l1 l2 : Option (List ℕ)) (xs : List ℕ) → Consumes l0 l1 xs → IfSome l1 (λ _. l2 ≡ Some []) → IfSome l0 (λ _. l2 ≡ Some [])
+    told_end None l1 l2 xs g p = tt
+    told_end (Some bytes) None l2 xs g p = absurd g
+    told_end (Some bytes) (Some rest) l2 xs g p = p

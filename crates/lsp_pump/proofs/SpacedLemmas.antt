@@ -1,8 +1,7 @@
 -- Lists with ticks between their items, and first exits.
-use Rattle.std.proofs.Common.{◌≡◌, ℕ, List, [], ◌∷◌, ◌++◌, refl, sym, ◌∙◌, ap, append_assoc, Bool, true, false}
+use Rattle.std.proofs.Common.{◌≡◌, ℕ, List, [], ◌∷◌, ◌++◌, refl, ◌∙◌, ap, Bool, true, false}
 use Rattle.std.specs.Prelude.{◌||◌, if◌then◌else◌, Option}
-use Rattle.std.proofs.lemmas.List.{append-nil}
-use Rattle.lsp_frame.specs.Codec.{Item as CodecItem, message as whole, fault as broken}
+use Rattle.lsp_frame.specs.Codec.{Item as CodecItem, message as whole, fault as broken, code_of_fault}
 use Rattle.lsp_session.specs.declared.table.Entry.{Entry}
 use Rattle.lsp_session.specs.Item.{ItemData, message, fault, tick}
 use Rattle.lsp_session.specs.Run.{is_exit, has_exit, served}
@@ -25,7 +24,7 @@ unticked_cons tick xs ys e = e
 pub unticked_admitted : (found : List CodecItem) → unticked (all_admitted found) ≡ all_admitted found
 unticked_admitted [] = refl
 unticked_admitted (whole m ∷ found) = ap (λ l. message m ∷ l) (unticked_admitted found)
-unticked_admitted (broken e ∷ found) = ap (λ l. _ ∷ l) (unticked_admitted found)
+unticked_admitted (broken e ∷ found) = ap (λ l. fault (code_of_fault e) ∷ l) (unticked_admitted found)
 
 -- ---- the first exit
 
@@ -71,7 +70,7 @@ module _ (find : List ℕ → Option Entry) where
           → unticked (if b then message m ∷ [] else message m ∷ through_exit find (all_admitted found)) ≡ (if b then message m ∷ [] else message m ∷ through_exit find (all_admitted found))
       at true more = refl
       at false more = ap (λ l. message m ∷ l) more
-  through_admitted (broken e ∷ found) = ap (λ l. _ ∷ l) (through_admitted found)
+  through_admitted (broken e ∷ found) = ap (λ l. fault (code_of_fault e) ∷ l) (through_admitted found)
 
   -- ---- what is served
 

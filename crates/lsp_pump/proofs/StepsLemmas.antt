@@ -1,6 +1,6 @@
 -- Steps of items with ticks between them, one after another.
-use Rattle.std.proofs.Common.{◌≡◌, ◌≢◌, ℕ, List, [], ◌∷◌, ◌++◌, refl, sym, ◌∙◌, ap, Bool, true, false}
-use Rattle.std.specs.Prelude.{◌||◌, Option, Result, Ok, Err}
+use Rattle.std.proofs.Common.{◌≡◌, ℕ, List, [], ◌∷◌, ◌++◌, refl, sym, ◌∙◌, ap, Bool, true, false}
+use Rattle.std.specs.Prelude.{◌||◌, Option, Result, Ok, Err, IfOk, OnOk, OnErr}
 use Rattle.std.proofs.lemmas.List.{append-nil}
 use Rattle.lsp_desk.specs.Meaning.{Meaning, Grown}
 use Rattle.lsp_session.specs.declared.table.Entry.{Entry}
@@ -10,7 +10,7 @@ use Rattle.lsp_session.specs.State.{Effect}
 use Rattle.lsp_server.specs.declared.step.ServeError.{ServeError}
 use Rattle.lsp_server.specs.Written.{Place, Ran, RanPart}
 use Rattle.lsp_server.proofs.ItemsLemmas.{has_exit-append, has_exit_same}
-use Rattle.lsp_server.proofs.RanLemmas.{ran_none, ran_more, part_more, part_after, part_whole}
+use Rattle.lsp_server.proofs.RanLemmas.{ran_none, ran_more, part_more, part_after, part_whole, ran_grown, grown_after}
 use Rattle.lsp_pump.specs.Spaced.{unticked, through_exit}
 use Rattle.lsp_pump.specs.Steps.{StepsMade, StepsBegun, StepsAnswered}
 use Rattle.lsp_pump.proofs.SpacedLemmas.{unticked-append, through-open, through-none, through-more, through_one, through_same}
@@ -69,12 +69,6 @@ module _ {S D : Type 0} {step : S → ItemData → Effect → S → Type 0} {m :
         part = part_more p.list (through_exit find ys) p.part;
       }
 
-  -- once the steps end before all is served
-  pub answered_longer : (a b : Place S D) (xs ys : List ItemData) (r : Result Bool ServeError) → r ≢ Ok false → StepsAnswered step m find a xs r b → StepsAnswered step m find a (xs ++ ys) r b
-  answered_longer a b xs ys (Ok true) ends p = made_longer a b xs ys p
-  answered_longer a b xs ys (Ok false) ends p = absurd (ends refl)
-  answered_longer a b xs ys (Err e) ends p = begun_longer a xs ys b.desk b.taken p
-
   -- ---- steps after steps, by a table that answers alike
 
   module _ (find2 : List ℕ → Option Entry) (same : (name : List ℕ) → find2 name ≡ find name) (a b : Place S D) (xs ys : List ItemData) (p : StepsMade step m find a xs false b) where
@@ -98,3 +92,15 @@ module _ {S D : Type 0} {step : S → ItemData → Effect → S → Type 0} {m :
     pub answered_more : (c : Place S D) (r : Result Bool ServeError) → StepsAnswered step m find2 b ys r c → StepsAnswered step m find a (xs ++ ys) r c
     answered_more c (Ok exits) q = steps_more c exits q
     answered_more c (Err e) q = begun_more c.desk c.taken q
+
+module _ {S D : Type 0} (step : S → ItemData → Effect → S → Type 0) (m : Meaning D) (find : List ℕ → Option Entry) where
+  -- what is answered, by the answer
+  pub answered : (a b : Place S D) (items : List ItemData) (r : Result Bool ServeError) → IfOk r (λ exits. StepsMade step m find a items exits b) → OnErr r (StepsBegun step m find a items b.desk b.taken) → StepsAnswered step m find a items r b
+  answered a b items (Ok exits) made begun = made
+  answered a b items (Err e) made begun = begun
+
+module _ {S D : Type 0} {step : S → ItemData → Effect → S → Type 0} {m : Meaning D} where
+  -- the desk has grown by steps and by those after them, also where they failed
+  pub grown_on_any : {A : Type 0} (a b c : Place S D) (xs ys : List ItemData) → Ran step m a xs b → (r : Result A ServeError) → OnOk r (Ran step m b ys c) → OnErr r (Grown m b.desk c.desk) → Grown m a.desk c.desk
+  grown_on_any a b c xs ys p (Ok x) q grown = ran_grown a c (xs ++ ys) (ran_more a b c xs ys p q)
+  grown_on_any a b c xs ys p (Err e) q grown = grown_after a b c.desk xs p grown

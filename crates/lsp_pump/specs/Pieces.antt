@@ -22,5 +22,5 @@ abbrev pub some_float : List ItemData → Bool
 some_float [] = false
 some_float (item ∷ items) = item_has_float item || some_float items
 
-abbrev pub AreFloatFree : List ItemData → Type 0
-AreFloatFree items = some_float items ≡ false
+abbrev pub ItemsAreFloatFree : List ItemData → Type 0
+ItemsAreFloatFree items = some_float items ≡ false

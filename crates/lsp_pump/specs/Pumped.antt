@@ -1,7 +1,6 @@
 -- What `pump` comes to.
-use Rattle.std.specs.Prelude.{◌≡◌, ◌≢◌, ◌≤◌, ◌<◌, ◌⊎◌, ⊤, Bool, true, false, ℕ, List, [], Option, Some, None, IfSome, IfNone}
+use Rattle.std.specs.Prelude.{◌≡◌, ◌≤◌, ◌<◌, ◌⊎◌, Bool, true, false, ℕ, List, [], Option, Some, IfSome, IfNone}
 use Rattle.std.specs.Io.KnownBytes.{Consumes}
-use Rattle.lsp_desk.specs.Meaning.{Meaning}
 use Rattle.lsp_frame.specs.Codec.{At, start_by}
 use Rattle.lsp_session.specs.Run.{Picked, has_exit}
 use Rattle.lsp_session.specs.Count.{Counts}

@@ -10,7 +10,7 @@ use Rattle.lsp_pump.specs.declared.job.Ended.{Ended}
 use Rattle.lsp_pump.specs.declared.job.Ended.TheVariants.{Exit, End, Failed, Spent, NoMemory, Full}
 use Rattle.lsp_pump.specs.declared.job.Reading.{Reading}
 use Rattle.lsp_pump.specs.declared.job.ReadEnd.{ReadEnd}
-use Rattle.lsp_pump.specs.Pieces.{all_items, back_items, AreFloatFree}
+use Rattle.lsp_pump.specs.Pieces.{all_items, back_items, ItemsAreFloatFree}
 
 -- no bytes were lost at such an end
 abbrev pub KeepsAllBytes : Ended → Type 0
@@ -20,6 +20,15 @@ KeepsAllBytes Failed = ⊤
 KeepsAllBytes Spent = ⊤
 KeepsAllBytes NoMemory = ⊥
 KeepsAllBytes Full = ⊤
+
+-- reads may be left at such an end, and each that was made gave bytes
+abbrev pub LeavesReads : Ended → Type 0
+LeavesReads Exit = ⊤
+LeavesReads End = ⊥
+LeavesReads Failed = ⊥
+LeavesReads Spent = ⊤
+LeavesReads NoMemory = ⊥
+LeavesReads Full = ⊤
 
 -- a codec told these items, all that it tells
 pub record TellsAll (codec : At) (items : List ItemData) (there : At) : Type 0 where
@@ -42,9 +51,8 @@ pub record ReadEnds (codec : At) (left left_after : Option (List ℕ)) (ended : 
   pub gives : Consumes left left_after lost
   pub whole : KeepsAllBytes ended → (lost ≡ []) × (codec_after ≡ codec)
   pub at_end : ended ≡ End → IfSome left (λ _. left_after ≡ Some [])
-  pub some : ended ≡ NoMemory → 0 < length lost
   pub short : length lost ≤ 4096
-  pub unspent : ended ≢ Spent
+  pub stops : LeavesReads ended → ⊥
 
 -- so many reads were made, of at most so many bytes each, and each gave some
 pub record CountsReads (read : List ℕ) (made : ℕ) : Type 0 where
@@ -68,13 +76,14 @@ pub record HasRead (codec : At) (left left_after : Option (List ℕ)) (made : �
   pub gives : Consumes left left_after (read ++ lost)
   pub tells : TellsAll (more codec read) given there
   pub whole : KeepsAllBytes ended → (lost ≡ []) × (codec_after ≡ there)
-  pub reads : CountsReads (read ++ lost) made
+  pub few : length (read ++ lost) ≤ made * 4096
+  pub each : LeavesReads ended → made ≤ length (read ++ lost)
 
 -- the items that a reading gave were served so
-pub record ReadAndServed (codec : At) (left left_after : Option (List ℕ)) (made : ℕ) (codec_after : At) (ended : Ended) (serves : List ItemData → Type 0) : Type 0 where
+pub record ReadAndServed (codec : At) (left left_after : Option (List ℕ)) (made : ℕ) (codec_after : At) (ended : Ended) (Served : List ItemData → Type 0) : Type 0 where
   pub given : List ItemData
   pub has : HasRead codec left left_after made given codec_after ended
-  pub serves : serves given
+  pub served : Served given
 
 module _ {I : Type 0} (left_of : I → Option (List ℕ)) (faults_of : I → ℕ) where
   -- what a reading hands over and hands back
@@ -96,4 +105,4 @@ module _ {I : Type 0} (left_of : I → Option (List ℕ)) (faults_of : I → ℕ
     pub ring : SameProducer start.sender end.sender
     pub has : HasRead start.codec (left_of start.source) (left_of end.source) end.made (given_by end) end.codec end.ended
     pub ends : EndsBy (left_of start.source) (left_of end.source) (faults_of start.source) (faults_of end.source) reads end.made end.ended
-    pub float_free : AreFloatFree (back_items end.back)
+    pub float_free : ItemsAreFloatFree (back_items end.back)

@@ -3,7 +3,7 @@ ghost use Rattle.std.specs.Prelude.{◌≡◌, ◌≢◌, ◌≤◌, ◌++◌, [
 ghost use Rattle.rtrb.specs.Ring.{sent, SameProducer};
 ghost use Rattle.lsp_frame.specs.Codec.{more, told_at};
 ghost use Rattle.lsp_server.specs.SourceSink.{CountRose};
-ghost use Rattle.lsp_pump.specs.Pieces.{piece_items, all_items, back_items, AreFloatFree};
+ghost use Rattle.lsp_pump.specs.Pieces.{piece_items, all_items, back_items, ItemsAreFloatFree};
 ghost use Rattle.lsp_pump.specs.Reading.{TellsAll, ReadOnce, ReadEnds, HasBegun, IsReadingOf};
 
 use crate::pieces::Sender;
@@ -55,7 +55,7 @@ pub(crate) struct ReadEnd<I> {
     pub(crate) sender: Sender,
     /// The piece that the full ring did not take.
     pub(crate) back: Option<Vec<Item>>,
-    /// How many reads gave bytes.
+    /// How many reads were made.
     pub(crate) made: u64,
     pub(crate) ended: Ended,
 }
@@ -85,6 +85,7 @@ fn begun<I: Source>(reading: Reading<I>) -> ReadEnd<I>
     requires fresh { sent reading.sender ≡ [] }
     requires told { told_at reading.codec ≡ [] }
     ensures begun { HasBegun I.left I.faults reading result }
+    ensures none { result.made ≡ 0 }
     ensures reading { (reads : ℕ) → IsReadingOf I.left I.faults reading reads result }
 {
     let Reading {
@@ -114,10 +115,10 @@ fn read_all<I: Source>(
 {
     let mut end = begun(reading);
     for _ in 0..reads {
+        end.made += 1;
         match read_piece(alloc, &mut end.source, &mut end.codec) {
             Ok(piece) => {
                 let exits = names_exit(&piece);
-                end.made += 1;
                 end.back = send(&mut end.sender, piece, signal);
                 if end.back.is_some() {
                     end.ended = Ended::Full;
@@ -129,9 +130,6 @@ fn read_all<I: Source>(
                 }
             }
             Err(ended) => {
-                if ended == Ended::NoMemory {
-                    end.made += 1;
-                }
                 end.ended = ended;
                 return end;
             }
@@ -149,7 +147,7 @@ fn read_piece<I: Source>(
 ) -> Result<Vec<Item>, Ended>
     ensures told { IfOk result (λ piece. ReadOnce codec.old (I.left source.old)
         (I.left source.new) (piece_items piece) codec.new) }
-    ensures float_free { IfOk result (λ piece. AreFloatFree (piece_items piece)) }
+    ensures float_free { IfOk result (λ piece. ItemsAreFloatFree (piece_items piece)) }
     ensures ended { IfErr result (λ ended. ReadEnds codec.old (I.left source.old)
         (I.left source.new) ended codec.new) }
     ensures failed { result ≡ Err Ended.Failed
@@ -172,14 +170,10 @@ fn read_piece<I: Source>(
 }
 
 // Feeds the bytes to the codec, and gives all items that it tells.
-fn feed(
-    alloc: Global,
-    codec: &mut LanguageServerCodec,
-    bytes: &[u8],
-) -> Result<Vec<Item>, NoMemory>
+fn feed(alloc: Global, codec: &mut LanguageServerCodec, bytes: &[u8]) -> Result<Vec<Item>, NoMemory>
     ensures told { IfOk result (λ piece. TellsAll (more codec.old bytes.now) (piece_items piece)
         codec.new) }
-    ensures float_free { IfOk result (λ piece. AreFloatFree (piece_items piece)) }
+    ensures float_free { IfOk result (λ piece. ItemsAreFloatFree (piece_items piece)) }
 {
     codec.feed(bytes)?;
     let mut piece = Vec::new(alloc);
@@ -191,11 +185,11 @@ fn feed(
 
 // Puts a piece of at least one item onto the ring, and gives back what a full ring doesn't take.
 fn send(sender: &mut Sender, piece: Vec<Item>, signal: &Signal) -> Option<Vec<Item>>
-    requires float_free { AreFloatFree (piece_items piece) }
+    requires float_free { ItemsAreFloatFree (piece_items piece) }
     ensures sent { all_items (sent sender.new) ++ back_items result
         ≡ all_items (sent sender.old) ++ piece_items piece }
     ensures ring { SameProducer sender.old sender.new }
-    ensures float_free { AreFloatFree (back_items result) }
+    ensures float_free { ItemsAreFloatFree (back_items result) }
 {
     if piece.is_empty() {
         return None;

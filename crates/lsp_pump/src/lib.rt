@@ -3,11 +3,8 @@
 
 mod job;
 mod pieces;
-mod pump;
+mod pumping;
 mod signal;
 mod steps;
 
-pub use pump::pump;
-
-#[cfg(test)]
-mod tests;
+pub use pumping::pump;

@@ -8,9 +8,9 @@ use std::alloc::Global;
 pub struct FloatFree;
 
 impl Protocol<Vec<Item>> for FloatFree {
-    ghost use Rattle.lsp_pump.specs.Pieces.{piece_items, AreFloatFree};
+    ghost use Rattle.lsp_pump.specs.Pieces.{piece_items, ItemsAreFloatFree};
 
-    ghost allows = { λ before piece. AreFloatFree (piece_items piece) };
+    ghost allows = { λ before piece. ItemsAreFloatFree (piece_items piece) };
 }
 
 /// The reader's end of the ring.

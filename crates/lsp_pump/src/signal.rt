@@ -50,6 +50,7 @@ impl Signal {
 
     /// The session waits for a piece, or a short time.
     pub(crate) fn wait(&self, rt: &impl Wait) {
-        self.parker.park_timeout(rt, Duration::from_millis(LOOK_AFTER_MILLIS));
+        self.parker
+            .park_timeout(rt, Duration::from_millis(LOOK_AFTER_MILLIS));
     }
 }

@@ -1,5 +1,5 @@
 // The steps of a session beside a reading thread.
-ghost use Rattle.std.specs.Prelude.{◌≡◌, ◌≢◌, ◌++◌, [], Some, None, Err, IfOk, IfErr, IfSome, OnOk};
+ghost use Rattle.std.specs.Prelude.{◌≡◌, ◌≢◌, ◌++◌, [], Some, None, Err, IfOk, IfErr, IfSome, OnOk, OnErr};
 ghost use Rattle.std.specs.Result.{result_err};
 ghost use Rattle.rtrb.specs.Ring.{received, known_items, SameConsumer};
 ghost use Rattle.lsp_desk.specs.Meaning.{Grown};
@@ -12,9 +12,9 @@ ghost use Rattle.lsp_server.specs.Leaves.{LeavesFaults, StaysFlushed, TellsFault
 ghost use Rattle.lsp_server.specs.Served.{call_bytes};
 ghost use Rattle.lsp_server.specs.ServesOn.{ServesOn};
 ghost use Rattle.lsp_server.specs.ServerView.{standing, IsReady};
-ghost use Rattle.lsp_pump.specs.Pieces.{piece_items, all_items, back_items, AreFloatFree};
-ghost use Rattle.lsp_pump.specs.Steps.{StepsAnswered, MayGoOn, StandsAfter, FailsInStep};
-ghost use Rattle.lsp_pump.specs.Reading.{KeepsAllBytes};
+ghost use Rattle.lsp_pump.specs.Pieces.{piece_items, all_items, back_items, ItemsAreFloatFree};
+ghost use Rattle.lsp_pump.specs.Steps.{StepsMade, StepsBegun, MayGoOn, StandsAfter, FailsInStep};
+ghost use Rattle.lsp_pump.specs.Reading.{KeepsAllBytes, LeavesReads};
 
 use crate::job::Ended;
 use crate::pieces::Pieces;
@@ -40,12 +40,18 @@ pub(crate) fn serve_piece<O: Sink, D: Desk + Drop, H: Handlers<D>, P: Pick>(
     rounds: u64,
 ) -> Result<bool, ServeError>
     requires going { MayGoOn H.semantics D.meaning session.old }
-    requires float_free { AreFloatFree (piece_items piece) }
-    ensures steps { StepsAnswered (Step H.semantics (order_by P.gives P.later) rounds) D.meaning
+    requires float_free { ItemsAreFloatFree (piece_items piece) }
+    ensures made { IfOk result
+        (λ exits. StepsMade (Step H.semantics (order_by P.gives P.later) rounds) D.meaning
         (H.semantics.find (session_view H.semantics D.meaning session.old).state.service)
         (standing H.semantics D.meaning session.old (P.state pick.old) (O.taken sink.old))
-        (piece_items piece) result
-        (standing H.semantics D.meaning session.new (P.state pick.new) (O.taken sink.new)) }
+        (piece_items piece) exits
+        (standing H.semantics D.meaning session.new (P.state pick.new) (O.taken sink.new))) }
+    ensures begun { OnErr result
+        (StepsBegun (Step H.semantics (order_by P.gives P.later) rounds) D.meaning
+        (H.semantics.find (session_view H.semantics D.meaning session.old).state.service)
+        (standing H.semantics D.meaning session.old (P.state pick.old) (O.taken sink.old))
+        (piece_items piece) (desk_of session.new) (O.taken sink.new)) }
     ensures stands { IfOk result (StandsAfter H.semantics D.meaning session.new) }
     ensures fails { IfErr result (FailsInStep D.meaning (desk_of session.new)) }
     ensures grown { Grown D.meaning (desk_of session.old) (desk_of session.new) }
@@ -78,11 +84,17 @@ pub(crate) fn serve_waiting<R: Wait, O: Sink, D: Desk + Drop, H: Handlers<D>, P:
 ) -> Result<bool, ServeError>
     requires going { MayGoOn H.semantics D.meaning session.old }
     requires none { received pieces.old ≡ [] }
-    ensures steps { StepsAnswered (Step H.semantics (order_by P.gives P.later) rounds) D.meaning
+    ensures made { IfOk result
+        (λ exits. StepsMade (Step H.semantics (order_by P.gives P.later) rounds) D.meaning
         (H.semantics.find (session_view H.semantics D.meaning session.old).state.service)
         (standing H.semantics D.meaning session.old (P.state pick.old) (O.taken sink.old))
-        (all_items (received pieces.new)) result
-        (standing H.semantics D.meaning session.new (P.state pick.new) (O.taken sink.new)) }
+        (all_items (received pieces.new)) exits
+        (standing H.semantics D.meaning session.new (P.state pick.new) (O.taken sink.new))) }
+    ensures begun { OnErr result
+        (StepsBegun (Step H.semantics (order_by P.gives P.later) rounds) D.meaning
+        (H.semantics.find (session_view H.semantics D.meaning session.old).state.service)
+        (standing H.semantics D.meaning session.old (P.state pick.old) (O.taken sink.old))
+        (all_items (received pieces.new)) (desk_of session.new) (O.taken sink.new)) }
     ensures ring { SameConsumer pieces.old pieces.new }
     ensures stands { IfOk result (StandsAfter H.semantics D.meaning session.new) }
     ensures fails { IfErr result (FailsInStep D.meaning (desk_of session.new)) }
@@ -123,12 +135,18 @@ pub(crate) fn serve_rest<O: Sink, D: Desk + Drop, H: Handlers<D>, P: Pick>(
     rounds: u64,
 ) -> Result<bool, ServeError>
     requires going { MayGoOn H.semantics D.meaning session.old }
-    requires float_free { AreFloatFree (back_items back) }
-    ensures steps { StepsAnswered (Step H.semantics (order_by P.gives P.later) rounds) D.meaning
+    requires float_free { ItemsAreFloatFree (back_items back) }
+    ensures made { IfOk result
+        (λ exits. StepsMade (Step H.semantics (order_by P.gives P.later) rounds) D.meaning
         (H.semantics.find (session_view H.semantics D.meaning session.old).state.service)
         (standing H.semantics D.meaning session.old (P.state pick.old) (O.taken sink.old))
-        (all_items (known_items pieces.old) ++ back_items back) result
-        (standing H.semantics D.meaning session.new (P.state pick.new) (O.taken sink.new)) }
+        (all_items (known_items pieces.old) ++ back_items back) exits
+        (standing H.semantics D.meaning session.new (P.state pick.new) (O.taken sink.new))) }
+    ensures begun { OnErr result
+        (StepsBegun (Step H.semantics (order_by P.gives P.later) rounds) D.meaning
+        (H.semantics.find (session_view H.semantics D.meaning session.old).state.service)
+        (standing H.semantics D.meaning session.old (P.state pick.old) (O.taken sink.old))
+        (all_items (known_items pieces.old) ++ back_items back) (desk_of session.new) (O.taken sink.new)) }
     ensures stands { IfOk result (StandsAfter H.semantics D.meaning session.new) }
     ensures fails { IfErr result (FailsInStep D.meaning (desk_of session.new)) }
     ensures grown { Grown D.meaning (desk_of session.old) (desk_of session.new) }
@@ -163,10 +181,11 @@ pub(crate) fn finish<I: Source, O: Sink, D: Desk + Drop, H: Handlers<D>, P: Pick
     rounds: u64,
 ) -> Result<(), ServeError>
     requires going { MayGoOn H.semantics D.meaning session.old }
-    requires told { told_at codec.old ≡ [] }
-    requires at_end { ended ≡ Ended.End → IfSome (I.left source.old) (λ bytes. bytes ≡ []) }
+    requires told { KeepsAllBytes ended → told_at codec.old ≡ [] }
     requires spent { ended ≡ Ended.Spent → reads ≡ 0 }
-    ensures serves { KeepsAllBytes ended → IfSome (I.left source.old) (λ bytes. ServesOn
+    ensures serves { KeepsAllBytes ended
+        → (ended ≡ Ended.End → IfSome (I.left source.old) (λ bytes. bytes ≡ []))
+        → IfSome (I.left source.old) (λ bytes. ServesOn
         (course_from H.semantics D.meaning (order_by P.gives P.later) rounds codec.old.settings
         (session_view H.semantics D.meaning session.old) (P.state pick.old)) codec.old
         (call_bytes bytes (I.left source.new) (O.taken sink.old) (O.taken sink.new))
@@ -185,6 +204,7 @@ pub(crate) fn finish<I: Source, O: Sink, D: Desk + Drop, H: Handlers<D>, P: Pick
         × (source.new ≡ source.old) × (sink.new ≡ sink.old) }
     ensures within { WithinReads reads 4096 (I.left source.old) (I.left source.new) None None
         (result_err result) }
+    ensures left { IfErr result (λ e. e ≡ ServeError.ReadsSpent → LeavesReads ended) }
 {
     match ended {
         Ended::End => serve_end(alloc, room, codec, sink, session, pick, rounds),
@@ -224,9 +244,12 @@ fn serve_end<O: Sink, D: Desk + Drop, H: Handlers<D>, P: Pick>(
         (O.taken sink.new) (O.flushed sink.new) (result_err result) }
     ensures sink { LeavesFaults O.faults O.beside sink.old sink.new (result_err result) }
 {
-    if let Some(fault) = codec.finish()? {
-        let item = Item::Fault(fault.code());
-        serve_item(alloc, room, sink, session, item, pick, rounds)?;
+    match codec.finish()? {
+        Some(fault) => {
+            let item = Item::Fault(fault.code());
+            serve_item(alloc, room, sink, session, item, pick, rounds)?;
+            serve_item(alloc, room, sink, session, Item::Tick, pick, rounds)
+        }
+        None => serve_item(alloc, room, sink, session, Item::Tick, pick, rounds),
     }
-    serve_item(alloc, room, sink, session, Item::Tick, pick, rounds)
 }

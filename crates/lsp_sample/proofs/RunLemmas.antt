@@ -106,3 +106,23 @@ at_form o form P is p = subst (λ x. IfSome x P) (sym is) p
 
 pub told_at : (o : Option Form) (form : Form) (left : Option (List ℕ)) (P : Option (List ℕ) → Type 0) → o ≡ Some form → P (bytes_served (Some form) left) → P (bytes_served o left)
 told_at o form left P is p = subst (λ x. P (bytes_served x left)) (sym is) p
+
+pub at_none : (o : Option Form) (P : Form → Type 0) → o ≡ None → IfSome o P
+at_none o P is = subst (λ x. IfSome x P) (sym is) tt
+
+pub told_at_none : (o : Option Form) (left : Option (List ℕ)) (P : Option (List ℕ) → Type 0) → o ≡ None → P None → P (bytes_served o left)
+told_at_none o left P is p = subst (λ x. P (bytes_served x left)) (sym is) p
+
+-- where the sink didn't fail, no write did
+pub unfailed : {C : Type 0} (n : ℕ) → (n ≡ 0) ⊎ (n ≡ 4) ⊎ (n ≡ 6) → (n ≡ 4 → C) → ¬ C → (n ≡ 0) ⊎ (n ≡ 6)
+unfailed n (inl zero) failed none = inl zero
+unfailed n (inr (inl four)) failed none = absurd (none (failed four))
+unfailed n (inr (inr six)) failed none = inr six
+
+pub never_seven : (n : ℕ) → (n ≡ 0) ⊎ (n ≡ 4) ⊎ (n ≡ 6) → (n ≡ 0) ⊎ (n ≡ 4) ⊎ (n ≡ 6) ⊎ (n ≡ 7)
+never_seven n (inl zero) = inl zero
+never_seven n (inr (inl four)) = inr (inl four)
+never_seven n (inr (inr six)) = inr (inr (inl six))
+
+pub not_seven : (n : ℕ) → (n ≡ 0) ⊎ (n ≡ 4) ⊎ (n ≡ 6) → n ≡ 7 → ⊥
+not_seven n known seven = omega (arith, known, seven)

@@ -1,3 +1,4 @@
 pub mod CommandLemmas
 pub mod PlanLemmas
 pub mod PollLemmas
+pub mod WrittenLemmas

@@ -1,7 +1,9 @@
 -- What a call is taken for.
-use Rattle.std.proofs.Common.{◌≡◌, refl, ap}
+use Rattle.std.proofs.Common.{◌≡◌, [], refl, ap, subst}
 use Rattle.std.specs.Prelude.{Option, Some, None}
 use Rattle.serde_json.specs.declared.value.Value.{Value}
+use Rattle.lsp_desk.specs.Meaning.{Meaning, PollsOn}
+use Rattle.lsp_desk.proofs.TraceLemmas.{grows_none}
 use Rattle.lsp_session.specs.declared.table.Kind.TheVariants.{Request}
 use Rattle.lsp_shape.specs.Plain.{parts, part, absent, no_parts}
 use Rattle.lsp_initialize.specs.declared.server.ServerCapabilities.{ServerCapabilities}
@@ -26,8 +28,10 @@ use Rattle.lsp_service.specs.declared.call.EditCall.TheVariants as edit_calls
 use Rattle.lsp_service.specs.declared.call.WorkCall.{WorkCall}
 use Rattle.lsp_service.specs.declared.call.WorkCall.TheVariants as work_calls
 use Rattle.lsp_service.specs.Calls.{show_call, target_of, show_sync, show_goto, show_hierarchy, show_show, show_token, show_edit, show_work}
-use Rattle.lsp_service.specs.Data.{MethodCall}
-use Rattle.lsp_sample_server.specs.Sample.{bare_result, no_capabilities_shown, replies, other_reply, sample_turn}
+use Rattle.lsp_service.specs.Data.{MethodCall, MethodReply}
+use Rattle.lsp_service.specs.Server.{Now}
+use Rattle.lsp_sample_server.specs.declared.sample.Sample.{Sample}
+use Rattle.lsp_sample_server.specs.Sample.{bare_result, no_capabilities_shown, replies, other_reply, sample_turn, Begins, BeginsCall}
 
 -- ---- `initialize`
 
@@ -35,6 +39,15 @@ pub bare_shown : (capabilities : ServerCapabilities) → server_capabilities_row
     → initialize_result_row.shown (record { capabilities = capabilities; server_info = None }) ≡ bare_result
 unfolding initialize_result_row
 bare_shown capabilities is = ap (λ p. parts (part p (part absent no_parts))) is
+
+-- ---- a call that has its reply
+
+pub begins_replied : {D : Type 0} (m : Meaning D) (d : D) (s : Sample) (c : MethodCall) (r : MethodReply) → replies r ≡ sample_turn c → PollsOn m d d (λ asked. BeginsCall s c asked s (Now r))
+begins_replied m d s c r turn = record {
+  trace = [];
+  grows = grows_none m d;
+  holds = record { same = refl; begins = subst (λ t. Begins t [] (Now r)) turn (refl, refl) };
+}
 
 -- ---- the others
 

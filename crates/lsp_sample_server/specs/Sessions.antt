@@ -27,7 +27,7 @@ in_order = order_by (λ _ n. 0) (λ p n. p)
 
 -- the sample behind its methods, where a task in the code is no more than the server's, with its kind
 abbrev pub service_of_sample : Semantics (LspService Sample) Incoming (KeptTask SampleTask)
-service_of_sample = service_semantics sample_semantics (λ t. t.task) (λ t. t.kind)
+service_of_sample = service_semantics sample_semantics (λ (t : KeptTask SampleTask). t.task) (λ (t : KeptTask SampleTask). t.kind)
 
 abbrev pub SampleState : Type 0
 SampleState = Picked (State (LspService Sample) IncomingCall (KeptTask TaskData)) ⊤

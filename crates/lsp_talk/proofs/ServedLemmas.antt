@@ -21,7 +21,7 @@ use Rattle.lsp_callers.specs.Made.{KeepsSeat}
 use Rattle.lsp_callers.specs.Tallies.{tallied_meaning, tallied_view, tallied_desk}
 use Rattle.lsp_session.specs.declared.table.Kind.{Kind}
 use Rattle.lsp_service.specs.declared.service.LspService.{LspService}
-use Rattle.lsp_service.specs.Service.{service_semantics}
+use Rattle.lsp_service.specs.Service.{KeptTask, service_semantics}
 use Rattle.lsp_sample_server.specs.declared.task.SampleTask.{SampleTask}
 use Rattle.lsp_sample_server.specs.declared.sample.Sample.{Sample}
 use Rattle.lsp_sample_server.specs.Sample.{sample_semantics}
@@ -78,7 +78,7 @@ module _ {R : Type 0} where
             pick = tt;
             then = h.last.pick;
             runs = subst (λ (l : List ItemData). Run (Step service_of_sample in_order rounds) (picked (opening_view setting) tt) l ran.effect h.last) items_are
-                (run_again (service_semantics sample_semantics task kind) (λ t. service_of_sample.show_task t) in_order rounds (picked (opening_view setting) tt) _ ran.effect h.last ran.run);
+                (run_again (service_semantics sample_semantics task kind) (λ (t : KeptTask SampleTask). service_of_sample.show_task t) in_order rounds (picked (opening_view setting) tt) _ ran.effect h.last ran.run);
           };
         };
         seen = history ∙ ap (λ l. l ++ entries_of trace) none;
@@ -90,3 +90,7 @@ module _ {R : Type 0} where
       let kin = kin_same (tallied_desk new) (tallied_desk old) (tallied_view new).share (tallied_view old).share grown.grows.kin in
       subst (λ (t : Tallied R). KeepsSeat (tallied_desk t) (tallied_view t) (tallied_desk new) (tallied_view new)) same
       (record { here = kin.0; share = kin.1; owner = grown.grows.chief })
+
+  -- the desk that was handed in
+  pub keeps_same : (desk new : Tallied R) → new ≡ desk → KeepsSeat (tallied_desk desk) (tallied_view desk) (tallied_desk new) (tallied_view new)
+  keeps_same desk new same = subst (λ (t : Tallied R). KeepsSeat (tallied_desk desk) (tallied_view desk) (tallied_desk t) (tallied_view t)) (sym same) (record { here = refl; share = refl; owner = refl })

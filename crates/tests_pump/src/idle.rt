@@ -7,11 +7,11 @@ ghost use Rattle.lsp_shared.specs.Desks.{desk_id, rested_desk, rested_view};
 ghost use Rattle.lsp_shared.specs.Seats.{seat_meaning};
 
 use lsp_callers::Plan;
-use lsp_desk::{Caller, ClientCall, ClientReply, ClientSocket};
+use lsp_desk::{Caller, ClientCall, ClientReply};
 use lsp_pump::pump;
 use lsp_rows::{RowError, Trial};
 use lsp_rpc::NoMemory;
-use lsp_sample_server::Sample;
+use lsp_sample_server::sample_service;
 use lsp_server::{Failed, Refused, Server, Sink, Source};
 use lsp_session::InOrder;
 use lsp_shared::{DeskOwner, Rested, SharedClient, SharedDesk};
@@ -141,14 +141,16 @@ fn serve<R: Threads + Wait + Sync>(
     requires { IsOpening seat_meaning owner }
 {
     let mut sink = Watched { stage };
-    let server = Server::new(ClientSocket::new(owner));
+    let Ok((service, socket)) = sample_service(alloc, owner) else {
+        return false;
+    };
     let (_, served) = pump(
         rt,
         alloc,
-        server,
+        Server::new(socket),
         source,
         &mut sink,
-        Sample,
+        service,
         &mut InOrder,
         u64::MAX,
         8,

@@ -8,11 +8,11 @@ use lsp_frame::{Floats, Limits};
 use lsp_pump::pump;
 use lsp_rows::{RowError, Trial};
 use lsp_rpc::NoMemory;
-use lsp_sample_server::Sample;
-use lsp_server::{MemorySink, MemorySource, NeverSink, NeverSource, ServeError, Server, Source};
+use lsp_sample_server::{Sample, sample_service};
+use lsp_server::{NeverSink, NeverSource, ServeError, Served, Server, Stopped};
+use lsp_service::{LspService, serve_session};
 use lsp_session::{InOrder, Life};
-use std::alloc::{AllocError, Global};
-use std::str;
+use std::alloc::Global;
 use std::sync::Wait;
 use std::thread::Threads;
 
@@ -97,9 +97,9 @@ const ROWS: &[Row] = &[
 ];
 
 // How many bytes a read gives.
-const CUTS: [usize; 5] = [1, 2, 7, 100, 4096];
+const CUTS: &[usize] = &[1, 2, 7, 100, 4096];
 
-fn framed(alloc: Global, bodies: &[&str]) -> Result<Vec<u8>, AllocError> {
+fn framed(alloc: Global, bodies: &[&str]) -> Result<Vec<u8>, NoMemory> {
     let mut frames = Vec::new(alloc);
     for body in bodies {
         let length = body.len();
@@ -110,15 +110,15 @@ fn framed(alloc: Global, bodies: &[&str]) -> Result<Vec<u8>, AllocError> {
     Ok(frames)
 }
 
-fn new_server(alloc: Global, row: &Row) -> Server<PlainDesk>
+fn new_server(socket: ClientSocket<PlainDesk>, row: &Row) -> Server<PlainDesk>
+    requires { IsOpening plain_meaning socket.desk }
     ensures { IsOpening plain_meaning (server_desk result) }
 {
-    let server = Server::new(ClientSocket::new(PlainDesk::new(alloc)))
-        .limits(Limits {
-            head: 99,
-            body: row.body,
-        })
-        .floats(row.floats);
+    let limits = Limits {
+        head: 99,
+        body: row.body.max(1),
+    };
+    let server = Server::new(socket).limits(limits).floats(row.floats);
     if row.empty_params {
         server.allow_empty_params()
     } else {
@@ -126,14 +126,86 @@ fn new_server(alloc: Global, row: &Row) -> Server<PlainDesk>
     }
 }
 
-// What one way of serving comes to: the life at the exit, or the error.
-fn outcome_of(
-    served: Result<lsp_server::Served<Sample, PlainDesk>, lsp_server::Stopped<PlainDesk>>,
-) -> Result<Option<Life>, ServeError> {
-    match served {
+// What a way of serving comes to: the life at the exit or the error, and the bytes.
+#[derive(Drop)]
+struct Told {
+    outcome: Result<Option<Life>, ServeError>,
+    written: Vec<u8>,
+}
+
+fn tell(
+    alloc: Global,
+    served: Result<Served<LspService<Sample>, PlainDesk>, Stopped<PlainDesk>>,
+    sink: &NeverSink,
+) -> Result<Told, NoMemory> {
+    let mut written = Vec::new(alloc);
+    written.extend_from_slice(sink.bytes())?;
+    let outcome = match served {
         Ok(served) => Ok(served.exited),
         Err(stopped) => Err(stopped.error),
+    };
+    Ok(Told { outcome, written })
+}
+
+fn serve(alloc: Global, row: &Row) -> Result<Told, NoMemory> {
+    let mut sink = NeverSink::new(alloc);
+    let mut source = NeverSource::new(framed(alloc, row.sent)?, 4096);
+    let Ok((service, socket)) = sample_service(alloc, PlainDesk::new(alloc)) else {
+        return Err(NoMemory);
+    };
+    let served = serve_session(
+        alloc,
+        &mut source,
+        &mut sink,
+        service,
+        new_server(socket, row),
+        &mut InOrder,
+        u64::MAX,
+        8,
+    );
+    tell(alloc, served, &sink)
+}
+
+fn pump_by<R: Threads + Wait>(
+    rt: &R,
+    alloc: Global,
+    row: &Row,
+    cut: usize,
+) -> Result<Told, NoMemory> {
+    let mut sink = NeverSink::new(alloc);
+    let source = NeverSource::new(framed(alloc, row.sent)?, cut);
+    let Ok((service, socket)) = sample_service(alloc, PlainDesk::new(alloc)) else {
+        return Err(NoMemory);
+    };
+    let (source, served) = pump(
+        rt,
+        alloc,
+        new_server(socket, row),
+        source,
+        &mut sink,
+        service,
+        &mut InOrder,
+        u64::MAX,
+        8,
+    );
+    drop(source);
+    tell(alloc, served, &sink)
+}
+
+fn try_row<R: Threads + Wait>(
+    rt: &R,
+    trial: &mut Trial,
+    alloc: Global,
+    row: &Row,
+) -> Result<(), NoMemory> {
+    let served = serve(alloc, row)?;
+    for cut in CUTS {
+        let pumped = pump_by(rt, alloc, row, *cut)?;
+        trial.same(row.name, pumped.outcome, served.outcome);
+        let is_same = pumped.written.as_slice() == served.written.as_slice();
+        trial.is_true(row.name, is_same);
     }
+    Ok(())
 }
 
 #[test]
@@ -141,40 +213,7 @@ fn as_serve(rt: HostRuntime) -> Result<(), RowError> {
     let alloc = rt.alloc();
     let mut trial = Trial::new(alloc);
     for row in ROWS {
-        let mut sink = MemorySink::new(alloc, Vec::new(alloc));
-        let mut source = NeverSource::new(framed(alloc, row.sent)?, 4096);
-        let server = new_server(alloc, row);
-        let served = outcome_of(server.serve(
-            alloc,
-            &mut source,
-            &mut sink,
-            Sample,
-            &mut InOrder,
-            u64::MAX,
-            8,
-        ));
-        for cut in CUTS {
-            let mut pumped_sink = MemorySink::new(alloc, Vec::new(alloc));
-            let source = NeverSource::new(framed(alloc, row.sent)?, cut);
-            let server = new_server(alloc, row);
-            let (_, pumped) = pump(
-                &rt,
-                alloc,
-                server,
-                source,
-                &mut pumped_sink,
-                Sample,
-                &mut InOrder,
-                u64::MAX,
-                8,
-            );
-            trial.same(row.name, outcome_of(pumped), served);
-            trial.same(
-                row.name,
-                str::from_utf8(pumped_sink.bytes()),
-                str::from_utf8(sink.bytes()),
-            );
-        }
+        try_row(&rt, &mut trial, alloc, row)?;
     }
     trial.end()
 }

@@ -5,7 +5,7 @@ use Rattle.lsp_session.specs.Run.{Order, Step}
 use Rattle.lsp_server.specs.SourceSink.{IsFlushed}
 use Rattle.lsp_server.specs.ServerView.{standing}
 use Rattle.lsp_server.proofs.PointLemmas.{find_at}
-use Rattle.lsp_pump.specs.Pieces.{piece_items, AreFloatFree}
+use Rattle.lsp_pump.specs.Pieces.{piece_items, ItemsAreFloatFree}
 use Rattle.lsp_pump.specs.Steps.{StepsMade, MayGoOn}
 use Rattle.lsp_pump.proofs.steps.serve_piece.Given as goal
 
@@ -19,7 +19,7 @@ invariant-items g l =
     record {
       made : (first : List ItemData) × (first ++ map show_item l.rest.items ≡ piece_items l.fn.piece) × StepsMade (Step sem order l.fn.rounds) m (find_at sem a) a first false b;
       going : MayGoOn sem m l.session;
-      free : AreFloatFree (map show_item l.rest.items);
+      free : ItemsAreFloatFree (map show_item l.rest.items);
       flushed : IsFlushed (g.O.Sink.taken l.initial.sink) (g.O.Sink.flushed l.initial.sink) → IsFlushed (g.O.Sink.taken l.sink) (g.O.Sink.flushed l.sink);
       beside : g.O.Sink.beside l.sink ≡ g.O.Sink.beside l.initial.sink;
       count : g.O.Sink.faults l.sink ≡ g.O.Sink.faults l.initial.sink;

@@ -19,6 +19,7 @@ invariant-pieces g l =
     let b = standing sem m l.session (g.P.Pick.state l.pick) (g.O.Sink.taken l.sink) in
     record {
       made : (first : List ItemData) × (first ++ all_items (known_items l.pieces) ≡ all_items (known_items l.initial.pieces)) × StepsMade (Step sem order l.fn.rounds) m (find_at sem a) a first false b;
+      same : l.back ≡ l.fn.back;
       going : MayGoOn sem m l.session;
       flushed : IsFlushed (g.O.Sink.taken l.initial.sink) (g.O.Sink.flushed l.initial.sink) → IsFlushed (g.O.Sink.taken l.sink) (g.O.Sink.flushed l.sink);
       beside : g.O.Sink.beside l.sink ≡ g.O.Sink.beside l.initial.sink;

@@ -12,7 +12,7 @@ returns-in-Ok g c =
     let served = c.in-Ok.ensures in
     record {
       done =
-          hello_served (λ held. held.task) (λ held. held.kind) c.args.service server.socket.desk server.max server.wait 8 server.settings.limits server.settings.floats server.empty_params _ (show_served c.in-Ok.served) tt served.headline
+          hello_served _ _ c.args.service server.socket.desk server.max server.wait 8 server.settings.limits server.settings.floats server.empty_params _ (show_served c.in-Ok.served) tt served.headline
           c.requires.sample (some_same _ _ c.new-source.ensures.left ∙ c.requires.hello) (let four = told.concurrency in omega (arith, four)) (omega arith) told.limits told.floats
           (ap (λ t. (tallied_view t).seen) told.desk ∙ c.requires.unseen.seen) (ap (λ t. (tallied_view t).made) told.desk ∙ c.requires.unseen.made);
       failed = λ n is. absurd (cc);

@@ -1,7 +1,7 @@
 //! A session that is served while a thread of its own reads.
-ghost use Rattle.std.specs.Prelude.{◌≡◌, ◌≢◌, ◌≤◌, ◌<◌, ◌+◌, ◌*◌, ◌⊎◌, [], ℕ, true, None, length, is_some, IfOk, IfErr, IfSome, OnOk, IsErrAnd};
+ghost use Rattle.std.specs.Prelude.{◌≡◌, ◌≢◌, ◌≤◌, ◌<◌, ◌+◌, ◌*◌, ◌⊎◌, [], ℕ, true, None, length, is_some, IfOk, IfErr, IfSome, OnOk, OnErr, IsErrAnd};
 ghost use Rattle.std.specs.Result.{result_err};
-ghost use Rattle.rtrb.specs.Ring.{sent, received, IsPair};
+ghost use Rattle.rtrb.specs.Ring.{sent, received, IsPair, SameConsumer};
 ghost use Rattle.lsp_desk.specs.Meaning.{IsOpening, Grown};
 ghost use Rattle.lsp_frame.specs.Codec.{start_by, told_at};
 ghost use Rattle.lsp_session.specs.Run.{Step, order_by};
@@ -14,7 +14,8 @@ ghost use Rattle.lsp_server.specs.Leaves.{LeavesFaults, StaysFlushed, WithinRead
 ghost use Rattle.lsp_server.specs.Served.{call_bytes};
 ghost use Rattle.lsp_server.specs.ServedView.{show_served};
 ghost use Rattle.lsp_server.specs.ServerView.{standing, IsReady, server_desk, setting};
-ghost use Rattle.lsp_pump.specs.Steps.{StepsAnswered, MayGoOn, StandsAfter, FailsInStep};
+ghost use Rattle.lsp_pump.specs.Pieces.{all_items};
+ghost use Rattle.lsp_pump.specs.Steps.{StepsMade, StepsBegun, StepsAnswered, MayGoOn, StandsAfter, FailsInStep};
 ghost use Rattle.lsp_pump.specs.Reading.{EndsBy, ReadAndServed, IsReadingOf};
 ghost use Rattle.lsp_pump.specs.Pumped.{PumpsOver, TellsPumpFaults, IsPumped, PumpedEnough, WrotePumped, PumpedPart};
 
@@ -161,23 +162,20 @@ fn serve_beside<
         ours,
     } = lines;
     let mut room = BytesMut::new(alloc);
-    let (end, served) = match start(rt, alloc, reading, reads, theirs, &ours) {
-        Ok(handle) => {
-            let served = serve_waiting(
-                rt,
-                alloc,
-                &mut room,
-                sink,
-                session,
-                &mut pieces,
-                &ours,
-                pick,
-                rounds,
-            );
-            (handle.join(rt), served)
-        }
-        Err(end) => (end, Ok(false)),
-    };
+    let (end, served) = serve_started(
+        rt,
+        alloc,
+        &mut room,
+        reading,
+        theirs,
+        &ours,
+        &mut pieces,
+        sink,
+        session,
+        pick,
+        reads,
+        rounds,
+    );
     let ReadEnd {
         source,
         codec,
@@ -187,26 +185,84 @@ fn serve_beside<
         ended,
     } = end;
     pieces.slots_beside(&mut sender);
-    let served = match served {
-        Ok(false) => serve_rest(
-            alloc,
-            &mut room,
-            sink,
-            session,
-            &mut pieces,
-            back,
-            pick,
-            rounds,
-        ),
-        _ => served,
-    };
     let rest = Rest {
         source,
         codec,
         made,
         ended,
     };
-    (rest, served)
+    match served {
+        Ok(false) => {
+            let served = serve_rest(
+                alloc,
+                &mut room,
+                sink,
+                session,
+                &mut pieces,
+                back,
+                pick,
+                rounds,
+            );
+            (rest, served)
+        }
+        Ok(true) => (rest, Ok(true)),
+        Err(error) => (rest, Err(error)),
+    }
+}
+
+// Starts the reading, and serves what comes of it until it ends, a step fails or there was an exit.
+// Then the reading is waited for.
+fn serve_started<
+    R: Threads + Wait,
+    I: Source + Send + Drop + 'static,
+    O: Sink,
+    D: Desk + Drop,
+    H: Handlers<D>,
+    P: Pick,
+>(
+    rt: &R,
+    alloc: Global,
+    room: &mut BytesMut,
+    reading: Reading<I>,
+    theirs: Arc<Signal, Global>,
+    ours: &Signal,
+    pieces: &mut Pieces,
+    sink: &mut O,
+    session: &mut Session<H, D>,
+    pick: &mut P,
+    reads: u64,
+    rounds: u64,
+) -> (ReadEnd<I>, Result<bool, ServeError>)
+    requires going { MayGoOn H.semantics D.meaning session.old }
+    requires told { told_at reading.codec ≡ [] }
+    requires fresh { (sent reading.sender ≡ []) × (received pieces.old ≡ []) }
+    ensures reading { IsReadingOf I.left I.faults reading reads result.0 }
+    ensures made { IfOk result.1
+        (λ exits. StepsMade (Step H.semantics (order_by P.gives P.later) rounds) D.meaning
+        (H.semantics.find (session_view H.semantics D.meaning session.old).state.service)
+        (standing H.semantics D.meaning session.old (P.state pick.old) (O.taken sink.old))
+        (all_items (received pieces.new)) exits
+        (standing H.semantics D.meaning session.new (P.state pick.new) (O.taken sink.new))) }
+    ensures begun { OnErr result.1
+        (StepsBegun (Step H.semantics (order_by P.gives P.later) rounds) D.meaning
+        (H.semantics.find (session_view H.semantics D.meaning session.old).state.service)
+        (standing H.semantics D.meaning session.old (P.state pick.old) (O.taken sink.old))
+        (all_items (received pieces.new)) (desk_of session.new) (O.taken sink.new)) }
+    ensures ring { SameConsumer pieces.old pieces.new }
+    ensures stands { IfOk result.1 (StandsAfter H.semantics D.meaning session.new) }
+    ensures fails { IfErr result.1 (FailsInStep D.meaning (desk_of session.new)) }
+    ensures grown { Grown D.meaning (desk_of session.old) (desk_of session.new) }
+    ensures flushed { StaysFlushed (O.taken sink.old) (O.flushed sink.old)
+        (O.taken sink.new) (O.flushed sink.new) (result_err result.1) }
+    ensures sink { LeavesFaults O.faults O.beside sink.old sink.new (result_err result.1) }
+{
+    match start(rt, alloc, reading, reads, theirs, ours) {
+        Ok(handle) => {
+            let served = serve_waiting(rt, alloc, room, sink, session, pieces, ours, pick, rounds);
+            (handle.join(rt), served)
+        }
+        Err(end) => (end, Ok(false)),
+    }
 }
 
 // Serves a session from where it stands, while a thread of its own reads on from a codec.
@@ -397,7 +453,15 @@ pub fn pump<
     let desk = socket.into_desk();
     let mut session = open(alloc, service, desk, max, wait, empty_params);
     let (source, pumped) = pump_session(
-        rt, alloc, source, codec, sink, &mut session, pick, reads, rounds,
+        rt,
+        alloc,
+        source,
+        codec,
+        sink,
+        &mut session,
+        pick,
+        reads,
+        rounds,
     );
     match pumped {
         Ok(()) => (source, hand_back(session)),

@@ -1,0 +1,146 @@
+-- A reading, the steps beside it, and what is served after it.
+use Rattle.std.proofs.Common.{rules, ◌≡◌, inl, inr, ℕ, List, [], ◌++◌, refl, sym, ◌∙◌, ap, subst, true, false}
+use Rattle.std.specs.Prelude.{◌⊎◌, Some, None, IfSome}
+use Rattle.std.specs.Result.{result_err}
+use Rattle.lsp_frame.specs.Codec.{told_at}
+use Rattle.lsp_session.specs.Run.{Order, Step}
+use Rattle.lsp_session.specs.SessionView.{session_view, desk_of}
+use Rattle.lsp_session.proofs.StepLemmas.{grown_on}
+use Rattle.lsp_server.specs.declared.step.ServeError.TheVariants.{NoMemory}
+use Rattle.lsp_server.specs.Course.{course_from, picked}
+use Rattle.lsp_server.specs.ServerView.{standing}
+use Rattle.lsp_server.proofs.KnownLemmas.{consumes_none, if_told, some_at}
+use Rattle.lsp_server.proofs.PointLemmas.{find_at}
+use Rattle.lsp_server.proofs.TakingLemmas.{flushed_then}
+use Rattle.lsp_pump.specs.declared.job.Ended.TheVariants.{Full}
+use Rattle.lsp_pump.specs.Steps.{StepsMade, FailsInStep}
+use Rattle.lsp_pump.proofs.ReadingLemmas.{tells_none, counts_none, ended_now}
+use Rattle.lsp_pump.proofs.StepsLemmas.{steps_none, made_begun}
+use Rattle.lsp_pump.proofs.SessionLemmas.{table_after}
+use Rattle.lsp_pump.proofs.PumpedLemmas.{pumped_exit, pumped_error, pumped_on, pumped_lost, keeps_or_not}
+use Rattle.lsp_pump.proofs.CausesLemmas.{pump_faults, within_read, within_on}
+use Rattle.lsp_pump.proofs.pumping.pump_session.Goals as goal
+
+pub returns-in_default-clause-pumps : goal.returns-in_default-clause-pumps
+returns-in_default-clause-pumps g c =
+    let sem = g.H.Handlers.semantics in
+    let m = g.D.Caller.meaning in
+    let order : Order g.P.Pick.State = record { gives = g.P.Pick.gives; later = g.P.Pick.later } in
+    let p = g.P.Pick.state c.args.pick.now in
+    let codec = c.args.codec in
+    let way = course_from sem m order c.args.rounds codec.settings (session_view sem m c.args.session.now) p in
+    let left = g.I.Source.left c.args.source in
+    let taken = g.O.Sink.taken c.args.sink.now in
+    let a = standing sem m c.args.session.now p taken in
+    if_told left _ (λ bytes is. pumped_error way taken codec bytes left left is 0 [] codec Full (ended_now codec left left [] [] codec 0 (consumes_none left) (tells_none codec c.requires.told) counts_none Full)
+    a NoMemory tt (made_begun (find_at sem a) a a [] false (steps_none (find_at sem a) a)))
+
+pub returns-in-Ok-true-clause-pumps : goal.returns-in-Ok-true-clause-pumps
+returns-in-Ok-true-clause-pumps g c =
+    let sem = g.H.Handlers.semantics in
+    let m = g.D.Caller.meaning in
+    let order : Order g.P.Pick.State = record { gives = g.P.Pick.gives; later = g.P.Pick.later } in
+    let p = g.P.Pick.state c.args.pick.now in
+    let codec = c.args.codec in
+    let way = course_from sem m order c.args.rounds codec.settings (session_view sem m c.args.session.now) p in
+    let taken = g.O.Sink.taken c.args.sink.now in
+    let rest = c.serve_beside-rest.result.0 in
+    let d = standing sem m c.serve_beside-rest.new.session (g.P.Pick.state c.serve_beside-rest.new.pick) (g.O.Sink.taken c.serve_beside-rest.new.sink) in
+    let s = c.serve_beside-rest.ensures.serves in
+    let yes : c.in-Ok-true.field-0 ≡ true = search rules in
+    if_told (g.I.Source.left c.args.source) _ (λ bytes is. pumped_exit way taken codec bytes (g.I.Source.left c.args.source) (g.I.Source.left rest.source) is rest.made s.given rest.codec rest.ended s.has d (rw yes at (rw c.in-Ok-true.is at s.served)))
+
+pub returns-in-Ok-true-clause-within : goal.returns-in-Ok-true-clause-within
+returns-in-Ok-true-clause-within g c =
+    let rest = c.serve_beside-rest.result.0 in
+    let h = c.serve_beside-rest.ensures.serves.has in
+    within_read (g.I.Source.left c.args.source) (g.I.Source.left rest.source) (h.read ++ h.lost) rest.made c.args.reads None h.gives h.few c.serve_beside-rest.ensures.ends.most tt
+
+pub returns-clause-pumps : goal.returns-clause-pumps
+returns-clause-pumps g c =
+    let sem = g.H.Handlers.semantics in
+    let m = g.D.Caller.meaning in
+    let order : Order g.P.Pick.State = record { gives = g.P.Pick.gives; later = g.P.Pick.later } in
+    let p = g.P.Pick.state c.args.pick.now in
+    let codec = c.args.codec in
+    let way = course_from sem m order c.args.rounds codec.settings (session_view sem m c.args.session.now) p in
+    let taken = g.O.Sink.taken c.args.sink.now in
+    let rest = c.serve_beside-rest.result.0 in
+    let d = standing sem m c.serve_beside-rest.new.session (g.P.Pick.state c.serve_beside-rest.new.pick) (g.O.Sink.taken c.serve_beside-rest.new.sink) in
+    let s = c.serve_beside-rest.ensures.serves in
+    let fails : FailsInStep m d.desk c.in-Err.error = rw c.in-Err.is at c.serve_beside-rest.ensures.fails in
+    if_told (g.I.Source.left c.args.source) _ (λ bytes is. pumped_error way taken codec bytes (g.I.Source.left c.args.source) (g.I.Source.left rest.source) is rest.made s.given rest.codec rest.ended s.has d c.in-Err.error fails.in_step (rw c.in-Err.is at s.served))
+
+pub returns-clause-within : goal.returns-clause-within
+returns-clause-within g c =
+    let rest = c.serve_beside-rest.result.0 in
+    let h = c.serve_beside-rest.ensures.serves.has in
+    let fails : FailsInStep g.D.Caller.meaning (desk_of c.serve_beside-rest.new.session) c.in-Err.error = rw c.in-Err.is at c.serve_beside-rest.ensures.fails in
+    within_read (g.I.Source.left c.args.source) (g.I.Source.left rest.source) (h.read ++ h.lost) rest.made c.args.reads (Some c.in-Err.error) h.gives h.few c.serve_beside-rest.ensures.ends.most fails.in_step
+
+-- ---- all that was given is served
+
+pub finish-finished-requires-clause-told : goal.finish-finished-requires-clause-told
+finish-finished-requires-clause-told g c keeps =
+    let h = c.serve_beside-rest.ensures.serves.has in
+    ap told_at (h.whole keeps).1 ∙ h.tells.told
+
+pub returns-in-Ok-false-clause-pumps : goal.returns-in-Ok-false-clause-pumps
+returns-in-Ok-false-clause-pumps g c =
+    let sem = g.H.Handlers.semantics in
+    let m = g.D.Caller.meaning in
+    let order : Order g.P.Pick.State = record { gives = g.P.Pick.gives; later = g.P.Pick.later } in
+    let p = g.P.Pick.state c.args.pick.now in
+    let codec = c.args.codec in
+    let way = course_from sem m order c.args.rounds codec.settings (session_view sem m c.args.session.now) p in
+    let taken = g.O.Sink.taken c.args.sink.now in
+    let a = standing sem m c.args.session.now p taken in
+    let rest = c.serve_beside-rest.result.0 in
+    let b = standing sem m c.serve_beside-rest.new.session (g.P.Pick.state c.serve_beside-rest.new.pick) (g.O.Sink.taken c.serve_beside-rest.new.sink) in
+    let s = c.serve_beside-rest.ensures.serves in
+    let no : c.in-Ok-false.field-0 ≡ false = search rules in
+    let made : StepsMade (Step sem order c.args.rounds) m (find_at sem a) a s.given false b = rw no at (rw c.in-Ok-false.is at s.served) in
+    let left0 = g.I.Source.left c.args.source in
+    let left1 = g.I.Source.left rest.source in
+    let left2 = g.I.Source.left c.finish-finished.new.source in
+    let taken2 = g.O.Sink.taken c.finish-finished.new.sink in
+    let view = session_view sem m c.finish-finished.new.session in
+    let last = picked view (g.P.Pick.state c.finish-finished.new.pick) in
+    let f = c.finish-finished.ensures in
+    let e = result_err c.finish-finished.result in
+    if_told left0 _ (λ bytes is. at bytes is (keeps_or_not rest.ended)
+    (λ keeps. pumped_on way taken codec bytes left0 left1 is rest.made s.given rest.codec rest.ended s.has keeps b made rest.codec.settings (find_at sem b) (table_after sem g.met.H.Handlers.laws m order c.args.rounds a b s.given false made) left2 taken2 last view.desk e
+    (f.serves keeps (λ end. subst (λ o. IfSome o (λ l. l ≡ [])) (sym (some_at left0 _ bytes is (c.serve_beside-rest.ensures.ends.at_end end))) refl)))
+    (λ short. let n = f.no_memory short in pumped_lost way taken codec bytes left0 left1 is rest.made s.given rest.codec rest.ended s.has b made left2 taken2 last view.desk e (ap result_err n.0) (ap desk_of n.1) (ap g.O.Sink.taken n.2)))
+  where
+    at : {K N X : Type 0} (bytes : List ℕ) {Is : Type 0} → Is → K ⊎ N → (K → X) → (N → X) → X
+    at bytes is (inl k) f g = f k
+    at bytes is (inr n) f g = g n
+
+pub returns-in-Ok-false-clause-grown : goal.returns-in-Ok-false-clause-grown
+returns-in-Ok-false-clause-grown g c =
+    let p = c.serve_beside-rest.ensures.grown in
+    grown_on g.D.Caller.meaning (desk_of c.args.session.now) (desk_of c.serve_beside-rest.new.session) (desk_of c.finish-finished.new.session) p.trace p.grows c.finish-finished.ensures.grown
+
+pub returns-in-Ok-false-clause-flushed : goal.returns-in-Ok-false-clause-flushed
+returns-in-Ok-false-clause-flushed g c =
+    let first = rw c.in-Ok-false.is at c.serve_beside-rest.ensures.flushed in
+    flushed_then _ _ _ _ _ _ (result_err c.finish-finished.result) first.flushed c.finish-finished.ensures.flushed
+
+pub returns-in-Ok-false-clause-faults : goal.returns-in-Ok-false-clause-faults
+returns-in-Ok-false-clause-faults g c =
+    let rest = c.serve_beside-rest.result.0 in
+    let ends = c.serve_beside-rest.ensures.ends in
+    let sink = rw c.in-Ok-false.is at c.serve_beside-rest.ensures.sink in
+    let f = c.finish-finished.ensures in
+    pump_faults (g.I.Source.faults c.args.source) (g.I.Source.faults rest.source) (g.I.Source.faults c.finish-finished.new.source) (g.O.Sink.faults c.args.sink.now) (g.O.Sink.faults c.serve_beside-rest.new.sink) (g.O.Sink.faults c.finish-finished.new.sink)
+    _ (result_err c.finish-finished.result) sink.unfailed rest.ended ends.failed ends.unfailed ends.counts f.faults
+    (λ is. let n = f.failed is in (ap result_err n.0, ap g.I.Source.faults n.1, ap g.O.Sink.faults n.2))
+
+pub returns-in-Ok-false-clause-within : goal.returns-in-Ok-false-clause-within
+returns-in-Ok-false-clause-within g c =
+    let rest = c.serve_beside-rest.result.0 in
+    let h = c.serve_beside-rest.ensures.serves.has in
+    let f = c.finish-finished.ensures in
+    within_on (g.I.Source.left c.args.source) (g.I.Source.left rest.source) (g.I.Source.left c.finish-finished.new.source) (h.read ++ h.lost) rest.made c.args.reads rest.ended (result_err c.finish-finished.result)
+    h.gives h.few c.serve_beside-rest.ensures.ends.most h.each f.within (search rules)
