@@ -1,8 +1,8 @@
 -- A hover holds no float.
-use Rattle.std.proofs.Common.{◌≡◌, List, [], ◌∷◌, Bool, true, false, ◌||◌, map, refl, ◌∙◌, ap}
+use Rattle.std.proofs.Common.{◌≡◌, List, [], ◌∷◌, Bool, true, false, ◌||◌, map, refl}
 use Rattle.std.specs.Prelude.{Option, Some, None}
 use Rattle.serde_json.specs.Written.{has_float}
-use Rattle.lsp_shape.specs.Plain.{Plain, plain_has_float, parts_have_float, parts_of}
+use Rattle.lsp_shape.specs.Plain.{plain_has_float, parts_have_float, parts_of}
 use Rattle.lsp_shape.specs.Shown.{show_option}
 use Rattle.lsp_shape.specs.Write.{write}
 use Rattle.lsp_shape.specs.FloatsWritten.{write_floatless}

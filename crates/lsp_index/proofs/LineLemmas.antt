@@ -1,13 +1,11 @@
 -- The lines that end in bytes, and the last one.
-use Rattle.std.proofs.Common.{◌≡◌, ◌==◌, ℕ, length, List, [], ◌∷◌, ◌++◌, Bool, true, false, cond, ◌||◌, not, Option, Some, None, map, filter, refl, sym, ◌∙◌, ap, subst, append_assoc, true≢false}
+use Rattle.std.proofs.Common.{◌≡◌, ◌==◌, ℕ, length, List, [], ◌∷◌, ◌++◌, Bool, true, false, cond, ◌||◌, not, map, refl, sym, ◌∙◌, ap, append_assoc, true≢false}
 use Rattle.std.specs.Prelude.{is_none}
 use Rattle.std.specs.List.{list_any, slice_split, onto_first}
 use Rattle.std.specs.Str.Lines.{lines, lines_of_parts, strip_carriage_return}
 use Rattle.std.proofs.lemmas.List.{append-nil, map-append}
 use Rattle.std.proofs.lemmas.List.Elements.{filter-append}
 use Rattle.std.proofs.lemmas.List.Folds.{list_any-append}
-use Rattle.lsp_shape.specs.Plain.{Plain}
-use Rattle.lsp_lsif.specs.Entry.{entry_row}
 use Rattle.lsp_lsif.specs.declared.entry.Entry.{Entry}
 use Rattle.lsp_index.specs.Entries.{value_of_line, entry_lines, AreEntries, HasBadLine}
 use Rattle.lsp_index.specs.Reading.{ended_lines, part_after, filled, values_of, shown_all, has_bad, HasBadEnded}

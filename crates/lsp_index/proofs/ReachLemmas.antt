@@ -1,5 +1,5 @@
 -- How the result that a vertex leads to is reached.
-use Rattle.std.proofs.Common.{◌≡◌, ℕ, zero, suc, List, [], ◌∷◌, ◌++◌, Bool, true, false, ◌||◌, ◌⊎◌, inl, inr, Option, Some, None, option_map, map, refl, sym, ◌∙◌, ap, subst, true≢false}
+use Rattle.std.proofs.Common.{◌≡◌, ℕ, zero, suc, List, [], ◌∷◌, ◌++◌, Bool, true, false, ◌||◌, ◌⊎◌, inl, inr, Option, Some, None, refl, sym, ◌∙◌, ap, subst, true≢false}
 use Rattle.std.specs.List.{list_any}
 use Rattle.lsp_rpc.specs.Message.{IdData}
 use Rattle.lsp_rpc.specs.Ids.{same_id, same_id-Decides}

@@ -1,5 +1,8 @@
 -- Tables by ids, and what is found in them.
-use Rattle.std.proofs.Common.{◌≡◌, List, [], ◌∷◌, ◌++◌, Bool, true, false, cond, ◌||◌, not, Option, Some, None, option_map, is_some, map, refl, sym, ◌∙◌, ap, true≢false}
+use Rattle.std.proofs.Common.{◌≡◌, List, [], ◌∷◌, ◌++◌, Bool, true, false, cond, ◌||◌, not, Option, Some, None, option_map, is_some, map, refl, sym, ◌∙◌, ap, subst, true≢false}
+use Rattle.std.specs.Prelude.{option_copied}
+use Rattle.std.specs.Bool.{MatchBool}
+use Rattle.std.specs.Borrow.{Bor}
 use Rattle.std.specs.List.{list_any}
 use Rattle.std.specs.Map.{lookup}
 use Rattle.indexmap.specs.IndexMap.{insert_entry}
@@ -35,6 +38,11 @@ lookup-shown {V} {W} show k (e ∷ es) = at (same_id (show_id k) (show_id e.0)) 
     at true rest = refl
     at false rest = rest
 
+-- what is lent, as plain data
+pub shown_of : (r : Option (Bor Id)) (o : Option Id) → option_copied r ≡ o → option_map (λ (id : Bor Id). show_id id.now) r ≡ option_map show_id o
+shown_of None o is = ap (option_map show_id) is
+shown_of (Some x) o is = ap (option_map show_id) is
+
 -- whether an id is in a set
 pub any-shown : (k : Id) (ks : List Id) → list_any (same_id (show_id k)) (map show_id ks) ≡ list_any (same_key k) ks
 any-shown k [] = refl
@@ -58,3 +66,8 @@ was_in keys k b is out = any-shown k keys ∙ is_in (list_any (same_key k) keys)
 pub was_new : (keys new : List Id) (k : Id) (b : Bool) → b ≡ not (list_any (same_key k) keys) → b ≡ true → new ≡ insert_key same_key keys k → map show_id new ≡ map show_id keys ++ show_id k ∷ []
 was_new keys new k b is in_it inserted =
     ap (map show_id) (inserted ∙ ap (λ t. cond t keys (keys ++ k ∷ [])) (is_out (list_any (same_key k) keys) (sym is ∙ in_it))) ∙ map-append show_id keys (k ∷ [])
+
+pub was_told : (keys new : List Id) (k : Id) (b : Bool) → b ≡ not (list_any (same_key k) keys) → new ≡ insert_key same_key keys k → (i : IdData) → show_id k ≡ i
+    → MatchBool b (map show_id new ≡ map show_id keys ++ i ∷ []) (list_any (same_id i) (map show_id keys) ≡ true)
+was_told keys new k true is inserted i same = was_new keys new k true is refl inserted ∙ ap (λ j. map show_id keys ++ j ∷ []) same
+was_told keys new k false is inserted i same = subst (λ j. list_any (same_id j) (map show_id keys) ≡ true) same (was_in keys k false is refl)

@@ -2,7 +2,6 @@
 use Rattle.std.specs.Prelude.{◌≡◌, Bool, List, [], ◌∷◌, ◌++◌, map, Option, Some, None, Vec}
 use Rattle.std.specs.declared.alloc.Global.{Global}
 use Rattle.std.specs.HashMap.{get}
-use Rattle.lsp_rpc.specs.Message.{IdData}
 use Rattle.lsp_rpc.specs.Ids.{same_id}
 use Rattle.lsp_rpc.specs.Shown.{show_id}
 use Rattle.lsp_rpc.specs.declared.id.Id.{Id}

@@ -1,11 +1,12 @@
 // The entries of a dump, as far as a query looks at them.
-ghost use Rattle.std.specs.Prelude.{◌≡◌, IfOk, IfSome, is_some, option_map, option_and_then, string_bytes, if◌then◌else◌};
+ghost use Rattle.std.specs.Prelude.{◌≡◌, IfOk, IfSome, is_some, option_and_then, string_bytes, if◌then◌else◌};
 ghost use Rattle.std.specs.Str.{is_utf8};
 ghost use Rattle.serde_json.specs.Read as json_text;
 ghost use Rattle.lsp_shape.specs.Read.{read};
 ghost use Rattle.lsp_lsif.specs.Entry.{entry_row};
 ghost use Rattle.lsp_index.specs.Entries.{entry_data, vertex_data, edge_data, item_data, role_of as role_of_lem, entry_ids, value_of_line, result_data, hover_data};
 ghost use Rattle.lsp_index.specs.Graph.{hover_vertex, other_vertex, unseen_edge};
+ghost use Rattle.lsp_index.specs.Reading.{IsSeenOf};
 ghost use Rattle.lsp_index.specs.Shown.{show_seen, show_node, show_ids};
 
 use crate::Request;
@@ -29,30 +30,35 @@ fn text_of(bytes: &[u8]) -> Option<&str>
     }
 }
 
-fn read_entry(alloc: Global, text: &str) -> Result<Option<Entry>, NoMemory>
-    ensures { IfOk result (λ o. option_and_then (read entry_row.shape) (json_text.read text.now)
-        ≡ option_map (λ e. entry_row.shown e) o) }
+// What a query sees of the entry that a text is, or none where it isn't JSON or doesn't fit.
+fn read_seen(alloc: Global, request: Request, text: &str) -> Result<Option<Seen>, NoMemory>
+    ensures { IfOk result (λ o. IsSeenOf request
+        (option_and_then (read entry_row.shape) (json_text.read text.now)) o) }
 {
     match read_text(alloc, text) {
-        Ok(entry) => Ok(Some(entry)),
+        Ok(entry) => Ok(Some(seen(alloc, request, entry)?)),
         Err(TextMisfit::Json) => Ok(None),
         Err(TextMisfit::Unfit) => Ok(None),
         Err(TextMisfit::NoMemory) => Err(NoMemory),
     }
 }
 
-/// The entry that a line tells, or none where it isn't JSON or doesn't fit.
-pub(crate) fn read_line(alloc: Global, line: &[u8]) -> Result<Option<Entry>, NoMemory>
-    ensures { IfOk result (λ o. value_of_line line.now ≡ option_map (λ e. entry_row.shown e) o) }
+/// What a query that asks for this sees of the entry that a line tells, or none where it tells none.
+pub(crate) fn read_line(
+    alloc: Global,
+    request: Request,
+    line: &[u8],
+) -> Result<Option<Seen>, NoMemory>
+    ensures { IfOk result (λ o. IsSeenOf request (value_of_line line.now) o) }
 {
     match text_of(line) {
-        Some(text) => Ok(read_entry(alloc, text)?),
+        Some(text) => read_seen(alloc, request, text),
         None => Ok(None),
     }
 }
 
-/// What a query that asks for this sees of an entry.
-pub(crate) fn seen(alloc: Global, request: Request, entry: Entry) -> Result<Seen, NoMemory>
+// What a query that asks for this sees of an entry.
+fn seen(alloc: Global, request: Request, entry: Entry) -> Result<Seen, NoMemory>
     ensures { IfOk result (λ s. show_seen s ≡ entry_data request entry) }
 {
     let Entry { id, payload } = entry;

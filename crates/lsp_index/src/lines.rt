@@ -13,7 +13,7 @@ ghost use Rattle.lsp_index.specs.Shown.{show_query};
 ghost use Rattle.lsp_index.specs.Reading.{TookLine, TookBytes};
 
 use crate::Query;
-use crate::entry::{read_line, seen};
+use crate::entry::read_line;
 use crate::graph::Index;
 use lsp_rpc::NoMemory;
 use lsp_server::{Consumer, Refused, ServeError, Sink, write_all};
@@ -41,10 +41,8 @@ impl Search {
         if line.is_empty() {
             return Ok(true);
         }
-        let told = read_line(self.index.alloc, line)?;
-        match told {
-            Some(entry) => {
-                let part = seen(self.index.alloc, self.query.request, entry)?;
+        match read_line(self.index.alloc, self.query.request, line)? {
+            Some(part) => {
                 self.index.keep(part)?;
                 Ok(true)
             }

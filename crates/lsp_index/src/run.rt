@@ -1,5 +1,5 @@
 // The program but for its `main`.
-ghost use Rattle.std.specs.Prelude.{◌≡◌, ◌≢◌, ℕ, ◌≤◌, ◌<◌, ◌⊎◌, ◌↔◌, ◌+◌, ◌-◌, ◌^◌, None, length, IfOk, IfErr, OnErr, IfSome};
+ghost use Rattle.std.specs.Prelude.{◌≡◌, ◌≢◌, ℕ, ◌≤◌, ◌<◌, ◌⊎◌, ◌↔◌, ◌+◌, ◌-◌, ◌^◌, None, not, length, IfOk, IfErr, OnErr, IfSome};
 ghost use Rattle.std.specs.Bool.{MatchBool};
 ghost use Rattle.std.specs.Result.{result_err};
 ghost use Rattle.lsp_server.specs.Errors.{IsBetweenReads};
@@ -178,6 +178,18 @@ fn answer_over<T: Transport>(
         index: Index::new(alloc),
         is_bad: false,
     };
-    over_reads(io, &mut lines, &mut search, reads)?;
-    Ok(!search.is_bad)
+    let ended = over_reads(io, &mut lines, &mut search, reads);
+    drop(lines);
+    let good = is_good(search);
+    match ended {
+        Ok(()) => Ok(good),
+        Err(error) => Err(error),
+    }
+}
+
+// Lets the search go, and says whether no line was bad.
+fn is_good(search: Search) -> bool
+    ensures { result ≡ not search.is_bad }
+{
+    !search.is_bad
 }

@@ -1,14 +1,17 @@
 // What a query answers of an index.
-ghost use Rattle.std.specs.Prelude.{◌≡◌, ◌++◌, List, [], map, slice_get, IfOk, OnOk, Some, None, option_map, option_and_then, unwrap_or, fold, string_bytes};
+ghost use Rattle.std.specs.Prelude.{◌≡◌, ◌++◌, ◌∷◌, List, [], true, map, slice_get, IfOk, OnOk, Some, None, option_map, option_and_then, unwrap_or, fold, string_bytes};
+ghost use Rattle.std.specs.Bool.{MatchBool};
+ghost use Rattle.std.specs.List.{list_any};
 ghost use Rattle.serde_json.specs.Written.{comma_if, compact_text};
 ghost use Rattle.lsp_rpc.specs.Message.{IdData};
+ghost use Rattle.lsp_rpc.specs.Ids.{same_id};
 ghost use Rattle.lsp_rpc.specs.Shown.{show_id};
 ghost use Rattle.lsp_uri.specs.Uri.{uri_text};
 ghost use Rattle.lsp_shape.specs.Read.{text_is};
 ghost use Rattle.lsp_index.specs.Graph.{Graph, at_id};
 ghost use Rattle.lsp_index.specs.Kept.{IsKept};
 ghost use Rattle.lsp_index.specs.Shown.{show_ids, show_item_edge, show_location, show_query, show_named, show_link, show_outgoing, show_vertex_of};
-ghost use Rattle.lsp_index.specs.Queries.{is_before, holds_position, is_closer, closest_of, range_holding, candidate_in, with_candidate, chosen_at, with_new_id, with_contained, named_in, document_at, hover_at, IsReached, IsReachedFrom, with_location, with_range, with_ranges, with_item_ranges, with_items, with_linked, with_place, with_places, with_results, AreResults, location_value, locations_text as locations_text_lem, null_text as null_text_lem, IsAnswerFrom, IsAnswer};
+ghost use Rattle.lsp_index.specs.Queries.{is_before, holds_position, is_closer, closest_of, range_holding, candidate_in, with_candidate, chosen_at, with_new_id, with_contained, named_in, document_at, hover_at, IsReached, IsReachedFrom, with_location, with_range, with_ranges, with_item_ranges, with_items, with_linked, with_place, with_places, with_results, AreResults, location_value, locations_text as locations_text_lem, null_text as null_text_lem, IsDefinition, IsReferences, IsAnswerFrom, IsAnswer};
 
 use crate::graph::{Index, Item, Outgoing, Role};
 use crate::{Query, Request};
@@ -74,6 +77,15 @@ fn add_id(alloc: Global, id: &Id, set: &mut IndexSet<Id>) -> Result<(), NoMemory
 {
     set.insert(id.clone(alloc)?)?;
     Ok(())
+}
+
+// Puts an id that is new after those of the set, and says whether it is.
+fn is_new(alloc: Global, id: &Id, set: &mut IndexSet<Id>) -> Result<bool, NoMemory>
+    ensures { IfOk result (λ new. MatchBool new
+        (show_ids set.new.keys ≡ show_ids set.old.keys ++ show_id id.now ∷ [])
+        (list_any (same_id (show_id id.now)) (show_ids set.old.keys) ≡ true)) }
+{
+    Ok(set.insert(id.clone(alloc)?)?)
 }
 
 // Puts ids after those of the set, where they are new.
@@ -238,20 +250,33 @@ impl Index {
 
     /// The result that a vertex leads to: its own, or that of the vertex that its edge `next` leads
     /// to.
-    fn reached(&self, from: &Id) -> Result<Option<Id>, NoMemory>
+    fn reached<'a>(&'a self, from: &'a Id) -> Result<Option<&'a Id>, NoMemory>
         ensures { IfOk result (λ o. (g : Graph) → IsKept g self.now
-            → IsReached g (show_id from.now) (option_map show_id o)) }
+            → IsReached g (show_id from.now) (option_map (λ id. show_id id.now) o)) }
     {
         let mut passed: IndexSet<Id> = IndexSet::new(self.alloc);
-        let mut vertex = from.clone(self.alloc)?;
+        self.walk(from, &mut passed)
+    }
+
+    // Walks over edges `next`, and puts the vertices that it passes into the set.
+    fn walk<'a>(
+        &'a self,
+        from: &'a Id,
+        passed: &mut IndexSet<Id>,
+    ) -> Result<Option<&'a Id>, NoMemory>
+        requires { passed.old.keys ≡ [] }
+        ensures { IfOk result (λ o. (g : Graph) → IsKept g self.now
+            → IsReached g (show_id from.now) (option_map (λ id. show_id id.now) o)) }
+    {
+        let mut vertex = from;
         for _ in 0..usize::MAX {
-            match target(self.alloc, &self.results, &vertex)? {
+            match target(&self.results, vertex) {
                 Some(result) => return Ok(Some(result)),
                 None => {}
             }
-            match target(self.alloc, &self.nexts, &vertex)? {
+            match target(&self.nexts, vertex) {
                 Some(next) => {
-                    if !passed.insert(vertex)? {
+                    if !is_new(self.alloc, vertex, passed)? {
                         return Ok(None);
                     }
                     vertex = next;
@@ -345,12 +370,12 @@ impl Index {
     }
 
     // The places of a result and of all that it includes.
-    fn references(&self, from: Id) -> Result<IndexSet<Location>, NoMemory>
+    fn references(&self, from: &Id) -> Result<IndexSet<Location>, NoMemory>
         ensures { IfOk result (λ found. (g : Graph) → IsKept g self.now → (rs : List IdData)
-            × AreResults g (show_id from) rs
+            × AreResults g (show_id from.now) rs
             × (map show_location found.keys ≡ fold (with_places g) [] rs)) }
     {
-        let results = self.results_with(from)?;
+        let results = self.results_with(from.clone(self.alloc)?)?;
         self.all_places(results.as_slice())
     }
 
@@ -378,10 +403,10 @@ impl Index {
     }
 
     // What is reached from the range at the position.
-    fn reached_at(&self, query: &Query) -> Result<Option<Id>, NoMemory>
-        ensures { IfOk result (λ o. (g : Graph) → IsKept g self.now
-            → IsReachedFrom g
-            (chosen_at g (uri_text query.now.uri) query.now.position) (option_map show_id o)) }
+    fn reached_at(&self, query: &Query) -> Result<Option<&Id>, NoMemory>
+        ensures { IfOk result (λ o. (g : Graph) → IsKept g self.now → IsReachedFrom g
+            (chosen_at g (uri_text query.now.uri) query.now.position)
+            (option_map (λ id. show_id id.now) o)) }
     {
         match self.chosen(&query.uri, query.position)? {
             Some(range) => self.reached(range),
@@ -389,22 +414,33 @@ impl Index {
         }
     }
 
-    fn answer_from(&self, request: Request, from: Option<Id>) -> Result<String, NoMemory>
+    fn definition_text(&self, from: &Id) -> Result<String, NoMemory>
         ensures { IfOk result (λ text. (g : Graph) → IsKept g self.now
-            → IsAnswerFrom request g (option_map show_id from) (string_bytes text)) }
+            → IsDefinition g (Some (show_id from.now)) (string_bytes text)) }
+    {
+        let found = self.definition(from)?;
+        locations_text(self.alloc, &found)
+    }
+
+    fn references_text(&self, from: &Id) -> Result<String, NoMemory>
+        ensures { IfOk result (λ text. (g : Graph) → IsKept g self.now
+            → IsReferences g (Some (show_id from.now)) (string_bytes text)) }
+    {
+        let found = self.references(from)?;
+        locations_text(self.alloc, &found)
+    }
+
+    fn answer_from(&self, request: Request, from: Option<&Id>) -> Result<String, NoMemory>
+        ensures { IfOk result (λ text. (g : Graph) → IsKept g self.now
+            → IsAnswerFrom request g (option_map (λ id. show_id id.now) from.entry)
+            (string_bytes text)) }
     {
         match (request, from) {
-            (Request::Definition, Some(from)) => locations_text(
-                self.alloc,
-                &self.definition(&from)?,
-            ),
-            (Request::References, Some(from)) => locations_text(
-                self.alloc,
-                &self.references(from)?,
-            ),
-            (Request::Hover, Some(from)) => self.hover_text(&from),
+            (Request::Definition, Some(from)) => self.definition_text(from),
+            (Request::References, Some(from)) => self.references_text(from),
+            (Request::Hover, Some(from)) => self.hover_text(from),
             (Request::Hover, None) => null_text(self.alloc),
-            (_, None) => locations_text(self.alloc, &IndexSet::new(self.alloc)),
+            (_, None) => no_locations(self.alloc),
         }
     }
 
@@ -416,6 +452,12 @@ impl Index {
         let from = self.reached_at(query)?;
         self.answer_from(query.request, from)
     }
+}
+
+fn no_locations(alloc: Global) -> Result<String, NoMemory>
+    ensures { IfOk result (λ text. string_bytes text ≡ locations_text_lem []) }
+{
+    locations_text(alloc, &IndexSet::new(alloc))
 }
 
 fn null_text(alloc: Global) -> Result<String, NoMemory>
@@ -467,12 +509,9 @@ fn closer<'a>(
 }
 
 // Where the edge from a vertex leads.
-fn target(alloc: Global, links: &IndexMap<Id, Id>, from: &Id) -> Result<Option<Id>, NoMemory>
-    ensures { IfOk result (λ o. option_map show_id o
-        ≡ at_id (map show_link links.now.entries) (show_id from.now)) }
+fn target<'a>(links: &'a IndexMap<Id, Id>, from: &Id) -> Option<&'a Id>
+    ensures { option_map (λ id. show_id id.now) result
+        ≡ at_id (map show_link links.now.entries) (show_id from.now) }
 {
-    match links.get(from) {
-        Some(to) => Ok(Some(to.clone(alloc)?)),
-        None => Ok(None),
-    }
+    links.get(from)
 }
