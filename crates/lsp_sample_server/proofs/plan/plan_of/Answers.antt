@@ -19,14 +19,7 @@ returns-in_ok-reply-in-Initialize c =
 
 pub returns-in_ok-other_reply-in_default-call : goal.returns-in_ok-other_reply-in_default-call
 returns-in_ok-other_reply-in_default-call c =
-    let same : c.in-Work.call ≡ c.in_default-call.other = cc (c.in_default-call.other-is) in
-    ap replies c.in_ok-other_reply-in_default-call.ensures
-    ∙ work_other c.in_default-call.other (λ p e. c.in_default-call.not-ExecuteCommand p (same ∙ e))
-    ∙ sym (ap (λ x. sample_turn (show_call x)) (c.in-Work.is ∙ ap calls.Work same))
+    ap replies c.in_ok-other_reply-in_default-call.ensures ∙ work_other c.in-Work.call c.in_default-call.not-ExecuteCommand ∙ sym (ap (λ x. sample_turn (show_call x)) c.in-Work.is)
 
 pub returns-in_ok-other_reply-in_default : goal.returns-in_ok-other_reply-in_default
-returns-in_ok-other_reply-in_default c =
-    let same : c.args.call ≡ c.in_default.other = cc (c.in_default.other-is) in
-    ap replies c.in_ok-other_reply-in_default.ensures
-    ∙ group_other c.in_default.other (λ l e. c.in_default.not-Life l (same ∙ e)) (λ w e. c.in_default.not-Work w (same ∙ e))
-    ∙ sym (ap (λ x. sample_turn (show_call x)) same)
+returns-in_ok-other_reply-in_default c = ap replies c.in_ok-other_reply-in_default.ensures ∙ group_other c.args.call c.in_default.not-Life c.in_default.not-Work
