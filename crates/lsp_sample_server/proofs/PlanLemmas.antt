@@ -52,7 +52,7 @@ begins_replied m d s c r turn = record {
 -- ---- the others
 
 -- the call has the reply of the others
-abbrev IsOther : MethodCall → Type 0
+abbrev pub IsOther : MethodCall → Type 0
 IsOther c = replies (other_reply (target_of c Request)) ≡ sample_turn c
 
 sync_other : (c : SyncCall) → IsOther (show_sync c)
@@ -79,18 +79,18 @@ edit_other : (c : EditCall) → IsOther (show_edit c)
 edit_other (edit_calls.Completion p) = refl
 edit_other c = refl
 
-work_other : (c : WorkCall) → ((p : ExecuteCommandParams) → c ≡ work_calls.ExecuteCommand p → ⊥) → IsOther (show_work c)
+pub work_other : (c : WorkCall) → ((p : ExecuteCommandParams) → c ≡ work_calls.ExecuteCommand p → ⊥) → IsOther (show_work c)
 work_other (work_calls.ExecuteCommand p) not = absurd (not p refl)
 work_other c not = refl
 
--- each call but those of the life of a session and a command
-pub is_other : (c : Call) → ((l : LifeCall) → c ≡ calls.Life l → ⊥) → ((w : WorkCall) → c ≡ calls.Work w → (p : ExecuteCommandParams) → w ≡ work_calls.ExecuteCommand p → ⊥) → IsOther (show_call c)
-is_other (calls.Life l) life work = absurd (life l refl)
-is_other (calls.Sync c) life work = sync_other c
-is_other (calls.Goto c) life work = goto_other c
-is_other (calls.Hierarchy c) life work = hierarchy_other c
-is_other (calls.Show c) life work = show_other c
-is_other (calls.Token c) life work = token_other c
-is_other (calls.Edit c) life work = edit_other c
-is_other (calls.Work c) life work = work_other c (work c refl)
-is_other (calls.Custom n p) life work = refl
+-- each call but those of two groups
+pub group_other : (c : Call) → ((l : LifeCall) → c ≡ calls.Life l → ⊥) → ((w : WorkCall) → c ≡ calls.Work w → ⊥) → IsOther (show_call c)
+group_other (calls.Life l) life work = absurd (life l refl)
+group_other (calls.Sync c) life work = sync_other c
+group_other (calls.Goto c) life work = goto_other c
+group_other (calls.Hierarchy c) life work = hierarchy_other c
+group_other (calls.Show c) life work = show_other c
+group_other (calls.Token c) life work = token_other c
+group_other (calls.Edit c) life work = edit_other c
+group_other (calls.Work c) life work = absurd (work c refl)
+group_other (calls.Custom n p) life work = refl

@@ -30,18 +30,21 @@ pub(crate) fn plan_of(alloc: Global, call: Call) -> Result<Plan, NoMemory>
     ensures { IfOk result (λ plan. show_plan plan ≡ sample_turn (show_call call)) }
 {
     match call {
-        Call::Life(LifeCall::Initialize(params)) => {
-            let reply = initialize_reply(alloc, params, no_capabilities())?;
-            Ok(Plan::Reply(reply))
-        }
-        Call::Life(LifeCall::Initialized(_)) => {
-            let_go(call);
-            Ok(Plan::Greet)
-        }
-        Call::Life(LifeCall::Shutdown) => {
-            Ok(Plan::Reply(Reply::Life(LifeReply::Shutdown(Ok(())))))
-        }
-        Call::Work(WorkCall::ExecuteCommand(params)) => Ok(Plan::Execute(params)),
+        Call::Life(call) => match call {
+            LifeCall::Initialize(params) => {
+                let reply = initialize_reply(alloc, params, no_capabilities())?;
+                Ok(Plan::Reply(reply))
+            }
+            LifeCall::Initialized(params) => {
+                drop(params);
+                Ok(Plan::Greet)
+            }
+            LifeCall::Shutdown => Ok(Plan::Reply(Reply::Life(LifeReply::Shutdown(Ok(()))))),
+        },
+        Call::Work(call) => match call {
+            WorkCall::ExecuteCommand(params) => Ok(Plan::Execute(params)),
+            other => Ok(Plan::Reply(other_reply(alloc, Call::Work(other))?)),
+        },
         other => Ok(Plan::Reply(other_reply(alloc, other)?)),
     }
 }
