@@ -19,14 +19,14 @@ use Rattle.lsp_sample.specs.Run.{server_setting, HoldsOfSession, NotBegun, Serve
 
 -- ---- the session
 
-module _ {H C T : Type 0} (semantics : Semantics H C T) where
-  -- the setting of a server that is new but for the calls and the rounds is that of the session
-  pub setting_is : (service : H) (d desk : PlainDesk) (m w : ℕ) (l : Limits) (f : Floats) (e : Bool) (setting : Setting)
-      → d ≡ desk → m ≡ setting.max → w ≡ 1024 → l ≡ default_limits → f ≡ Refused → e ≡ false
-      → (let s : server_course.Setting H PlainDesk ⊤ = record { service = service; desk = d; max = m; wait = w; rounds = setting.rounds; limits = l; floats = f; empty_params = e; pick = tt } in s) ≡ server_setting service desk setting
-  setting_is service d desk m w l f e setting desk_is max_is wait_is limits_are floats_are empty_is =
-      rw (desk_is, max_is, wait_is, limits_are, floats_are, empty_is) refl
+-- the setting of a server that is new but for the calls and the rounds is that of the session
+pub setting_is : {H : Type 0} (service : H) (d desk : PlainDesk) (m w : ℕ) (l : Limits) (f : Floats) (e : Bool) (setting : Setting)
+    → d ≡ desk → m ≡ setting.max → w ≡ 1024 → l ≡ default_limits → f ≡ Refused → e ≡ false
+    → (let s : server_course.Setting H PlainDesk ⊤ = record { service = service; desk = d; max = m; wait = w; rounds = setting.rounds; limits = l; floats = f; empty_params = e; pick = tt } in s) ≡ server_setting service desk setting
+setting_is service d desk m w l f e setting desk_is max_is wait_is limits_are floats_are empty_is =
+    rw (desk_is, max_is, wait_is, limits_are, floats_are, empty_is) refl
 
+module _ {H C T : Type 0} (semantics : Semantics H C T) where
   pub ends_as : (s t : server_course.Setting H PlainDesk ⊤) (left : Option (List ℕ)) (call : List ℕ → CallBytes) (n : ℕ) → s ≡ t
       → IfSome left (λ bytes. EndsWith (course semantics plain_meaning in_order s) (call bytes) n)
       → IfSome left (λ bytes. EndsWith (course semantics plain_meaning in_order t) (call bytes) n)
