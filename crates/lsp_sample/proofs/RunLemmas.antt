@@ -19,14 +19,14 @@ use Rattle.lsp_sample.specs.Run.{server_setting, HoldsOfSession, NotBegun, Serve
 
 -- ---- the session
 
-module _ {H C T : Type 0} (semantics : Semantics H C T) where
-  -- the setting of a server that is new but for the calls and the rounds is that of the session
-  pub setting_is : (service : H) (d desk : PlainDesk) (m w : ℕ) (l : Limits) (f : Floats) (e : Bool) (setting : Setting)
-      → d ≡ desk → m ≡ setting.max → w ≡ 1024 → l ≡ default_limits → f ≡ Refused → e ≡ false
-      → (let s : server_course.Setting H PlainDesk ⊤ = record { service = service; desk = d; max = m; wait = w; rounds = setting.rounds; limits = l; floats = f; empty_params = e; pick = tt } in s) ≡ server_setting service desk setting
-  setting_is service d desk m w l f e setting desk_is max_is wait_is limits_are floats_are empty_is =
-      rw (desk_is, max_is, wait_is, limits_are, floats_are, empty_is) refl
+-- the setting of a server that is new but for the calls and the rounds is that of the session
+pub setting_is : {H : Type 0} (service : H) (d desk : PlainDesk) (m w : ℕ) (l : Limits) (f : Floats) (e : Bool) (setting : Setting)
+    → d ≡ desk → m ≡ setting.max → w ≡ 1024 → l ≡ default_limits → f ≡ Refused → e ≡ false
+    → (let s : server_course.Setting H PlainDesk ⊤ = record { service = service; desk = d; max = m; wait = w; rounds = setting.rounds; limits = l; floats = f; empty_params = e; pick = tt } in s) ≡ server_setting service desk setting
+setting_is service d desk m w l f e setting desk_is max_is wait_is limits_are floats_are empty_is =
+    rw (desk_is, max_is, wait_is, limits_are, floats_are, empty_is) refl
 
+module _ {H C T : Type 0} (semantics : Semantics H C T) where
   pub ends_as : (s t : server_course.Setting H PlainDesk ⊤) (left : Option (List ℕ)) (call : List ℕ → CallBytes) (n : ℕ) → s ≡ t
       → IfSome left (λ bytes. EndsWith (course semantics plain_meaning in_order s) (call bytes) n)
       → IfSome left (λ bytes. EndsWith (course semantics plain_meaning in_order t) (call bytes) n)
@@ -63,7 +63,7 @@ told_nothing bytes reads writes taken count = record {
   complete = every bytes;
 }
   where
-    every : (o : Option (List ℕ)) → IfSome o (λ all. length all < 2 ^ 64 - 1 → ¬ CountRose reads reads → ¬ CountRose writes writes → (6 ≤ 1) ⊎ (6 ≡ 6))
+    every : (o : Option (List ℕ)) → IfSome o (λ all. length all < 2 ^ 64 - 1 → ¬ CountRose reads reads → ¬ CountRose writes writes → (6 ≤ 1) ⊎ (◌≡◌ {A = ℕ} 6 6))
     every None = tt
     every (Some all) = λ few read wrote. inr refl
 
@@ -89,7 +89,7 @@ told_unread reads writes writes_after taken count taken_after count_after status
     flushed (inr (inr (inr is))) four six = seven is
 
 -- what reads and writes nothing
-pub told_untouched : (reads writes : ℕ) (taken : Option (List ℕ)) (count : Option ℕ) → ToldByStatus None reads reads writes writes taken count taken count 2
+told_untouched : (reads writes : ℕ) (taken : Option (List ℕ)) (count : Option ℕ) → ToldByStatus None reads reads writes writes taken count taken count 2
 told_untouched reads writes taken count = record {
   flushed = λ four six is. is;
   read = λ three. absurd (omega (arith, three));
@@ -104,14 +104,18 @@ told_untouched reads writes taken count = record {
 pub at_form : (o : Option Form) (form : Form) (P : Form → Type 0) → o ≡ Some form → P form → IfSome o P
 at_form o form P is p = subst (λ x. IfSome x P) (sym is) p
 
-pub told_at : (o : Option Form) (form : Form) (left : Option (List ℕ)) (P : Option (List ℕ) → Type 0) → o ≡ Some form → P (bytes_served (Some form) left) → P (bytes_served o left)
-told_at o form left P is p = subst (λ x. P (bytes_served x left)) (sym is) p
+pub told_at : (o : Option Form) (form : Form) (left : Option (List ℕ)) (reads reads_after writes writes_after : ℕ) (taken : Option (List ℕ)) (count : Option ℕ) (taken_after : Option (List ℕ)) (count_after : Option ℕ) (status : ℕ)
+    → o ≡ Some form → ToldByStatus (bytes_served (Some form) left) reads reads_after writes writes_after taken count taken_after count_after status
+    → ToldByStatus (bytes_served o left) reads reads_after writes writes_after taken count taken_after count_after status
+told_at o form left reads reads_after writes writes_after taken count taken_after count_after status is =
+    subst (λ x. ToldByStatus (bytes_served x left) reads reads_after writes writes_after taken count taken_after count_after status) (sym is)
 
 pub at_none : (o : Option Form) (P : Form → Type 0) → o ≡ None → IfSome o P
 at_none o P is = subst (λ x. IfSome x P) (sym is) tt
 
-pub told_at_none : (o : Option Form) (left : Option (List ℕ)) (P : Option (List ℕ) → Type 0) → o ≡ None → P None → P (bytes_served o left)
-told_at_none o left P is p = subst (λ x. P (bytes_served x left)) (sym is) p
+pub told_at_none : (o : Option Form) (left : Option (List ℕ)) (reads writes : ℕ) (taken : Option (List ℕ)) (count : Option ℕ) → o ≡ None
+    → ToldByStatus (bytes_served o left) reads reads writes writes taken count taken count 2
+told_at_none o left reads writes taken count is = subst (λ x. ToldByStatus (bytes_served x left) reads reads writes writes taken count taken count 2) (sym is) (told_untouched reads writes taken count)
 
 -- where the sink didn't fail, no write did
 pub unfailed : {C : Type 0} (n : ℕ) → (n ≡ 0) ⊎ (n ≡ 4) ⊎ (n ≡ 6) → (n ≡ 4 → C) → ¬ C → (n ≡ 0) ⊎ (n ≡ 6)

@@ -11,8 +11,8 @@ returns-in-Ok-clause-session g c =
     served_by _ IsSampleService c.args.setting c.in-Ok.service c.in-Ok.socket.desk (g.I.Source.left c.args.source.now) _ _
     (record { server = c.in-Ok.ensures.server; customs = c.in-Ok.ensures.customs }) (subst (IsOpening plain_meaning) (sym c.in-Ok.ensures.desk) c.new_desk.ensures) c.serve_service.ensures.session
 
-pub returns-in-Err-clause-session : goal.returns-in-Err-clause-session
-returns-in-Err-clause-session g c = not_begun _ IsSampleService c.args.setting (g.I.Source.left c.args.source.now) (g.O.Sink.taken c.args.sink.now)
+pub returns-clause-session : goal.returns-clause-session
+returns-clause-session g c = not_begun _ IsSampleService c.args.setting (g.I.Source.left c.args.source.now) (g.O.Sink.taken c.args.sink.now)
 
-pub returns-in-Err-clause-told : goal.returns-in-Err-clause-told
-returns-in-Err-clause-told g c = told_nothing _ _ _ _ _
+pub returns-clause-told : goal.returns-clause-told
+returns-clause-told g c = told_nothing _ _ _ _ _

@@ -9,7 +9,7 @@ returns-clause-session g c =
     let new = c.new.ensures in
     let with = c.concurrency_level-server.ensures in
     ends_as _ _ _ (g.I.Source.left c.args.source.now) _ _
-    (setting_is _ c.args.service _ _ _ _ _ _ _ c.args.setting (with.desk ∙ new.desk) with.concurrency (with.waiting ∙ new.waiting) (with.limits ∙ new.limits) (with.floats ∙ new.floats) (with.empty_params ∙ new.empty_params))
+    (setting_is c.args.service _ _ _ _ _ _ _ c.args.setting (with.desk ∙ new.desk) with.concurrency (with.waiting ∙ new.waiting) (with.limits ∙ new.limits) (with.floats ∙ new.floats) (with.empty_params ∙ new.empty_params))
     c.serve.ensures.session
 
 pub returns-clause-told : goal.returns-clause-told
