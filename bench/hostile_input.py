@@ -12,11 +12,6 @@ PARSE_ERROR = b'{"jsonrpc":"2.0","error":{"code":-32700,"message":"Parse error"}
 SHUTDOWN = b'{"jsonrpc":"2.0","method":"shutdown","id":2}'
 SHUT_DOWN = b'{"jsonrpc":"2.0","result":null,"id":2}'
 EXIT = b'{"jsonrpc":"2.0","method":"exit"}'
-# A command that asks the editor for its folders, what the server asks then, the editor's answer, and what comes of it.
-ASK = sessions.execute(2, b"ask", b"")
-ASKED = b'{"jsonrpc":"2.0","method":"workspace/workspaceFolders","params":null,"id":0}'
-FOLDERS = b'{"jsonrpc":"2.0","id":0,"result":[{"uri":"file:///w","name":"w"}]}'
-TOLD = b'{"jsonrpc":"2.0","result":[{"name":"w","uri":"file:///w"}],"id":2}'
 LONGEST = 64 * MIB
 
 
@@ -144,7 +139,6 @@ SHORT = {
     "a whole session": ([INITIALIZE, SHUTDOWN, EXIT], [INITIALIZED, SHUT_DOWN], 0),
     "a cancel, and one that comes too late": ([INITIALIZE, wait(3), cancel(3), cancel(3)], [INITIALIZED, canceled(3)], 1),
     "an exit that answers what waits": ([INITIALIZE, wait(4), wait(5), EXIT], [INITIALIZED, canceled(4), canceled(5)], 1),
-    "a question to the editor, and its answer": ([INITIALIZE, ASK, FOLDERS], [INITIALIZED, ASKED, TOLD], 1),
     "no method, and no message": ([b'{"jsonrpc":"2.0","id":0}', b"[1]"], [
         b'{"jsonrpc":"2.0","error":{"code":-32601,"message":"Method not found","data":""},"id":0}',
         b'{"jsonrpc":"2.0","error":{"code":-32600,"message":"Invalid request"},"id":null}'], 1),

@@ -6,7 +6,7 @@ import subprocess
 import tempfile
 
 import sessions
-from hostile_input import ASK, EXIT, FOLDERS, INITIALIZE, SHUTDOWN, cancel
+from hostile_input import EXIT, INITIALIZE, SHUTDOWN, cancel
 from hostile_run import Failure, Found, Row, frame
 
 KIB = 1024
@@ -68,7 +68,6 @@ void *aligned_alloc(size_t align, size_t size) {
 SESSIONS = {
     "a whole session": [INITIALIZE, SHUTDOWN, EXIT],
     "a cancel": [INITIALIZE, sessions.execute(3, b"wait", b"1000"), cancel(3), cancel(3)],
-    "a question to the editor": [INITIALIZE, ASK, FOLDERS],
     "a mixed session": [INITIALIZE, sessions.INITIALIZED, *map(sessions.mixed, range(4, 36)), sessions.unknown(40),
                         sessions.execute(41, b"wait", b"1000"), sessions.execute(41, b"echo", b"1"), b"[1]", b"{",
                         sessions.execute(42, b"wait", b"1000"), cancel(42), b'{"jsonrpc":"2.0","result":null,"id":5}',

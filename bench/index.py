@@ -294,7 +294,7 @@ def big_dump(size):
 def seconds(command, dump, lines):
     """The processor's seconds of the dump's lines, and what was printed: the least of runs that are more where the
     dump is short, without what a run over nothing takes."""
-    runs = [spent(command, dump, subprocess.PIPE) for _ in range(max(5, 500_000 // lines))]
+    runs = [spent(command, dump, subprocess.PIPE) for _ in range(max(5, min(40, 500_000 // lines)))]
     nothing = min(spent(command)[0] for _ in range(20))
     return min(run[0] for run in runs) - nothing, runs[0][1]
 
