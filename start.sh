@@ -1,7 +1,7 @@
 # Starts a program of this repository over standard input and output. It is read by a script that is
-# named as the program is, lsp_sample, lsp_hello, lsp_docs, lsp_proxy or lsp_index, and that sets $name, and $root,
+# named as the program is, lsp_sample, lsp_hello, lsp_proxy or lsp_index, and that sets $name, and $root,
 # the path of this folder with a slash at its end. The crate is the one of that name, or where there is one, that with
-# _main after its name.
+# _main after its name. lsp_docs is lsp_sample with the word docs, and takes no other.
 #
 # Before the program's arguments may stand, in any order and once each: --stdio, which is dropped;
 # --wait, which waits for a build; --build, which only builds. --help and --version stand alone. Where
@@ -15,6 +15,11 @@ case $root in
   *) root=$PWD/${root#./} ;;
 esac
 
+word=
+if [ "$name" = lsp_docs ]; then
+  name=lsp_sample
+  word=docs
+fi
 program=$name
 [ ! -d "${root}crates/${name}_main" ] || program=${name}_main
 crate=${root}crates/$program
@@ -138,6 +143,7 @@ case $#$1 in
   1-h | 1--help) tell_usage; exit 0 ;;
   1--version) tell_version; exit 0 ;;
 esac
+[ ! "$word" ] || set -- "$word" "$@"
 if [ "$only_build" ] && [ $# -eq 0 ]; then
   :
 elif ! are_a_form "$@"; then

@@ -23,13 +23,14 @@ import lsif
 import measured
 import mixed
 import proxy
+import pump
 import refused
 import shared_desk
 import start
 import talk
 
 SCRIPTS = (instructions, flood, bulk, growth, mixed, refused, proxy, frame, docs, large_values, lsif, shared_desk, talk,
-           start)
+           pump, start)
 
 
 def rows(sizes):

@@ -177,7 +177,7 @@ def compare(server, expected):
 def together(count):
     def run(program):
         expected, marks = collections.deque(), []
-        with Fed([program, str(EDITORS)]) as server:
+        with Fed([*program, str(EDITORS)]) as server:
             server.feed(events(Model(1), count, expected, server, marks))
             compare(server, expected)
             found = server.ends(0)
@@ -201,7 +201,7 @@ def all_leave(program):
     sent += [carried(b"in", side, REQUEST % 0) for side in model.here]
     sent.append(carried(b"in", SERVER, RESPONSE % (ended, 0)))
     wanted.append(carried(b"out", SERVER, EXIT))
-    with Fed([program, str(EDITORS)]) as server:
+    with Fed([*program, str(EDITORS)]) as server:
         server.feed(sent)
         compare(server, collections.deque(wanted))
         return server.ends(0)
@@ -216,7 +216,7 @@ def few_events(count):
 def junk(unit, count):
     """A stretch of so many such bytes, and then a message, which passes."""
     def run(program):
-        with Fed([program, str(EDITORS)]) as server:
+        with Fed([*program, str(EDITORS)]) as server:
             message = carried(b"in", 1, REQUEST % 7)
             server.feed(itertools.chain(repeated(unit, count), [b"\r\n\r\n", message]))
             compare(server, collections.deque([carried(b"out", SERVER, REQUEST % 0)]))
@@ -227,7 +227,7 @@ def junk(unit, count):
 def body(text):
     """A body that tells no message of an editor, and then one that does."""
     def run(program):
-        with Fed([program, str(EDITORS)]) as server:
+        with Fed([*program, str(EDITORS)]) as server:
             server.feed([frame(text()), carried(b"in", 1, REQUEST % 7)])
             compare(server, collections.deque([carried(b"out", SERVER, REQUEST % 0)]))
             return server.ends(0)
@@ -240,7 +240,7 @@ def broadcasts(count, length):
         note = b'{"jsonrpc":"2.0","method":"n","params":["%s"]}' % (b"x" * length)
         came = carried(b"in", SERVER, note)
         sent = b"".join(carried(b"out", side, note) for side in range(1, EDITORS + 1))
-        with Fed([program, str(EDITORS)]) as server:
+        with Fed([*program, str(EDITORS)]) as server:
             server.feed(repeated(came, count))
             expect(server.counted(), EDITORS * count, "messages")
             expect(server.end[-1000:], sent[-1000:], "the last")

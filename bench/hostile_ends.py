@@ -13,7 +13,7 @@ READ_FAULT, WRITE_FAULT = 3, 4
 def output(open_one, status):
     """A session whose output is what that opens."""
     def run(program):
-        with open_one() as end, Fed([program], stdout=end) as server:
+        with open_one() as end, Fed(program, stdout=end) as server:
             server.feed([SESSION])
             return server.ends(status)
     return run
@@ -46,7 +46,7 @@ def reset_socket():
 def input_of(open_one, status):
     """A session whose input is what that opens."""
     def run(program):
-        with open_one() as end, Fed([program], stdin=end) as server:
+        with open_one() as end, Fed(program, stdin=end) as server:
             expect(server.counted(), 0, "messages")
             return server.ends(status)
     return run
@@ -70,7 +70,7 @@ class Folder:
 def closed(redirection, status):
     """The shell closes an end before the program starts."""
     def run(program):
-        words = ["sh", "-c", 'exec "$0" ' + redirection, program]
+        words = ["sh", "-c", 'exec "$@" ' + redirection, "sh", *program]
         with Fed(words) as server:
             server.feed([SESSION])
             if server.counted() > (2 if status == 0 else 0):
@@ -79,19 +79,30 @@ def closed(redirection, status):
     return run
 
 
-def reset_later(program):
-    """The reader takes the first answer, and goes with a reset."""
+def reset_later(program, input_ends=False):
+    """The reader takes the first answer, and goes with a reset. A thread that reads is waited for then, to the end of
+    input."""
     with socket.create_server(("127.0.0.1", 0)) as listening:
         here = socket.create_connection(listening.getsockname())
         there, _ = listening.accept()
-    with here, Fed([program], stdout=here) as server:
+    with here, Fed(program, stdout=here) as server:
         os.write(server.process.stdin.fileno(), frame(INITIALIZE))
         wanted = frame(INITIALIZED)
         expect(there.recv(len(wanted), socket.MSG_WAITALL), wanted, "the first answer")
         there.setsockopt(socket.SOL_SOCKET, socket.SO_LINGER, struct.pack("ii", 1, 0))
         there.close()
         os.write(server.process.stdin.fileno(), frame(SHUTDOWN))
+        if input_ends:
+            server.process.stdin.close()
         return server.ends(WRITE_FAULT)
+
+
+def reset_at_the_end(program):
+    return reset_later(program, True)
+
+
+def rows_of_one_thread():
+    yield Row("output is reset after an answer, while input waits", 4_000, 1, reset_later)
 
 
 def rows(_):
@@ -100,7 +111,7 @@ def rows(_):
     yield Row("output is a pipe without a reader", 4_000, 1, output(pipe_without_reader, WRITE_FAULT))
     yield Row("output is closed", 4_000, 1, closed(">&-", WRITE_FAULT))
     yield Row("output is reset", 4_000, 1, output(reset_socket, WRITE_FAULT))
-    yield Row("output is reset after an answer", 4_000, 1, reset_later)
+    yield Row("output is reset after an answer", 4_000, 1, reset_at_the_end)
     yield Row("input is a folder", 4_000, 1, input_of(Folder, READ_FAULT))
     yield Row("input can't be read", 4_000, 1, input_of(write_only, READ_FAULT))
     yield Row("input is closed", 4_000, 1, closed("<&-", READ_FAULT))

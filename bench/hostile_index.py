@@ -35,7 +35,7 @@ def edge(number, label, out, **to):
 def asked(request, pieces, status, wanted):
     """A query over a dump that begins as each does: the program ends so, and writes that."""
     def run(program):
-        with Fed([program, request, *WORDS]) as index:
+        with Fed([*program, request, *WORDS]) as index:
             index.feed(itertools.chain([lines(BEGUN)], pieces()))
             whole = b"".join(index.pieces())
             if whole != wanted():
@@ -123,7 +123,7 @@ def small_objects():
 def output(open_one):
     """An answer that can't be written."""
     def run(program):
-        with open_one() as end, Fed([program, "definition", *WORDS], stdout=end) as index:
+        with open_one() as end, Fed([*program, "definition", *WORDS], stdout=end) as index:
             index.feed([lines(BEGUN)])
             return index.ends(WRITE_FAULT)
     return run

@@ -12,6 +12,11 @@ PARSE_ERROR = b'{"jsonrpc":"2.0","error":{"code":-32700,"message":"Parse error"}
 SHUTDOWN = b'{"jsonrpc":"2.0","method":"shutdown","id":2}'
 SHUT_DOWN = b'{"jsonrpc":"2.0","result":null,"id":2}'
 EXIT = b'{"jsonrpc":"2.0","method":"exit"}'
+# A command that asks the editor for its folders, what the server asks then, the editor's answer, and what comes of it.
+ASK = sessions.execute(2, b"ask", b"")
+ASKED = b'{"jsonrpc":"2.0","method":"workspace/workspaceFolders","params":null,"id":0}'
+FOLDERS = b'{"jsonrpc":"2.0","id":0,"result":[{"uri":"file:///w","name":"w"}]}'
+TOLD = b'{"jsonrpc":"2.0","result":[{"name":"w","uri":"file:///w"}],"id":2}'
 LONGEST = 64 * MIB
 
 
@@ -20,9 +25,9 @@ def expect(found, wanted, what):
         raise Failure("FAILED: %s: wanted %r, got %r" % (what, wanted, found))
 
 
-def stream(program, pieces, answers, last, status, words=()):
+def stream(program, pieces, answers, last, status):
     """The program is fed these pieces, and then ends; it writes so many messages, the last of which are these."""
-    with Fed([program, *words]) as server:
+    with Fed(program) as server:
         server.feed(pieces)
         expect(server.counted(), answers, "messages")
         wanted = b"".join(map(frame, last))
@@ -32,7 +37,7 @@ def stream(program, pieces, answers, last, status, words=()):
 
 def exactly(program, pieces, answers, status):
     """The program is fed these pieces, and then ends; it writes just these messages."""
-    with Fed([program]) as server:
+    with Fed(program) as server:
         server.feed(pieces)
         expect(b"".join(server.pieces()), b"".join(map(frame, answers)), "what is written")
         return server.ends(status)
@@ -102,7 +107,7 @@ def objects_again(program):
 
 def announced(program):
     """A body that is announced and never comes."""
-    with Fed([program]) as server:
+    with Fed(program) as server:
         server.feed([frame(INITIALIZE), b"Content-Length: %d\r\n\r\n{" % LONGEST], close=False)
         time.sleep(1)
         server.process.stdin.close()
@@ -139,6 +144,7 @@ SHORT = {
     "a whole session": ([INITIALIZE, SHUTDOWN, EXIT], [INITIALIZED, SHUT_DOWN], 0),
     "a cancel, and one that comes too late": ([INITIALIZE, wait(3), cancel(3), cancel(3)], [INITIALIZED, canceled(3)], 1),
     "an exit that answers what waits": ([INITIALIZE, wait(4), wait(5), EXIT], [INITIALIZED, canceled(4), canceled(5)], 1),
+    "a question to the editor, and its answer": ([INITIALIZE, ASK, FOLDERS], [INITIALIZED, ASKED, TOLD], 1),
     "no method, and no message": ([b'{"jsonrpc":"2.0","id":0}', b"[1]"], [
         b'{"jsonrpc":"2.0","error":{"code":-32601,"message":"Method not found","data":""},"id":0}',
         b'{"jsonrpc":"2.0","error":{"code":-32600,"message":"Invalid request"},"id":null}'], 1),
@@ -169,6 +175,28 @@ def answers(count):
     return flood(lambda: numbered(0, count, sessions.response), 2, [SHUT_DOWN])
 
 
+def unfit(count):
+    """Commands whose params don't fit: each is refused."""
+    def make(number):
+        return sessions.request(number, b"workspace/executeCommand", b'{"command":[%d]}' % number)
+    return flood(lambda: numbered(3, 3 + count, make), count + 2, [SHUT_DOWN])
+
+
+def floats(count):
+    """Messages with a float, each of which is answered to null."""
+    body = b'{"jsonrpc":"2.0","method":"$/x","params":[1.5]}'
+    return flood(lambda: repeated(frame(body), count), count + 2, [SHUT_DOWN])
+
+
+def questions(count, late):
+    """Commands that ask the editor, each of which is cancelled; the editor answers none of them, or all at the end."""
+    def bodies():
+        yield from numbered(3, 3 + count, lambda number: sessions.execute(number, b"ask", b""), pair=cancel)
+        if late:
+            yield from numbered(0, count, sessions.response)
+    return flood(bodies, 2 * count + 2, [SHUT_DOWN])
+
+
 def queue(count):
     """Notifications that wait behind 1,025 calls, which are polled one after the other, until the last of these is
     cancelled; each is greeted then."""
@@ -177,7 +205,8 @@ def queue(count):
         pieces = itertools.chain([frame(INITIALIZE)], map(frame, map(wait, calls)),
                                  repeated(frame(sessions.INITIALIZED), count), map(frame, map(cancel, calls)),
                                  [frame(EXIT)])
-        return stream(program, pieces, 1 + len(calls) + count, [], 1, ["serve", "1", "1"])
+        way = program[1:2] or ["serve"]
+        return stream([program[0], *way, "1", "1"], pieces, 1 + len(calls) + count, [], 1)
     return run
 
 
@@ -202,15 +231,16 @@ def long_heads(count):
 
 
 def unread(program):
-    """A reader that doesn't read: the program waits, and holds no more for it. Then all is read."""
+    """A reader that doesn't read: the program waits, and holds no more for it. Then all is read. A thread that reads
+    tries for a while to put what it read onto the full ring, which takes a processor."""
     count = 100_000
-    with Fed([program]) as server:
+    with Fed(program) as server:
         server.feed(itertools.chain([frame(INITIALIZE)], numbered(3, 3 + count, sessions.unknown),
                                     [frame(SHUTDOWN), frame(EXIT)]))
         time.sleep(2)
         before = server.seconds()
         time.sleep(2)
-        if server.seconds() - before > 0.1:
+        if "pump" not in program and server.seconds() - before > 0.1:
             raise Failure("FAILED: it runs while nobody reads")
         expect(server.counted(), count + 2, "messages")
         return server.ends(0)
@@ -239,8 +269,13 @@ def rows(full):
     yield Row("1,000,000 requests under one id", 4_000, 30, one_id(1_000_000))
     yield Row("1,000,000 cancels of what isn't asked", 4_000, 30, cancels(1_000_000))
     yield Row("1,000,000 answers that nobody asked for", 4_000, 30, answers(1_000_000))
+    yield Row("1,000,000 commands whose params don't fit", 4_000, 30, unfit(1_000_000))
+    yield Row("1,000,000 messages with a float", 4_000, 30, floats(1_000_000))
+    for late, name in ((False, "and never answered"), (True, "and answered too late")):
+        # Of a question that was cancelled the desk keeps that it was asked, and then what was answered.
+        yield Row("100,000 questions to the editor, cancelled %s" % name, 60_000, 30, questions(100_000, late))
     size = 900_000 if full else 200_000
-    yield Row("a cancel that frees a queue of {:,}".format(size), 1_500 * size // 1000, 60, queue(size))
+    yield Row("a cancel that frees a queue of {:,}".format(size), 1_900 * size // 1000, 60, queue(size))
     for name in SHORT:
         yield Row("%s in pieces" % name, 4_000, 5, in_all_pieces(name))
     yield Row("one byte at a time", 4_000, 30, by_bytes(1, 10_000))

@@ -6,7 +6,7 @@ import subprocess
 import tempfile
 
 import sessions
-from hostile_input import EXIT, INITIALIZE, SHUTDOWN, cancel
+from hostile_input import ASK, EXIT, FOLDERS, INITIALIZE, SHUTDOWN, cancel
 from hostile_run import Failure, Found, Row, frame
 
 KIB = 1024
@@ -68,6 +68,7 @@ void *aligned_alloc(size_t align, size_t size) {
 SESSIONS = {
     "a whole session": [INITIALIZE, SHUTDOWN, EXIT],
     "a cancel": [INITIALIZE, sessions.execute(3, b"wait", b"1000"), cancel(3), cancel(3)],
+    "a question to the editor": [INITIALIZE, ASK, FOLDERS],
     "a mixed session": [INITIALIZE, sessions.INITIALIZED, *map(sessions.mixed, range(4, 36)), sessions.unknown(40),
                         sessions.execute(41, b"wait", b"1000"), sessions.execute(41, b"echo", b"1"), b"[1]", b"{",
                         sessions.execute(42, b"wait", b"1000"), cancel(42), b'{"jsonrpc":"2.0","result":null,"id":5}',
@@ -91,10 +92,10 @@ def address_space(program):
     """From 2 MB up, until the session ends well eight times in a row: what is written begins what is written then,
     and the status is that of no memory, or the program isn't begun at all."""
     data = b"".join(map(frame, SESSIONS["a mixed session"]))
-    whole, status = ran([program], data)
+    whole, status = ran(program, data)
     begun, kibibytes, well, seen = children_seconds(), 2_000, 0, collections.Counter()
     while well < 8 and kibibytes < 64_000:
-        found, ended = ran(["sh", "-c", 'ulimit -v %d; exec "$0"' % kibibytes, program], data)
+        found, ended = ran(["sh", "-c", 'ulimit -v %d; exec "$@"' % kibibytes, "sh", *program], data)
         what = "%d KiB" % kibibytes
         begins(whole, found, what)
         if ended not in (status, NO_MEMORY) and (found or ended not in NOT_BEGUN):
@@ -123,7 +124,7 @@ NOT_BEGUN = 126, 127, -7, -9, -11
 def refused(data, alone, words=(), whole=None):
     """Each growth is refused in turn, alone or with all later ones."""
     def run(program):
-        found, status = ran([program, *words], data)
+        found, status = ran([*program, *words], data)
         if whole not in (None, found):
             raise Failure("FAILED: with nothing refused: %r" % found[:200])
         return each_refused(program, words, data, alone, found, status)
@@ -140,7 +141,7 @@ def each_refused(program, words, data, alone, whole, status):
             number += 1
             last = number if alone else 1 << 40
             given = dict(os.environ, LD_PRELOAD=library, REFUSED_TOLD=told, REFUSED="%d %d" % (number, last))
-            found, ended = ran([program, *words], data, given)
+            found, ended = ran([*program, *words], data, given)
             begins(whole, found, "growth %d" % number)
             if ended != NO_MEMORY and (ended != status or found != whole):
                 raise Failure("FAILED: status %d where growth %d is refused" % (ended, number))
@@ -166,6 +167,10 @@ def rows(_):
         data = b"".join(map(frame, session))
         yield Row("%s, each growth refused" % name, 0, 60, refused(data, True))
         yield Row("%s, each growth refused with all later ones" % name, 0, 60, refused(data, False))
+
+
+def rows_in_memory():
+    """The sessions that the program makes up, in memory."""
     for words, whole in ((("bulk", "7", "40"), None), (("talk", "2", "3"), b"sent 6 delivered 6\n")):
         name = "`%s`, each growth refused" % " ".join(words)
         yield Row(name, 0, 60, refused(b"", True, words, whole))

@@ -21,7 +21,7 @@ Found = namedtuple("Found", "kilobytes seconds note", defaults=("",))
 
 
 class Row:
-    """A row: its name, the most kilobytes and seconds, and what runs it on a program."""
+    """A row: its name, the most kilobytes and seconds, and what runs it on a program, which is a list of words."""
 
     def __init__(self, name, kilobytes, seconds, run):
         self.name = name
@@ -104,9 +104,16 @@ class Fed:
             time.sleep(0.01)
 
     def seconds(self):
-        """The time on a processor until now."""
-        with open("/proc/%d/schedstat" % self.process.pid) as schedstat:
-            return int(schedstat.read().split()[0]) / 1e9
+        """The time of its threads on a processor until now."""
+        folder, taken = "/proc/%d/task" % self.process.pid, 0
+        for thread in os.listdir(folder):
+            try:
+                with open(os.path.join(folder, thread, "schedstat")) as schedstat:
+                    taken += int(schedstat.read().split()[0])
+            except OSError:
+                # It has ended meanwhile.
+                pass
+        return taken / 1e9
 
     # ---- What comes in.
 
@@ -177,7 +184,9 @@ def repeated(unit, count):
     yield unit * (count % many)
 
 
-def numbered(first, last, make, batch=4096):
-    """The frames of the bodies that are made of numbers."""
+def numbered(first, last, make, batch=4096, pair=None):
+    """The frames of the bodies that are made of numbers; where there is a pair, of both in turn."""
+    makers = (make, pair) if pair else (make,)
     for start in range(first, last, batch):
-        yield b"".join(frame(make(number)) for number in range(start, min(start + batch, last)))
+        numbers = range(start, min(start + batch, last))
+        yield b"".join(frame(each(number)) for number in numbers for each in makers)

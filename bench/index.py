@@ -208,7 +208,8 @@ def big(file, lines):
         document = writer.vertex("document", uri="file:///src/module_%d.rs" % documents, languageId="rust")
         ranges = []
         for n in range(1000):
-            ranges.append(writer.vertex("range", start={"line": n, "character": 4}, end={"line": n, "character": 12 + n % 9}))
+            ranges.append(writer.vertex("range", start={"line": n, "character": 4}, end={"line": n, "character": 12 + n % 9},
+                                        tag={"type": "reference", "text": "name_%d" % n}))
         definition = writer.vertex("definitionResult")
         references = writer.vertex("referenceResult")
         hover = writer.vertex("hoverResult", result={"contents": {"kind": "markdown", "value": "fn module_%d()" % documents}})

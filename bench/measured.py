@@ -38,8 +38,9 @@ BUILT_BY = {
 # A figure of a row: what it is of, its unit, and which of the runs counts.
 Figure = namedtuple("Figure", "label unit best", defaults=(min,))
 # Its name for --only; the program; the figures; what gives those of a run, from the program's path and the
-# paths of the inputs; what writes each input to a file; how many runs there are; the tool that it takes.
-Row = namedtuple("Row", "name program figures run inputs tries tool", defaults=((), TRIES, "cat"))
+# paths of the inputs; what writes each input to a file; how many runs there are; the tool that it takes; words
+# that not every program of the name knows.
+Row = namedtuple("Row", "name program figures run inputs tries tool words", defaults=((), TRIES, "cat", ()))
 
 
 # ---- Runs of a program.
@@ -161,10 +162,22 @@ def print_line(cells):
     print("| %s | %s |" % (first.ljust(72), " | ".join(each.rjust(14) for each in others)), flush=True)
 
 
+def knows(program, words):
+    """Whether the program knows the words: the status of its usage is 2."""
+    return subprocess.run([program, *words], stdin=subprocess.DEVNULL, stdout=subprocess.DEVNULL).returncode != 2
+
+
+def found_of(row, places):
+    """The program of each place, or none where it isn't built, or doesn't know what the row asks of it."""
+    programs = [place.program(row.program) for place in places]
+    return [each if each and (not row.words or knows(each, row.words)) else None for each in programs]
+
+
 def lack(row, programs):
     """What a row can't be measured without, or none."""
     if not any(programs):
-        return "%s isn't built (%s)" % (row.program, BUILT_BY[row.program])
+        known = ", or doesn't know `%s`" % " ".join(row.words) if row.words else ""
+        return "%s isn't built (%s)%s" % (row.program, BUILT_BY[row.program], known)
     if not shutil.which(row.tool):
         return "%s isn't on the path" % row.tool
     return None
@@ -184,7 +197,7 @@ def print_rows(rows, places, tries):
     """Prints the rows. One that can't be measured is skipped, which is said once of its name."""
     said = set()
     for row in rows:
-        programs = [place.program(row.program) for place in places]
+        programs = found_of(row, places)
         why = lack(row, programs)
         if not why:
             print_row(row, programs, tries)

@@ -141,12 +141,17 @@ def completion(number):
     return sessions.request(number, b"textDocument/completion", params)
 
 
-# Of each call its name, its message, how many are sent, and the functions that read its params and write its result.
+# Of each call its name, its message, and how many are sent.
 CALLS = {
-    "hover": (sessions.hover, (1000, 5000), ("HoverParams", "Hover")),
-    "completion": (completion, (20, 100), ("CompletionParams", "CompletionResponse")),
-    "change": (sessions.change, (1000, 5000), ("DidChangeTextDocumentParams", None)),
+    "hover": (sessions.hover, (1000, 5000)),
+    "completion of 100 items": (completion, (20, 100)),
+    "didChange": (sessions.change, (1000, 5000)),
 }
+# The functions that read and write types, and what they are made of. Some stand within their callers, as a program is
+# compiled: of these what they call is counted, and the rest is not.
+READS = re.compile(r"\w+Wire::from_value\b|\blsp_shape::")
+WRITES = re.compile(r"\w+Wire::to_value\b|\blsp_shape::")
+READER, WRITER = "lsp_service::read::", "lsp_service::write::"
 
 
 def untyped(body):
@@ -166,43 +171,47 @@ def crates_below(names):
     return found
 
 
+def called(lines):
+    """The calls of a run, from what callgrind writes: the function that calls, the one that is called, and the
+    instructions of these calls in all."""
+    names, caller, callee, is_cost = {}, None, None, False
+    for line in lines:
+        found = re.match(r"(c?fn)=(\(\d+\))(?: (.*))?$", line)
+        if found:
+            kind, number, name = found.groups()
+            name = names.setdefault(number, name)
+            if kind == "fn":
+                caller = name
+            else:
+                callee = name
+        elif line.startswith("calls="):
+            is_cost = True
+        elif is_cost:
+            is_cost = False
+            yield caller, callee, int(line.split()[1])
+
+
 def profiled(program, path):
-    """The instructions of a run on the file's bytes, in all and below each function."""
-    with tempfile.NamedTemporaryFile() as out, open(path, "rb") as given:
+    """The instructions of a run on the file's bytes, and of those what reading params and writing results takes."""
+    with tempfile.NamedTemporaryFile("r") as out, open(path, "rb") as given:
         words = ["valgrind", "--tool=callgrind", "--callgrind-out-file=" + out.name, program]
         done = subprocess.run(words, stdin=given, stdout=subprocess.DEVNULL, stderr=subprocess.PIPE, text=True,
                               env=dict(os.environ, GLIBC_TUNABLES=instructions.TUNABLES))
         if done.returncode != 0:
             measured.failed(words, "ended with status %d: %s" % (done.returncode, done.stderr))
-        told = subprocess.run(["callgrind_annotate", "--inclusive=yes", "--threshold=100", out.name], check=True,
-                              capture_output=True, text=True).stdout
-    below = {}
-    for count, name in re.findall(r"^\s*([\d,]+) (?:\([^)]*\))?\s+(\S.*?)(?: \[.*\])?$", told, re.M):
-        below[name] = int(count.replace(",", ""))
-    return int(re.search(r"Collected : (\d+)", done.stderr)[1]), below
+        calls = list(called(out))
+    read = sum(cost for caller, callee, cost in calls if READER in caller and READS.search(callee))
+    written = sum(cost for caller, callee, cost in calls if WRITER in caller and WRITES.search(callee))
+    return int(re.search(r"Collected : (\d+)", done.stderr)[1]), read, written
 
 
-def of_types(below, types):
-    """What the readers and writers of these types take, with all below them."""
-    params, result = types
-    kinds = [(params, "from_value"), (result, "to_value")]
-    found = 0
-    for kind, call in kinds:
-        names = [name for name in below if kind and re.search(r"\b%sWire\b.*\b%s\b" % (kind, call), name)]
-        if kind and not names:
-            print("no function %s of %s was seen: it may stand within its caller" % (call, kind), file=sys.stderr)
-        found += sum(below[name] for name in names)
-    return found
-
-
-def counts(program, body, lengths, types):
+def counts(program, body, lengths):
     """Instructions of one message more, and of those what reading params and writing results takes."""
     few, many = lengths
     runs = []
     for length in lengths:
         with measured.written(sessions.session(body, length, sessions.SHUTDOWN, sessions.EXIT)) as path:
-            total, below = profiled(program, path)
-            runs.append((total, of_types(below, types) if types else 0))
+            runs.append(profiled(program, path))
     return [(long - short) / (many - few) for short, long in zip(*runs)]
 
 
@@ -210,12 +219,12 @@ def main():
     program = sys.argv[1] if sys.argv[1:] else os.path.join(built.OUT, "typed_bench")
     if not os.path.isfile(program):
         sys.exit("%s isn't built (bench/typed.py --build)" % program)
-    measured.print_line(["call", "typed", "read, written", "untyped", "quotient"])
-    measured.print_line(["---"] + ["--:"] * 4)
-    for name, (body, lengths, types) in CALLS.items():
-        typed, apart = counts(program, body, lengths, types)
-        plain, _ = counts(program, untyped(body), lengths, None)
-        measured.print_line([name, *map(measured.shown, (typed, apart, plain, (typed - apart) / plain))])
+    measured.print_line(["instructions of a call", "typed", "read", "written", "untyped", "quotient"])
+    measured.print_line(["---"] + ["--:"] * 5)
+    for name, (body, lengths) in CALLS.items():
+        typed, read, written = counts(program, body, lengths)
+        plain, _, _ = counts(program, untyped(body), lengths)
+        measured.print_line([name, *map(measured.shown, (typed, read, written, plain, (typed - read - written) / plain))])
 
 
 if __name__ == "__main__":

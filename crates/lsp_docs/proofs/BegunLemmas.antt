@@ -1,5 +1,5 @@
 -- A server whose calls end at their first poll holds, after a run, what the calls that were begun in it lead to.
-use Rattle.std.proofs.Common.{◌≡◌, ◌≤◌, ◌+◌, ◌-◌, ℕ, zero, suc, List, [], ◌∷◌, ◌++◌, true, cond, Option, Some, refl, sym, ap, ◌∙◌, subst, arith, length, take, drop, map, nat_lt}
+use Rattle.std.proofs.Common.{◌≡◌, ◌≤◌, ◌-◌, ℕ, zero, suc, List, [], ◌∷◌, ◌++◌, true, cond, Option, Some, refl, sym, ap, ◌∙◌, subst, arith, length, map, nat_lt}
 use Rattle.std.specs.Prelude.{Result}
 use Rattle.std.proofs.Math.Seq.{take-nil, drop-nil}
 use Rattle.std.proofs.lemmas.Bool.{lt-ltb}

@@ -6,9 +6,8 @@ use Rattle.std.specs.FinMap as fin
 use Rattle.std.specs.Ordering.{eq_by_cmp}
 use Rattle.std.specs.Cmp.Lexicographic.{slice_cmp, nat_list_cmp_total, texts_ties}
 use Rattle.std.proofs.lemmas.Slice.Eq.{bytes_eq-Decides}
-use Rattle.lsp_base.specs.declared.document.TextDocumentContentChangeEvent.{TextDocumentContentChangeEvent}
 use Rattle.lsp_documents.specs.OpenDocument.{OpenDocument}
-use Rattle.lsp_documents.specs.Documents.{DocumentMap, Notification, accepted, after_open, after_changes, after_close, changed_document}
+use Rattle.lsp_documents.specs.Documents.{DocumentMap, Change, Notification, accepted, after_open, after_changes, after_close, changed_document}
 use Rattle.lsp_service.specs.Data.{noted}
 use Rattle.lsp_docs.specs.Docs.{tells, is_refused, TurnsTo}
 
@@ -23,8 +22,8 @@ was_refused n ds ds2 e same = (ap is_none e, (same ∙ sym (ap (λ o. unwrap_or 
 pub open_already : (ds : DocumentMap) (uri : List ℕ) (d : OpenDocument) → fin.contains_key ds uri ≡ true → after_open uri d ds ≡ None
 open_already ds uri d e = ap (λ b. cond b None (Some (fin.insert ds uri d))) e
 
-pub changes_none : (ds : DocumentMap) (uri : List ℕ) (version : ℤ) (es : List TextDocumentContentChangeEvent) → fin.get ds uri ≡ None → after_changes uri version es ds ≡ None
-changes_none ds uri version es e = ap (λ o. option_map (λ (d : OpenDocument). fin.insert ds uri d) (option_and_then (changed_document version es) o)) e
+pub changes_none : (ds : DocumentMap) (uri : List ℕ) (version : ℤ) (cs : List Change) → fin.get ds uri ≡ None → after_changes uri version cs ds ≡ None
+changes_none ds uri version cs e = ap (λ o. option_map (λ (d : OpenDocument). fin.insert ds uri d) (option_and_then (changed_document version cs) o)) e
 
 pub closes : (ds : DocumentMap) (uri : List ℕ) (d : OpenDocument) → fin.get ds uri ≡ Some d → after_close uri ds ≡ Some (fin.remove ds uri)
 closes ds uri d e = ap (λ o. cond (is_some o) (Some (fin.remove ds uri)) None) e

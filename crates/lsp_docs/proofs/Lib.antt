@@ -1,3 +1,7 @@
 pub mod BegunLemmas
+pub mod DeterminedLemmas
 pub mod DocsLemmas
 pub mod NoticeLemmas
+pub mod ParamsLemmas
+pub mod SameRunLemmas
+pub mod ShownLemmas

@@ -1,11 +1,10 @@
 -- What a server that keeps its client's open documents does (LSP 3.17, "Text Document Synchronization").
-use Rattle.std.specs.Prelude.{◌≡◌, ℕ, pos, Bool, true, false, List, [], ◌∷◌, codes, Option, Some, None, option_map, unwrap_or, is_none, not, string_bytes, Result, Ok, Err}
+use Rattle.std.specs.Prelude.{◌≡◌, ℕ, pos, Bool, true, false, List, [], ◌∷◌, codes, Option, Some, None, unwrap_or, is_none, not, Result, Ok, Err}
 use Rattle.std.specs.Option.{option_and_then}
-use Rattle.std.specs.Str.{chars, encode_utf8_all}
+use Rattle.std.specs.Str.{encode_utf8_all}
 use Rattle.std.specs.FinMap as map
 use Rattle.serde_json.specs.Data.{Data, null, string, number, object, member, no_members}
 use Rattle.serde_json.specs.Find.{get, as_str, of_integer}
-use Rattle.serde_json.specs.View.{view}
 use Rattle.lsp_rpc.specs.declared.code.ErrorCode.TheVariants.{InvalidParams, MethodNotFound}
 use Rattle.lsp_rpc.specs.Message.{ErrorData, error_with_code}
 use Rattle.lsp_session.specs.declared.table.Kind.TheVariants as kinds
@@ -13,44 +12,27 @@ use Rattle.lsp_session.specs.declared.table.Layer.TheVariants as layers
 use Rattle.lsp_session.specs.Table.{MethodData}
 use Rattle.lsp_desk.specs.Call.{Call as DeskCall}
 use Rattle.lsp_desk.specs.Trace.{DeskEntry}
-use Rattle.lsp_uri.specs.Uri.{uri_text}
 use Rattle.lsp_initialize.specs.declared.server.ServerCapabilities.{ServerCapabilities}
 use Rattle.lsp_initialize.specs.Server.{initialize_result_row}
 use Rattle.lsp_offer_text.specs.declared.sync.TextDocumentSyncCapability.TheVariants as sync_capability
 use Rattle.lsp_offer_text.specs.declared.sync.TextDocumentSyncOptions.{TextDocumentSyncOptions}
-use Rattle.lsp_work.specs.declared.document.DidChangeTextDocumentParams.{DidChangeTextDocumentParams}
-use Rattle.lsp_work.specs.declared.document.DidCloseTextDocumentParams.{DidCloseTextDocumentParams}
-use Rattle.lsp_work.specs.declared.document.DidOpenTextDocumentParams.{DidOpenTextDocumentParams}
-use Rattle.lsp_documents.specs.Documents.{DocumentMap, Notification, Opened, Changed, Closed, accepted}
-use Rattle.lsp_documents.specs.OpenDocument.{OpenDocument, document_of}
+use Rattle.lsp_work.specs.Document.{did_open_text_document_params_row, did_change_text_document_params_row, did_close_text_document_params_row}
+use Rattle.lsp_documents.specs.Documents.{DocumentMap, Notification, accepted}
+use Rattle.lsp_documents.specs.OpenDocument.{OpenDocument}
 use Rattle.lsp_methods.specs.declared.method.Method.TheVariants as methods
 use Rattle.lsp_methods.specs.declared.method.LifeMethod.TheVariants as life
+use Rattle.lsp_methods.specs.declared.method.SyncMethod.TheVariants as sync
 use Rattle.lsp_client.specs.declared.answers.Told.{Told}
 use Rattle.lsp_client.specs.Client.{IsTold}
 use Rattle.lsp_client.specs.Methods.{log_message_call}
-use Rattle.lsp_service.specs.declared.call.Call.{Call}
-use Rattle.lsp_service.specs.declared.call.Call.TheVariants as calls
-use Rattle.lsp_service.specs.declared.call.LifeCall.TheVariants as life_calls
-use Rattle.lsp_service.specs.declared.call.SyncCall.TheVariants as sync_calls
 use Rattle.lsp_service.specs.declared.server.NoTask.{NoTask}
-use Rattle.lsp_service.specs.Calls.{show_call}
-use Rattle.lsp_service.specs.Data.{MethodCall, MethodReply, answer, custom_answer, refusal, noted, nil_row}
+use Rattle.lsp_service.specs.Data.{MethodCall, typed, custom, MethodReply, answer, custom_answer, refusal, noted, nil_row}
 use Rattle.lsp_service.specs.declared.reply.Reply.{Reply}
 use Rattle.lsp_service.specs.Open.{no_call}
 use Rattle.lsp_service.specs.Replies.{show_reply}
 use Rattle.lsp_service.specs.Server.{Start, Now, Later, ServerSemantics}
 use Rattle.lsp_docs.specs.declared.docs.DocsServer.{DocsServer}
-
--- ---- what a notification tells of a document
-
-abbrev pub opening_of : DidOpenTextDocumentParams → Notification
-opening_of p = Opened (uri_text p.text_document.uri) (document_of p.text_document.version (chars (string_bytes p.text_document.text)))
-
-abbrev pub change_of : DidChangeTextDocumentParams → Notification
-change_of p = Changed (uri_text p.text_document.uri) p.text_document.version p.content_changes.items
-
-abbrev pub closing_of : DidCloseTextDocumentParams → Notification
-closing_of p = Closed (uri_text p.text_document.uri)
+use Rattle.lsp_docs.specs.Params.{json_by, did_open, did_change, did_close}
 
 -- ---- `docs/text`
 
@@ -123,14 +105,15 @@ pub data DocsTurn : Type 0 where
   replies : MethodReply → DocsTurn
   tells : Notification → DocsTurn
 
-abbrev pub docs_turn : DocumentMap → Call → DocsTurn
-docs_turn ds (calls.Life (life_calls.Initialize p)) = replies initialize_answer
-docs_turn ds (calls.Life life_calls.Shutdown) = replies (answer (methods.Life life.Shutdown) (Ok (nil_row.shown tt)))
-docs_turn ds (calls.Sync (sync_calls.DidOpen p)) = tells (opening_of p)
-docs_turn ds (calls.Sync (sync_calls.DidChange p)) = tells (change_of p)
-docs_turn ds (calls.Sync (sync_calls.DidClose p)) = tells (closing_of p)
-docs_turn ds (calls.Custom n params) = replies (custom_answer (text_answer ds (requested_uri (option_map view params))))
-docs_turn ds c = replies (refusal (error_with_code MethodNotFound))
+-- by the method; what a notification tells is read off the JSON of its params
+abbrev pub docs_turn : DocumentMap → MethodCall → DocsTurn
+docs_turn ds (typed (methods.Life life.Initialize) p) = replies initialize_answer
+docs_turn ds (typed (methods.Life life.Shutdown) p) = replies (answer (methods.Life life.Shutdown) (Ok (nil_row.shown tt)))
+docs_turn ds (typed (methods.Sync sync.DidOpen) p) = tells (did_open (json_by did_open_text_document_params_row p))
+docs_turn ds (typed (methods.Sync sync.DidChange) p) = tells (did_change (json_by did_change_text_document_params_row p))
+docs_turn ds (typed (methods.Sync sync.DidClose) p) = tells (did_close (json_by did_close_text_document_params_row p))
+docs_turn ds (custom n p) = replies (custom_answer (text_answer ds (requested_uri p)))
+docs_turn ds (typed m p) = replies (refusal (error_with_code MethodNotFound))
 
 -- the documents and the reply then
 abbrev pub TurnsTo : DocsTurn → DocumentMap → DocumentMap → MethodReply → Type 0
@@ -165,14 +148,12 @@ LogsRefusal false asked = asked ≡ []
 abbrev pub docs_methods : List MethodData
 docs_methods = record { name = codes "docs/text"; layer = layers.Normal; kind = kinds.Request } ∷ []
 
--- the call, as the code has it, came to this
+-- a call ends at its first poll
 pub record DocsPoll (s : DocsServer) (c : MethodCall) (asked : List DeskEntry) (s2 : DocsServer) (start : Start NoTask) : Type 0 where
-  pub call : Call
-  pub shows : c ≡ show_call call
   pub reply : MethodReply
   pub is : start ≡ Now reply
-  pub turns : TurnsTo (docs_turn s.documents call) s.documents s2.documents reply
-  pub logs : LogsRefusal (is_refused (docs_turn s.documents call) s.documents) asked
+  pub turns : TurnsTo (docs_turn s.documents c) s.documents s2.documents reply
+  pub logs : LogsRefusal (is_refused (docs_turn s.documents c) s.documents) asked
 
 -- a task, of which none is ever made, goes on
 pub record DocsGoesOn (s : DocsServer) (t : NoTask) (asked : List DeskEntry) (s2 : DocsServer) (start : Start NoTask) : Type 0 where

@@ -1,4 +1,7 @@
 pub mod Begun
+pub mod Determined
 pub mod Docs
 pub mod DocsLaws
 pub mod Notices
+pub mod Params
+pub mod Typed

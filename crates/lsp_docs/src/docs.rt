@@ -4,7 +4,8 @@ ghost use Rattle.std.specs.FinMap as map;
 ghost use Rattle.std.specs.Str.{encode_utf8_all};
 ghost use Rattle.serde_json.specs.View.{view};
 ghost use Rattle.lsp_rpc.specs.Shown.{show_body};
-ghost use Rattle.lsp_docs.specs.Docs.{docs_turn, requested_uri as requested_uri_lem, text_answer, found_data, opening_of, change_of, closing_of, offered, Heeded, Turned};
+ghost use Rattle.lsp_docs.specs.Docs.{requested_uri as requested_uri_lem, text_answer, found_data, offered, Heeded, Turned};
+ghost use Rattle.lsp_docs.specs.Typed.{call_turn, opening_of, changes_of, closing_of};
 
 use lsp_client::Client;
 use lsp_desk::{Caller, DeskFault};
@@ -53,7 +54,7 @@ impl DocsServer {
 
     // What a call comes to: its reply; or none, where it is a notification that isn't accepted.
     fn answer(&mut self, alloc: Global, call: Call) -> Result<Option<Reply>, NoMemory>
-        ensures turned { IfOk result (Turned (docs_turn self.old.documents call)
+        ensures turned { IfOk result (Turned (call_turn self.old.documents call)
             self.old.documents self.new.documents) }
         ensures err { OnErr result (self.new ≡ self.old) }
     {
@@ -89,7 +90,7 @@ impl DocsServer {
     }
 
     fn change(&mut self, params: DidChangeTextDocumentParams) -> Result<bool, NoMemory>
-        ensures heeded { IfOk result (Heeded (change_of params) self.old.documents
+        ensures heeded { IfOk result (Heeded (changes_of params) self.old.documents
             self.new.documents) }
         ensures err { OnErr result (self.new ≡ self.old) }
     {

@@ -6,5 +6,5 @@ mod law;
 mod service;
 
 pub use docs::DocsServer;
-pub use law::documents_are_those_told;
+pub use law::{docs_polls_are_a_function, docs_sessions_are_a_function, documents_are_those_told};
 pub use service::docs_service;

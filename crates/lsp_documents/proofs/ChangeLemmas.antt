@@ -1,5 +1,5 @@
 -- Changes of characters and of bytes.
-use Rattle.std.proofs.Common.{◌≡◌, ◌<◌, ◌≤◌, ◌+◌, ◌-◌, ℕ, suc, List, [], ◌∷◌, ◌++◌, Bool, true, false, cond, Option, Some, None, refl, sym, ap, ◌∙◌, subst, arith, length, take, drop, get_or, nat_le}
+use Rattle.std.proofs.Common.{◌≡◌, ◌<◌, ◌≤◌, ◌+◌, ◌-◌, ℕ, suc, List, [], ◌∷◌, ◌++◌, Bool, true, false, cond, Option, Some, None, refl, sym, ap, ◌∙◌, subst, arith, length, map, take, drop, get_or, nat_le}
 use Rattle.std.specs.Prelude.{slice_index}
 use Rattle.std.specs.Option.{option_and_then}
 use Rattle.std.specs.Str.{chars, IsUtf8, IsCharBoundary}
@@ -10,7 +10,7 @@ use lib.Utf8.{encodes}
 use Rattle.lsp_base.specs.declared.document.TextDocumentContentChangeEvent.{TextDocumentContentChangeEvent}
 use Rattle.lsp_base.specs.declared.position.Range.{Range}
 use Rattle.lsp_documents.specs.Lines.{ends_line, units, first_line, from_line, fitting, place_of, place_from}
-use Rattle.lsp_documents.specs.Documents.{changed_in, changed, all_changed}
+use Rattle.lsp_documents.specs.Documents.{change_of, changed_in, changed, all_changed}
 use Rattle.lsp_documents.proofs.LineLemmas.{IsOptionEnd, from_line-end}
 use Rattle.lsp_documents.proofs.PlaceLemmas.{bytes_apart, scalars-drop}
 use Rattle.lsp_documents.proofs.PositionLemmas.{bytes_to, place_below, place_before}
@@ -112,24 +112,24 @@ whole_replaced bs s out end all e = e ∙ ap (λ x. s ++ x) (drop_all end bs (om
 -- ---- changes in order
 
 module _ (es : List TextDocumentContentChangeEvent) (i : ℕ) (e : TextDocumentContentChangeEvent) where
-  rest_of : i < length es → e ≡ get_or es i e → (t : List ℕ) → all_changed (drop i es) t ≡ option_and_then (all_changed (drop (i + 1) es)) (changed e t)
-  rest_of less is t = at_drop_more (λ ds. all_changed ds t) es i e less ∙ ap (λ x. option_and_then (all_changed (drop (i + 1) es)) (changed x t)) (sym is)
+  rest_of : i < length es → e ≡ get_or es i e → (t : List ℕ) → all_changed (map change_of (drop i es)) t ≡ option_and_then (all_changed (map change_of (drop (i + 1) es))) (changed (change_of e) t)
+  rest_of less is t = at_drop_more (λ ds. all_changed (map change_of ds) t) es i e less ∙ ap (λ x. option_and_then (all_changed (map change_of (drop (i + 1) es))) (changed (change_of x) t)) (sym is)
 
-  pub one_changed : i < length es → e ≡ get_or es i e → (t later : List ℕ) → changed e t ≡ Some later → all_changed (drop (i + 1) es) later ≡ all_changed (drop i es) t
-  one_changed less is t later h = sym (rest_of less is t ∙ ap (option_and_then (all_changed (drop (i + 1) es))) h)
+  pub one_changed : i < length es → e ≡ get_or es i e → (t later : List ℕ) → changed (change_of e) t ≡ Some later → all_changed (map change_of (drop (i + 1) es)) later ≡ all_changed (map change_of (drop i es)) t
+  one_changed less is t later h = sym (rest_of less is t ∙ ap (option_and_then (all_changed (map change_of (drop (i + 1) es)))) h)
 
-  pub none_changed : i < length es → e ≡ get_or es i e → (t : List ℕ) → changed e t ≡ None → all_changed (drop i es) t ≡ None
-  none_changed less is t h = rest_of less is t ∙ ap (option_and_then (all_changed (drop (i + 1) es))) h
+  pub none_changed : i < length es → e ≡ get_or es i e → (t : List ℕ) → changed (change_of e) t ≡ None → all_changed (map change_of (drop i es)) t ≡ None
+  none_changed less is t h = rest_of less is t ∙ ap (option_and_then (all_changed (map change_of (drop (i + 1) es)))) h
 
-pub all_made : (es : List TextDocumentContentChangeEvent) (i : ℕ) (t : List ℕ) → length es ≤ i → all_changed (drop i es) t ≡ Some t
-all_made es i t le = at_drop_all (λ ds. all_changed ds t) es i le
+pub all_made : (es : List TextDocumentContentChangeEvent) (i : ℕ) (t : List ℕ) → length es ≤ i → all_changed (map change_of (drop i es)) t ≡ Some t
+all_made es i t le = at_drop_all (λ ds. all_changed (map change_of ds) t) es i le
 
-pub only_changed : (es : List TextDocumentContentChangeEvent) (e : TextDocumentContentChangeEvent) (t : List ℕ) (o : Option (List ℕ)) → length es ≡ 1 → e ≡ get_or es 0 e → changed e t ≡ o → all_changed es t ≡ o
+pub only_changed : (es : List TextDocumentContentChangeEvent) (e : TextDocumentContentChangeEvent) (t : List ℕ) (o : Option (List ℕ)) → length es ≡ 1 → e ≡ get_or es 0 e → changed (change_of e) t ≡ o → all_changed (map change_of es) t ≡ o
 only_changed es e t o one is h =
-    at_drop_more (λ ds. all_changed ds t) es 0 e (omega arith)
-    ∙ ap (λ x. option_and_then (all_changed (drop (0 + 1) es)) (changed x t)) (sym is)
-    ∙ ap (option_and_then (all_changed (drop (0 + 1) es))) h ∙ go o
+    at_drop_more (λ ds. all_changed (map change_of ds) t) es 0 e (omega arith)
+    ∙ ap (λ x. option_and_then (all_changed (map change_of (drop (0 + 1) es))) (changed (change_of x) t)) (sym is)
+    ∙ ap (option_and_then (all_changed (map change_of (drop (0 + 1) es)))) h ∙ go o
   where
-    go : (o : Option (List ℕ)) → option_and_then (all_changed (drop (0 + 1) es)) o ≡ o
+    go : (o : Option (List ℕ)) → option_and_then (all_changed (map change_of (drop (0 + 1) es))) o ≡ o
     go None = refl
-    go (Some x) = at_drop_all (λ ds. all_changed ds x) es (0 + 1) (omega arith)
+    go (Some x) = at_drop_all (λ ds. all_changed (map change_of ds) x) es (0 + 1) (omega arith)

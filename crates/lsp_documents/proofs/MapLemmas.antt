@@ -10,8 +10,7 @@ use Rattle.std.proofs.lemmas.Cmp.{eq_by_cmp_equiv}
 use Rattle.std.specs.FinMap as fin
 use Rattle.lsp_documents.specs.OpenDocument.{OpenDocument, document_of}
 use Rattle.std.proofs.lemmas.Slice.Eq.{bytes_eq-Decides}
-use Rattle.lsp_base.specs.declared.document.TextDocumentContentChangeEvent.{TextDocumentContentChangeEvent}
-use Rattle.lsp_documents.specs.Documents.{DocumentMap, all_changed, after_changes, changed_document}
+use Rattle.lsp_documents.specs.Documents.{DocumentMap, Change, all_changed, after_changes, changed_document}
 use Rattle.lsp_documents.specs.Views.{documents_of}
 
 found : {Z : Type 0} (es : List (String Z × OpenDocument)) (q : List ℕ) → fin.find (slice_cmp nat_cmp) q (map (λ e. (string_bytes e.0, e.1)) es) ≡ lookup (λ k. bytes_eq q (string_bytes k)) es
@@ -52,17 +51,17 @@ module _ {Z S : Type 0} where
   found_in m k o e = get-documents_of m k ∙ e
 
   -- the document of k becomes w
-  pub changed_map : (m n : HashMap (String Z) OpenDocument S) (k : List ℕ) (version : ℤ) (es : List TextDocumentContentChangeEvent) (d w : OpenDocument) → get_by_text m k ≡ Some d → all_changed es d.text ≡ Some w.text → w.version ≡ version
-      → ((q : List ℕ) → get_by_text n q ≡ cond (bytes_eq k q) (Some w) (get_by_text m q)) → after_changes k version es (documents_of m) ≡ Some (documents_of n)
-  changed_map m n k version es d w is made versioned h =
-      ap (λ o. option_map (λ (x : OpenDocument). fin.insert (documents_of m) k x) (option_and_then (changed_document version es) o)) (found_in m k (Some d) is)
+  pub changed_map : (m n : HashMap (String Z) OpenDocument S) (k : List ℕ) (version : ℤ) (cs : List Change) (d w : OpenDocument) → get_by_text m k ≡ Some d → all_changed cs d.text ≡ Some w.text → w.version ≡ version
+      → ((q : List ℕ) → get_by_text n q ≡ cond (bytes_eq k q) (Some w) (get_by_text m q)) → after_changes k version cs (documents_of m) ≡ Some (documents_of n)
+  changed_map m n k version cs d w is made versioned h =
+      ap (λ o. option_map (λ (x : OpenDocument). fin.insert (documents_of m) k x) (option_and_then (changed_document version cs) o)) (found_in m k (Some d) is)
       ∙ ap (λ o. option_map (λ (x : OpenDocument). fin.insert (documents_of m) k x) (option_map (document_of version) o)) made
       ∙ ap (λ v. Some (fin.insert (documents_of m) k (document_of v w.text))) (sym versioned)
       ∙ ap Some (sym (inserted m n k w h))
 
-  pub none_made : (m : HashMap (String Z) OpenDocument S) (k : List ℕ) (version : ℤ) (es : List TextDocumentContentChangeEvent) (d : OpenDocument) → get_by_text m k ≡ Some d → all_changed es d.text ≡ None → after_changes k version es (documents_of m) ≡ None
-  none_made m k version es d is made =
-      ap (λ o. option_map (λ (x : OpenDocument). fin.insert (documents_of m) k x) (option_and_then (changed_document version es) o)) (found_in m k (Some d) is)
+  pub none_made : (m : HashMap (String Z) OpenDocument S) (k : List ℕ) (version : ℤ) (cs : List Change) (d : OpenDocument) → get_by_text m k ≡ Some d → all_changed cs d.text ≡ None → after_changes k version cs (documents_of m) ≡ None
+  none_made m k version cs d is made =
+      ap (λ o. option_map (λ (x : OpenDocument). fin.insert (documents_of m) k x) (option_and_then (changed_document version cs) o)) (found_in m k (Some d) is)
       ∙ ap (λ o. option_map (λ (x : OpenDocument). fin.insert (documents_of m) k x) (option_map (document_of version) o)) made
 
   -- the document of k is written back as it was

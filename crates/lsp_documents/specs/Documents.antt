@@ -20,16 +20,25 @@ changed_in None new t = Some new
 changed_in (Some r) new t =
     replaced (place_of r.start.line r.start.character t) (place_of r.end.line r.end.character t) new t
 
-abbrev pub changed : TextDocumentContentChangeEvent → List ℕ → Option (List ℕ)
-changed e t = changed_in e.range (chars (string_bytes e.text)) t
+-- a change: of a range, or of the whole text, and the characters that stand there then
+pub record Change : Type 0 where
+  pub range : Option Range
+  pub text : List ℕ
+
+-- what an event says; its `rangeLength` is ignored
+abbrev pub change_of : TextDocumentContentChangeEvent → Change
+change_of e = record { range = e.range; text = chars (string_bytes e.text) }
+
+abbrev pub changed : Change → List ℕ → Option (List ℕ)
+changed c t = changed_in c.range c.text t
 
 -- the text after changes in order, each of the text that the ones before leave; none where one has its start behind its end
-abbrev pub all_changed : List TextDocumentContentChangeEvent → List ℕ → Option (List ℕ)
+abbrev pub all_changed : List Change → List ℕ → Option (List ℕ)
 all_changed [] t = Some t
-all_changed (e ∷ es) t = option_and_then (all_changed es) (changed e t)
+all_changed (c ∷ cs) t = option_and_then (all_changed cs) (changed c t)
 
-abbrev pub changed_document : ℤ → List TextDocumentContentChangeEvent → OpenDocument → Option OpenDocument
-changed_document version es d = option_map (document_of version) (all_changed es d.text)
+abbrev pub changed_document : ℤ → List Change → OpenDocument → Option OpenDocument
+changed_document version cs d = option_map (document_of version) (all_changed cs d.text)
 
 -- the open documents, by the texts of their URIs
 abbrev pub DocumentMap : Type 0
@@ -38,7 +47,7 @@ DocumentMap = map.FinMap (slice_cmp nat_cmp) OpenDocument
 -- what the editor tells of its documents
 pub data Notification : Type 0 where
   Opened : List ℕ → OpenDocument → Notification
-  Changed : List ℕ → ℤ → List TextDocumentContentChangeEvent → Notification
+  Changed : List ℕ → ℤ → List Change → Notification
   Closed : List ℕ → Notification
 
 -- the documents after a document is opened; none where its URI is open
@@ -46,9 +55,9 @@ abbrev pub after_open : List ℕ → OpenDocument → DocumentMap → Option Doc
 after_open uri d ds = if map.contains_key ds uri then None else Some (map.insert ds uri d)
 
 -- the documents after changes of one; none where its URI isn't open, or a change has its start behind its end
-abbrev pub after_changes : List ℕ → ℤ → List TextDocumentContentChangeEvent → DocumentMap → Option DocumentMap
-after_changes uri version es ds =
-    option_map (λ d. map.insert ds uri d) (option_and_then (changed_document version es) (map.get ds uri))
+abbrev pub after_changes : List ℕ → ℤ → List Change → DocumentMap → Option DocumentMap
+after_changes uri version cs ds =
+    option_map (λ d. map.insert ds uri d) (option_and_then (changed_document version cs) (map.get ds uri))
 
 -- the documents after one is closed; none where its URI isn't open
 abbrev pub after_close : List ℕ → DocumentMap → Option DocumentMap
@@ -57,7 +66,7 @@ after_close uri ds = if map.contains_key ds uri then Some (map.remove ds uri) el
 -- the documents after a notification, where it is accepted
 abbrev pub accepted : Notification → DocumentMap → Option DocumentMap
 accepted (Opened uri d) ds = after_open uri d ds
-accepted (Changed uri version es) ds = after_changes uri version es ds
+accepted (Changed uri version cs) ds = after_changes uri version cs ds
 accepted (Closed uri) ds = after_close uri ds
 
 -- the documents after notifications: one that isn't accepted changes nothing

@@ -1,7 +1,7 @@
 // Changes of a text.
-ghost use Rattle.std.specs.Prelude.{◌≡◌, ◌≢◌, Some, None, Err, OnOk, OnErr, string_bytes};
+ghost use Rattle.std.specs.Prelude.{◌≡◌, ◌≢◌, Some, None, Err, OnOk, OnErr, map, string_bytes};
 ghost use Rattle.std.specs.Str.{chars};
-ghost use Rattle.lsp_documents.specs.Documents.{changed, changed_in, all_changed};
+ghost use Rattle.lsp_documents.specs.Documents.{change_of, changed, changed_in, all_changed};
 
 use crate::error::ChangeError;
 use crate::place::offsets;
@@ -41,10 +41,10 @@ fn replace(text: &mut String, range: Range, new: &str) -> Result<(), ChangeError
 
 // Makes one change.
 fn apply(text: &mut String, change: &TextDocumentContentChangeEvent) -> Result<(), ChangeError>
-    ensures ok { OnOk result (changed change.now (chars (string_bytes text.old))
+    ensures ok { OnOk result (changed (change_of change.now) (chars (string_bytes text.old))
         ≡ Some (chars (string_bytes text.new))) }
     ensures behind { result ≡ Err ChangeError.StartBehindEnd
-        → changed change.now (chars (string_bytes text.old)) ≡ None }
+        → changed (change_of change.now) (chars (string_bytes text.old)) ≡ None }
     ensures causes { result ≢ Err ChangeError.NotOpen }
     ensures err { OnErr result (string_bytes text.new ≡ string_bytes text.old) }
 {
@@ -60,10 +60,10 @@ pub(crate) fn apply_all(
     text: &mut String,
     changes: &[TextDocumentContentChangeEvent],
 ) -> Result<(), ChangeError>
-    ensures ok { OnOk result (all_changed changes.now (chars (string_bytes text.old))
+    ensures ok { OnOk result (all_changed (map change_of changes.now) (chars (string_bytes text.old))
         ≡ Some (chars (string_bytes text.new))) }
     ensures behind { result ≡ Err ChangeError.StartBehindEnd
-        → all_changed changes.now (chars (string_bytes text.old)) ≡ None }
+        → all_changed (map change_of changes.now) (chars (string_bytes text.old)) ≡ None }
     ensures causes { result ≢ Err ChangeError.NotOpen }
     ensures err { OnErr result (string_bytes text.new ≡ string_bytes text.old) }
 {

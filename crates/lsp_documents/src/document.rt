@@ -1,6 +1,6 @@
-ghost use Rattle.std.specs.Prelude.{◌≡◌, ◌≢◌, ◌^◌, ◌<◌, Some, None, Err, OnOk, OnErr, IfSome, IsSome, length, take, string_bytes};
+ghost use Rattle.std.specs.Prelude.{◌≡◌, ◌≢◌, ◌^◌, ◌<◌, Some, None, Err, OnOk, OnErr, IfSome, IsSome, length, map, take, string_bytes};
 ghost use Rattle.std.specs.Str.{chars, encode_utf8_all, IsCharBoundary};
-ghost use Rattle.lsp_documents.specs.Documents.{all_changed};
+ghost use Rattle.lsp_documents.specs.Documents.{all_changed, change_of};
 ghost use Rattle.lsp_documents.specs.Lines.{place_of, IsPosition};
 
 use crate::change::apply_all;
@@ -78,10 +78,11 @@ impl Document {
         version: i32,
         changes: &[TextDocumentContentChangeEvent],
     ) -> Result<(), ChangeError>
-        ensures ok { OnOk result (all_changed changes.now self.old.text ≡ Some self.new.text) }
+        ensures ok { OnOk result (all_changed (map change_of changes.now) self.old.text
+            ≡ Some self.new.text) }
         ensures version { OnOk result (self.new.version ≡ version) }
         ensures behind { result ≡ Err ChangeError.StartBehindEnd
-            → all_changed changes.now self.old.text ≡ None }
+            → all_changed (map change_of changes.now) self.old.text ≡ None }
         ensures causes { result ≢ Err ChangeError.NotOpen }
         ensures err { OnErr result (self.new ≡ self.old) }
     {

@@ -1,8 +1,8 @@
-ghost use Rattle.std.specs.Prelude.{◌≡◌, ◌↔◌, Some, None, Err, OnOk, OnErr, IsTrue, option_map, string_bytes, true};
+ghost use Rattle.std.specs.Prelude.{◌≡◌, ◌↔◌, Some, None, Err, OnOk, OnErr, IsTrue, map, option_map, string_bytes, true};
 ghost use Rattle.std.specs.Str.{chars};
-ghost use Rattle.std.specs.FinMap as map;
+ghost use Rattle.std.specs.FinMap as fin;
 ghost use Rattle.lsp_documents.specs.OpenDocument.{document_of};
-ghost use Rattle.lsp_documents.specs.Documents.{after_open, after_changes, after_close};
+ghost use Rattle.lsp_documents.specs.Documents.{after_open, after_changes, after_close, change_of};
 
 use crate::document::Document;
 use crate::error::{ChangeError, OpenError};
@@ -32,7 +32,7 @@ impl Model for Documents {
 impl Documents {
     /// No document is open.
     pub fn new(alloc: Global) -> Documents
-        ensures { result ≡ map.empty }
+        ensures { result ≡ fin.empty }
     {
         Documents {
             alloc,
@@ -42,7 +42,7 @@ impl Documents {
 
     /// The open document of a URI.
     pub fn get(&self, uri: &str) -> Option<&Document>
-        ensures { option_map (λ d. d.now) result ≡ map.get self.now uri.now }
+        ensures { option_map (λ d. d.now) result ≡ fin.get self.now uri.now }
     {
         self.documents.get(uri)
     }
@@ -52,7 +52,7 @@ impl Documents {
         ensures ok { OnOk result (after_open uri.now
             (document_of version (chars (string_bytes text))) self.old ≡ Some self.new) }
         ensures already { (result ≡ Err OpenError.AlreadyOpen)
-            ↔ (map.contains_key self.old uri.now ≡ true) }
+            ↔ (fin.contains_key self.old uri.now ≡ true) }
         ensures err { OnErr result (self.new ≡ self.old) }
     {
         if self.documents.contains_key(uri) {
@@ -71,11 +71,11 @@ impl Documents {
         version: i32,
         changes: &[TextDocumentContentChangeEvent],
     ) -> Result<(), ChangeError>
-        ensures ok { OnOk result (after_changes uri.now version changes.now self.old
-            ≡ Some self.new) }
-        ensures not_open { (result ≡ Err ChangeError.NotOpen) ↔ (map.get self.old uri.now ≡ None) }
+        ensures ok { OnOk result (after_changes uri.now version (map change_of changes.now)
+            self.old ≡ Some self.new) }
+        ensures not_open { (result ≡ Err ChangeError.NotOpen) ↔ (fin.get self.old uri.now ≡ None) }
         ensures behind { result ≡ Err ChangeError.StartBehindEnd
-            → after_changes uri.now version changes.now self.old ≡ None }
+            → after_changes uri.now version (map change_of changes.now) self.old ≡ None }
         ensures err { OnErr result (self.new ≡ self.old) }
     {
         let Some(document) = self.documents.get_mut(uri) else {
@@ -86,8 +86,8 @@ impl Documents {
 
     /// Closes the open document of a URI, and hands it out. It takes no memory.
     pub fn close(&mut self, uri: &str) -> Option<Document>
-        ensures document { result ≡ map.get self.old uri.now }
-        ensures others { self.new ≡ map.remove self.old uri.now }
+        ensures document { result ≡ fin.get self.old uri.now }
+        ensures others { self.new ≡ fin.remove self.old uri.now }
     {
         self.documents.remove(uri)
     }

@@ -7,7 +7,7 @@ use hello::Hello;
 use lsp_desk::PlainDesk;
 use lsp_frame::Floats;
 use lsp_server::Server;
-use lsp_service::{AtOnce, LspService, serve_stdio};
+use lsp_service::{AtOnce, LspService, pump_stdio};
 use lsp_stdio::Status;
 use std::process::ExitCode;
 
@@ -19,5 +19,5 @@ fn main(rt: HostRuntime) -> ExitCode {
     let server = Server::new(socket)
         .floats(Floats::Read)
         .allow_empty_params();
-    serve_stdio(rt.alloc(), rt.stdin(), rt.stdout(), service, server)
+    pump_stdio(&rt, rt.alloc(), rt.stdin(), rt.stdout(), service, server)
 }

@@ -6,4 +6,5 @@ pub mod ReadingLemmas
 pub mod PumpedLemmas
 pub mod CausesLemmas
 pub mod HandedBack
+pub mod PumpsSessionLemmas
 pub mod Crossing

@@ -3,3 +3,4 @@ pub mod Pieces
 pub mod Steps
 pub mod Reading
 pub mod Pumped
+pub mod PumpsSession

@@ -1,23 +1,21 @@
 //! A session that is served while a thread of its own reads.
-ghost use Rattle.std.specs.Prelude.{◌≡◌, ◌≢◌, ◌≤◌, ◌<◌, ◌+◌, ◌*◌, ◌⊎◌, [], ℕ, true, None, length, is_some, IfOk, IfErr, IfSome, OnOk, OnErr, IsErrAnd};
+ghost use Rattle.std.specs.Prelude.{◌≡◌, ◌≤◌, [], None, is_some, IfOk, IfErr, IfSome, OnOk, OnErr};
 ghost use Rattle.std.specs.Result.{result_err};
 ghost use Rattle.rtrb.specs.Ring.{sent, received, IsPair, SameConsumer};
 ghost use Rattle.lsp_desk.specs.Meaning.{IsOpening, Grown};
-ghost use Rattle.lsp_frame.specs.Codec.{start_by, told_at};
+ghost use Rattle.lsp_frame.specs.Codec.{told_at};
 ghost use Rattle.lsp_session.specs.Run.{Step, order_by};
 ghost use Rattle.lsp_session.specs.SessionView.{session_view, desk_of};
-ghost use Rattle.lsp_server.specs.SourceSink.{CountRose, IsFlushed};
-ghost use Rattle.lsp_server.specs.Items.{stream_items};
-ghost use Rattle.lsp_server.specs.Course.{course, course_from, codec_of, picked};
-ghost use Rattle.lsp_server.specs.Errors.{IsBetweenReads, IsFlushedAt, IsInStep, ComesUnfailed, SaysSpent};
+ghost use Rattle.lsp_server.specs.Course.{course, course_from, picked};
+ghost use Rattle.lsp_server.specs.Errors.{SaysSpent};
 ghost use Rattle.lsp_server.specs.Leaves.{LeavesFaults, StaysFlushed, WithinReads};
 ghost use Rattle.lsp_server.specs.Served.{call_bytes};
-ghost use Rattle.lsp_server.specs.ServedView.{show_served};
 ghost use Rattle.lsp_server.specs.ServerView.{standing, IsReady, server_desk, setting};
 ghost use Rattle.lsp_pump.specs.Pieces.{all_items};
 ghost use Rattle.lsp_pump.specs.Steps.{StepsMade, StepsBegun, StepsAnswered, MayGoOn, StandsAfter, FailsInStep};
 ghost use Rattle.lsp_pump.specs.Reading.{EndsBy, ReadAndServed, IsReadingOf};
-ghost use Rattle.lsp_pump.specs.Pumped.{PumpsOver, TellsPumpFaults, IsPumped, PumpedEnough, WrotePumped, PumpedPart};
+ghost use Rattle.lsp_pump.specs.Pumped.{PumpsOver, TellsPumpFaults};
+ghost use Rattle.lsp_pump.specs.PumpsSession.{PumpsSession};
 
 use crate::job::{Ended, ReadEnd, Reading, read_job};
 use crate::pieces::{FloatFree, Pieces, Sender};
@@ -371,79 +369,23 @@ pub fn pump<
     requires rounds { 1 ≤ rounds }
     requires opening { IsOpening D.meaning (server_desk server) }
 
-    // The bytes written, and the service and desk handed back, are those of a session run over the
-    // items that the frame grammar finds in all the source's bytes, with ticks between them.
-    ensures headline { IfOk result.1 (λ served. IfSome (I.left source) (λ bytes. IsPumped
-        (course H.semantics D.meaning (order_by P.gives P.later)
+    // What was written and is handed back is of the session over all the source's bytes, with ticks
+    // between its items; at an error it begins that. Each error has its cause, and each failure is
+    // told, but for one of a read that comes once the session has ended.
+    ensures { PumpsSession (course H.semantics D.meaning (order_by P.gives P.later)
         (setting server service (P.state pick.old) rounds))
-        (call_bytes bytes (I.left result.0) (O.taken sink.old) (O.taken sink.new))
-        (show_served served) (P.state pick.new))) }
-
-    // Ok comes only at the end of input or at an exit.
-    ensures enough { OnOk result.1 (IfSome (I.left source) (λ bytes. PumpedEnough
-        (course H.semantics D.meaning (order_by P.gives P.later)
-        (setting server service (P.state pick.old) rounds))
-        (start_by (codec_of (setting server service (P.state pick.old) rounds)))
-        (call_bytes bytes (I.left result.0) (O.taken sink.old) (O.taken sink.new)))) }
-
-    // The bytes taken are flushed, if they were at the start, also at an error that isn't of the
-    // sink or of memory.
-    ensures flushed { OnOk result.1 (IsFlushed (O.taken sink.old) (O.flushed sink.old)
-        → IsFlushed (O.taken sink.new) (O.flushed sink.new)) }
-    ensures flushed_at { IfErr result.1 (λ stopped. IsFlushedAt stopped.error
-        → IsFlushed (O.taken sink.old) (O.flushed sink.old)
-        → IsFlushed (O.taken sink.new) (O.flushed sink.new)) }
-
-    // Each error has its cause.
-    ensures read { IfErr result.1 (λ stopped. stopped.error ≡ ServeError.ReadFault
-        → CountRose (I.faults source) (I.faults result.0)) }
-    ensures write { IfErr result.1 (λ stopped. stopped.error ≡ ServeError.WriteFault
-        → CountRose (O.faults sink.old) (O.faults sink.new)) }
-
-    // A failed write is told. A failed read is told, unless the session has ended by then.
-    ensures counts { (I.faults source ≤ I.faults result.0) × (O.faults sink.old ≤ O.faults sink.new) }
-    ensures write_told { O.faults sink.old < O.faults sink.new
-        → IsErrAnd result.1 (λ stopped. stopped.error ≡ ServeError.WriteFault) }
-    ensures read_told { I.faults source < I.faults result.0 → IfErr result.1
-        (λ stopped. (stopped.error ≡ ServeError.ReadFault) ⊎ IsInStep stopped.error) }
-    ensures unread { I.faults source < I.faults result.0
-        → IfOk result.1 (λ served. is_some served.exited ≡ true) }
-    ensures reads_spent { IfErr result.1 (λ stopped. stopped.error ≡ ServeError.ReadsSpent
-        → IfSome (I.left source) (λ bytes.
-        IfSome (I.left result.0) (λ rest. reads + length rest ≤ length bytes))) }
-    ensures desk_spent { IfErr result.1
-        (λ stopped. SaysSpent D.meaning stopped.desk stopped.error) }
-    ensures never_alone { IfErr result.1 (λ stopped. D.meaning.alone (server_desk server) ≡ true
-        → (n : ℕ) → stopped.error ≢ ServeError.DeskSpent n) }
-    ensures few { IfSome (I.left source) (λ bytes. IfSome (I.left result.0)
-        (λ rest. length bytes ≤ length rest + reads * 4096)) }
-
-    // So with no failure, and with more reads than bytes, only `NoMemory` may come, and `DeskSpent`
-    // over a desk that others use.
-    ensures complete { IfErr result.1 (λ stopped. IfSome (I.left source)
-        (λ bytes. length bytes < reads
-        → ¬ CountRose (I.faults source) (I.faults result.0)
-        → ¬ CountRose (O.faults sink.old) (O.faults sink.new)
-        → ComesUnfailed (D.meaning.alone (server_desk server)) stopped.error)) }
-
-    // What was written by then.
-    ensures exact { IfErr result.1 (λ stopped. IsBetweenReads stopped.error
-        → IfSome (I.left source) (λ bytes. WrotePumped
-        (course H.semantics D.meaning (order_by P.gives P.later)
-        (setting server service (P.state pick.old) rounds))
-        (call_bytes bytes (I.left result.0) (O.taken sink.old) (O.taken sink.new))
-        stopped.desk)) }
-    ensures part { IfErr result.1 (λ stopped. IfSome (I.left source) (λ bytes. PumpedPart
-        (course H.semantics D.meaning (order_by P.gives P.later)
-        (setting server service (P.state pick.old) rounds))
-        (stream_items (codec_of (setting server service (P.state pick.old) rounds)) bytes)
-        (call_bytes bytes (I.left result.0) (O.taken sink.old) (O.taken sink.new))
-        stopped.desk)) }
-
-    // At each answer the desk that is handed back has grown from the one that was handed in.
-    ensures grown { IfOk result.1 (λ served. Grown D.meaning (server_desk server) served.desk) }
-    ensures grown_stopped { IfErr result.1 (λ stopped. Grown D.meaning
-        (server_desk server) stopped.desk) }
+        (record {
+          left = I.left source;
+          left_after = I.left result.0;
+          reads_failed = I.faults source;
+          reads_failed_after = I.faults result.0;
+          taken = O.taken sink.old;
+          taken_after = O.taken sink.new;
+          flushed = O.flushed sink.old;
+          flushed_after = O.flushed sink.new;
+          writes_failed = O.faults sink.old;
+          writes_failed_after = O.faults sink.new;
+        }) reads (P.state pick.new) result.1 }
 {
     let settings = server.codec_settings();
     let empty_params = server.allows_empty_params();

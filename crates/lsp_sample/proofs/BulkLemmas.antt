@@ -1,18 +1,21 @@
 -- The messages that were made up so far, and those that are counted.
-use Rattle.std.proofs.Common.{◌≡◌, ◌+◌, ◌<◌, ◌≤◌, ℕ, suc, zero, List, [], ◌∷◌, ◌++◌, Bool, true, cond, refl, sym, ap, ◌∙◌, subst, arith, append_assoc, add-one, length}
+use Rattle.std.proofs.Common.{◌≡◌, ◌+◌, ◌<◌, ◌≤◌, ℕ, suc, zero, List, [], ◌∷◌, ◌++◌, Bool, true, cond, inl, inr, refl, sym, ap, ◌∙◌, subst, arith, append_assoc, add-one, length}
 use Rattle.std.proofs.lemmas.List.{append-nil}
 use Rattle.std.specs.Prelude.{Option, Some, None, IfSome, Result, Ok, Err, IfOk, is_some, count_by, ⊤}
 use Rattle.std.specs.List.{fold}
 use Rattle.lsp_frame.specs.Codec.{Item, At, more, with_item, told_at}
 use Rattle.lsp_frame.specs.Frames.{framed}
-use Rattle.lsp_desk.specs.declared.life.Life.{Life}
+use Rattle.lsp_server.specs.Course.{Course}
 use Rattle.lsp_server.specs.Served.{CallBytes, call_bytes}
-use Rattle.lsp_stdio.specs.Status.{IsShutDown, IsNotShutDown}
-use Rattle.lsp_stdio.proofs.StdioLemmas.{on_some}
-use Rattle.lsp_sample.specs.declared.arguments.Setting.{Setting}
+use Rattle.lsp_service.specs.declared.service.LspService.{LspService}
+use Rattle.lsp_session.specs.Run.{Picked}
+use Rattle.lsp_session.specs.Semantics.{Semantics}
+use Rattle.lsp_session.specs.State.{State}
+use Rattle.lsp_stdio.specs.Stdio.{ServedWhole, EndsWith}
+use Rattle.lsp_sample_server.specs.declared.sample.Sample.{Sample}
 use Rattle.lsp_sample.specs.declared.arguments.MadeUp.{MadeUp}
 use Rattle.lsp_sample.specs.Arguments.{default_setting}
-use Rattle.lsp_sample.specs.Run.{Served}
+use Rattle.lsp_sample.specs.Run.{ServesSample}
 use Rattle.lsp_sample.specs.Bulk.{next_drawn, number_drawn, body_of, bodies, generated, summary, Writes, IsSummary}
 use Rattle.lsp_sample.specs.Tally.{one, counts}
 
@@ -61,27 +64,30 @@ fewer (Some x) old new told some = omega (arith, ap length told)
 
 -- ---- what is served
 
-served_so : (setting : Setting) (call : CallBytes) (P : Option Life → Type 0) → Served setting call P → Served setting call (λ _. ⊤)
-served_so setting call P s = record { desk = s.desk; opening = s.opening; view = s.view; serves = s.serves; enough = s.enough; ends = tt }
+whole : {H D C T : Type 0} (course : Course (Picked (State H C T) ⊤) D) (call : CallBytes) (n : ℕ) → n ≤ 1 → EndsWith course call n → ServedWhole course call (λ _. ⊤)
+whole course call zero low ends = let w = ends.done refl in record { view = w.view; serves = w.serves; enough = w.enough; ends = tt }
+whole course call (suc zero) low ends = let w = ends.unfinished refl in record { view = w.view; serves = w.serves; enough = w.enough; ends = tt }
+whole course call (suc (suc n)) low ends = absurd (omega (arith, low))
 
-pub served_any : (setting : Setting) (n : ℕ) (left : Option (List ℕ)) (call : List ℕ → CallBytes) → n ≤ 1
-    → (n ≡ 0 → IfSome left (λ bytes. Served setting (call bytes) IsShutDown)) → (n ≡ 1 → IfSome left (λ bytes. Served setting (call bytes) IsNotShutDown))
-    → IfSome left (λ bytes. Served setting (call bytes) (λ _. ⊤))
-served_any setting zero left call low done unfinished = on_some left _ _ (λ bytes s. served_so setting (call bytes) IsShutDown s) (done refl)
-served_any setting (suc zero) left call low done unfinished = on_some left _ _ (λ bytes s. served_so setting (call bytes) IsNotShutDown s) (unfinished refl)
-served_any setting (suc (suc n)) left call low done unfinished = absurd (omega (arith, low))
+module _ {C T : Type 0} (semantics : Semantics (LspService Sample) C T) where
+  writes_by : (session : MadeUp) (bytes : List ℕ) (rest : Option (List ℕ)) (n : ℕ) → n ≤ 1
+      → ServesSample semantics default_setting (call_bytes (generated session) rest (Some []) (Some bytes)) n → Writes semantics session bytes
+  writes_by session bytes rest n low (inl s) = record {
+    left = rest;
+    serves = record { service = s.service; new = s.new; desk = s.desk; opening = s.opening; holds = whole _ _ n low s.holds };
+  }
+  writes_by session bytes rest n low (inr none) = absurd (omega (arith, low, none.memory))
 
-pub written_as : (session : MadeUp) (input bytes : List ℕ) (left rest taken taken_after : Option (List ℕ)) → left ≡ Some input → input ≡ generated session → taken ≡ Some [] → taken_after ≡ Some bytes
-    → IfSome left (λ b. Served default_setting (call_bytes b rest taken taken_after) (λ _. ⊤)) → Writes session bytes
-written_as session input bytes left rest taken taken_after left_is made none is served = record {
-  left = rest;
-  serves =
-      subst (λ (i : List ℕ). Served default_setting (call_bytes i rest (Some []) (Some bytes)) (λ _. ⊤)) made
-      (subst (λ (t : Option (List ℕ)). Served default_setting (call_bytes input rest (Some []) t) (λ _. ⊤)) is
-      (subst (λ (t : Option (List ℕ)). Served default_setting (call_bytes input rest t taken_after) (λ _. ⊤)) none
-      (subst (λ (l : Option (List ℕ)). IfSome l (λ b. Served default_setting (call_bytes b rest taken taken_after) (λ _. ⊤))) left_is served)));
-}
+  pub written_as : (session : MadeUp) (input bytes : List ℕ) (left rest taken taken_after : Option (List ℕ)) (n : ℕ) → n ≤ 1 → left ≡ Some input → input ≡ generated session → taken ≡ Some [] → taken_after ≡ Some bytes
+      → IfSome left (λ b. ServesSample semantics default_setting (call_bytes b rest taken taken_after) n) → Writes semantics session bytes
+  written_as session input bytes left rest taken taken_after n low left_is made none is served =
+      writes_by session bytes rest n low
+      (subst (λ (i : List ℕ). ServesSample semantics default_setting (call_bytes i rest (Some []) (Some bytes)) n) made
+      (subst (λ (t : Option (List ℕ)). ServesSample semantics default_setting (call_bytes input rest (Some []) t) n) is
+      (subst (λ (t : Option (List ℕ)). ServesSample semantics default_setting (call_bytes input rest t taken_after) n) none
+      (subst (λ (l : Option (List ℕ)). IfSome l (λ b. ServesSample semantics default_setting (call_bytes b rest taken taken_after) n)) left_is served))))
 
-pub summary_as : {A E : Type 0} (session : MadeUp) (bytes : List ℕ) (r : Result A E) (text : A → List ℕ) → Writes session bytes → IfOk r (λ line. text line ≡ summary bytes) → IfOk r (λ line. IsSummary session (text line))
-summary_as session bytes (Ok line) text writes is = record { bytes = bytes; writes = writes; is = is }
-summary_as session bytes (Err e) text writes is = tt
+  pub summary_as : {A E : Type 0} (session : MadeUp) (bytes : List ℕ) (r : Result A E) (text : A → List ℕ) → Writes semantics session bytes → IfOk r (λ line. text line ≡ summary bytes)
+      → IfOk r (λ line. IsSummary semantics session (text line))
+  summary_as session bytes (Ok line) text writes is = record { bytes = bytes; writes = writes; is = is }
+  summary_as session bytes (Err e) text writes is = tt

@@ -6,7 +6,7 @@ use Rattle.lsp_sample.specs.declared.arguments.Setting.{Setting}
 use Rattle.lsp_sample.specs.declared.arguments.MadeUp.{MadeUp}
 use Rattle.lsp_sample.specs.declared.arguments.Clones.{Clones}
 use Rattle.lsp_sample.specs.declared.arguments.Form.{Form}
-use Rattle.lsp_sample.specs.declared.arguments.Form.TheVariants.{Serve, Bulk, Talk}
+use Rattle.lsp_sample.specs.declared.arguments.Form.TheVariants.{Serve, Docs, Pump, Bulk, Talk}
 
 -- a number that is at least 1
 abbrev pub from_one : ℕ → Option ℕ
@@ -42,15 +42,18 @@ message_count_of argument = option_and_then (λ n. if nat_lt 1000 n then None el
 abbrev pub clones_of : List ℕ → List ℕ → Option Clones
 clones_of count messages = option_and_then (λ c. option_map (λ m. record { count = c; messages = m }) (message_count_of messages)) (clone_count_of count)
 
--- none, `serve`, `serve MAX ROUNDS`, `bulk SEED COUNT`, or `talk CLONES MESSAGES`
+-- none, `serve`, `serve MAX ROUNDS`, `docs`, `pump MAX ROUNDS`, `bulk SEED COUNT`, or `talk CLONES MESSAGES`
 abbrev pub form_of : List (List ℕ) → Option Form
 form_of [] = Some (Serve default_setting)
-form_of (argument ∷ []) = if bytes_eq argument (codes "serve") then Some (Serve default_setting) else None
+form_of (argument ∷ []) =
+    if bytes_eq argument (codes "serve") then Some (Serve default_setting)
+    else (if bytes_eq argument (codes "docs") then Some Docs else None)
 form_of (argument ∷ first ∷ []) = None
 form_of (argument ∷ first ∷ second ∷ []) =
     if bytes_eq argument (codes "serve") then option_map Serve (numbers_of first second)
+    else (if bytes_eq argument (codes "pump") then option_map Pump (numbers_of first second)
     else (if bytes_eq argument (codes "bulk") then option_map Bulk (session_of first second)
-    else (if bytes_eq argument (codes "talk") then option_map Talk (clones_of first second) else None))
+    else (if bytes_eq argument (codes "talk") then option_map Talk (clones_of first second) else None)))
 form_of (argument ∷ first ∷ second ∷ more ∷ arguments) = None
 
 -- what the arguments ask for
@@ -60,5 +63,7 @@ form_asked arguments = form_of (map string_bytes arguments)
 -- the numbers are within their bounds
 abbrev pub IsForm : Form → Type 0
 IsForm (Serve setting) = (1 ≤ setting.max) × (1 ≤ setting.rounds)
+IsForm Docs = Unit {0}
+IsForm (Pump setting) = (1 ≤ setting.max) × (1 ≤ setting.rounds)
 IsForm (Bulk session) = session.count ≤ 100000
 IsForm (Talk clones) = (clones.count ≤ 4) × (clones.messages ≤ 1000)

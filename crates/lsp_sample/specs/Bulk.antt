@@ -1,14 +1,20 @@
 -- A made-up session, and its summary.
-use Rattle.std.specs.Prelude.{◌≡◌, ◌⊎◌, ℕ, suc, zero, ◌+◌, ◌*◌, ◌/◌, ◌%◌, ◌==◌, List, [], ◌++◌, length, codes, decimal, count_by, Bool, true, false, Option, Some, is_err, ⊤, if◌then◌else◌}
+use Rattle.std.specs.Prelude.{◌≡◌, ◌≤◌, ◌⊎◌, ℕ, suc, zero, ◌+◌, ◌*◌, ◌/◌, ◌%◌, ◌==◌, List, [], ◌++◌, length, codes, decimal, count_by, Bool, true, false, Option, Some, is_err, ⊤, if◌then◌else◌}
 use Rattle.std.specs.Io.KnownBytes.{Appends}
 use Rattle.lsp_rpc.specs.Message.{response, request}
 use Rattle.lsp_frame.specs.Codec.{Item, message, fault, told, default_limits}
 use Rattle.lsp_frame.specs.Frames.{framed}
 use Rattle.lsp_server.specs.Served.{call_bytes}
+use Rattle.lsp_server.specs.SourceSink.{CountRose}
 use Rattle.lsp_server.specs.Written.{IsPrefixOf}
+use Rattle.lsp_service.specs.declared.service.LspService.{LspService}
+use Rattle.lsp_session.specs.Semantics.{Semantics}
+use Rattle.lsp_stdio.specs.Stdio.{ServedWhole}
+use Rattle.lsp_sample_server.specs.declared.sample.Sample.{Sample}
 use Rattle.lsp_sample.specs.declared.arguments.MadeUp.{MadeUp}
 use Rattle.lsp_sample.specs.Arguments.{default_setting}
-use Rattle.lsp_sample.specs.Run.{Served}
+use Rattle.lsp_sample_server.specs.Sessions.{IsSampleService}
+use Rattle.lsp_sample.specs.Run.{HoldsOfSession, sample_setting}
 
 -- ---- what the editor sends
 
@@ -101,24 +107,33 @@ summary bytes =
     codes "replies " ++ decimal (count_by is_reply (read_of bytes)) ++ codes " errors " ++ decimal (count_by is_error (read_of bytes))
     ++ codes " messages " ++ decimal (count_by is_own (read_of bytes)) ++ codes " bytes " ++ decimal (length bytes) ++ codes "\n"
 
--- the sample serves this session to its end, and writes these bytes
-pub record Writes (session : MadeUp) (bytes : List ℕ) : Type 0 where
-  pub left : Option (List ℕ)
-  pub serves : Served default_setting (call_bytes (generated session) left (Some []) (Some bytes)) (λ _. ⊤)
+module _ {C T : Type 0} (semantics : Semantics (LspService Sample) C T) where
+  -- the sample serves this session to its end, and writes these bytes
+  pub record Writes (session : MadeUp) (bytes : List ℕ) : Type 0 where
+    pub left : Option (List ℕ)
+    pub serves : HoldsOfSession semantics IsSampleService (sample_setting default_setting) (λ course. ServedWhole course (call_bytes (generated session) left (Some []) (Some bytes)) (λ _. ⊤))
 
--- the summary of that session
-pub record IsSummary (session : MadeUp) (line : List ℕ) : Type 0 where
-  pub bytes : List ℕ
-  pub writes : Writes session bytes
-  pub is : line ≡ summary bytes
+  -- the summary of that session
+  pub record IsSummary (session : MadeUp) (line : List ℕ) : Type 0 where
+    pub bytes : List ℕ
+    pub writes : Writes session bytes
+    pub is : line ≡ summary bytes
 
--- the summary was written
-pub record WroteSummary (session : MadeUp) (taken taken_after : Option (List ℕ)) : Type 0 where
-  pub line : List ℕ
-  pub summary : IsSummary session line
-  pub wrote : Appends taken taken_after line
+  -- the summary was written
+  pub record WroteSummary (session : MadeUp) (taken taken_after : Option (List ℕ)) : Type 0 where
+    pub line : List ℕ
+    pub summary : IsSummary session line
+    pub wrote : Appends taken taken_after line
 
--- nothing was written, or what begins the summary
-abbrev pub WroteSome : MadeUp → Option (List ℕ) → Option (List ℕ) → Type 0
-WroteSome session taken taken_after =
-    Appends taken taken_after [] ⊎ ((line : List ℕ) × (written : List ℕ) × IsSummary session line × IsPrefixOf written line × Appends taken taken_after written)
+  -- nothing was written, or what begins the summary
+  abbrev pub WroteSome : MadeUp → Option (List ℕ) → Option (List ℕ) → Type 0
+  WroteSome session taken taken_after =
+      Appends taken taken_after [] ⊎ ((line : List ℕ) × (written : List ℕ) × IsSummary session line × IsPrefixOf written line × Appends taken taken_after written)
+
+  -- the session was served in memory and its summary written, by the status, with the counts of writes that failed; nothing was read
+  pub record EndsBulk {I : Type 0} (session : MadeUp) (source source_after : I) (taken taken_after : Option (List ℕ)) (faults faults_after : ℕ) (status : ℕ) : Type 0 where
+    pub known : (status ≡ 0) ⊎ (status ≡ 4) ⊎ (status ≡ 6)
+    pub wrote : status ≡ 0 → WroteSummary session taken taken_after
+    pub part : 3 ≤ status → WroteSome session taken taken_after
+    pub unread : source_after ≡ source
+    pub complete : ¬ CountRose faults faults_after → (status ≡ 0) ⊎ (status ≡ 6)

@@ -36,6 +36,11 @@ pub struct Clones {
 pub enum Form {
     /// Serves a session over its source and its sink.
     Serve(Setting),
+    /// Serves the document server over its source and its sink, as by default, and lets in floats
+    /// and empty params.
+    Docs,
+    /// Serves a session over its source and its sink, while a thread reads.
+    Pump(Setting),
     /// Serves a made-up session in memory, and writes its summary.
     Bulk(MadeUp),
     /// Serves one message in memory while callers talk, and writes how much they said.
@@ -53,9 +58,10 @@ pub const MOST_CLONES: u64 = 4;
 /// The most messages of a caller.
 pub const MOST_SAID: u64 = 1000;
 
-/// What the arguments ask for: none, `serve`, `serve MAX ROUNDS`, `bulk SEED COUNT`, or
-/// `talk CLONES MESSAGES`, where all are decimal numbers, MAX and ROUNDS of at least 1, COUNT from 1
-/// to [`MOST`], CLONES from 1 to [`MOST_CLONES`], and MESSAGES at most [`MOST_SAID`].
+/// What the arguments ask for: none, `serve`, `serve MAX ROUNDS`, `docs`, `pump MAX ROUNDS`,
+/// `bulk SEED COUNT`, or `talk CLONES MESSAGES`, where all are decimal numbers, MAX and ROUNDS of at
+/// least 1, COUNT from 1 to [`MOST`], CLONES from 1 to [`MOST_CLONES`], and MESSAGES at most
+/// [`MOST_SAID`].
 pub(crate) fn read_arguments(arguments: &Vec<String>) -> Option<Form>
     ensures value { result ≡ form_asked arguments.now.items }
     ensures form { IfSome result IsForm }
@@ -63,8 +69,12 @@ pub(crate) fn read_arguments(arguments: &Vec<String>) -> Option<Form>
     match arguments.as_slice() {
         [] => Some(Form::Serve(DEFAULT)),
         [argument] if argument.as_str() == "serve" => Some(Form::Serve(DEFAULT)),
+        [argument] if argument.as_str() == "docs" => Some(Form::Docs),
         [argument, max, rounds] if argument.as_str() == "serve" => {
             Some(Form::Serve(numbers(max.as_str(), rounds.as_str())?))
+        }
+        [argument, max, rounds] if argument.as_str() == "pump" => {
+            Some(Form::Pump(numbers(max.as_str(), rounds.as_str())?))
         }
         [argument, seed, count] if argument.as_str() == "bulk" => {
             Some(Form::Bulk(session(seed.as_str(), count.as_str())?))

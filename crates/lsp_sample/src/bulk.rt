@@ -7,12 +7,16 @@ ghost use Rattle.lsp_frame.specs.Frames.{framed};
 ghost use Rattle.lsp_server.specs.SourceSink.{CountRose, IsFlushed};
 ghost use Rattle.lsp_sample.specs.Bulk.{next_drawn, body_of, bodies, echo_text, wait_text, unknown_text as unknown_text_lem, unknown_command as unknown_command_lem, shutdown as shutdown_lem, generated, read_of, is_reply, is_error, is_own, summary as summary_lem, IsSummary, WroteSummary, WroteSome};
 
+use crate::Sample;
 use crate::arguments::{DEFAULT, MadeUp};
 use crate::run::serve;
+use lsp_desk::PlainDesk;
 use lsp_frame::{Decoded, LanguageServerCodec};
 use lsp_program::Status;
 use lsp_rpc::{Message, NoMemory};
 use lsp_server::{NeverSink, NeverSource, Sink};
+use lsp_service::LspService;
+use lsp_session::Handlers;
 use lsp_talk::write_line;
 use std::alloc::Global;
 
@@ -30,8 +34,12 @@ const READ_SIZE: usize = 4096;
 pub(crate) fn bulk<O: Sink>(alloc: Global, session: MadeUp, sink: &mut O) -> u8
     requires { session.count ≤ 100000 }
     ensures known { (result ≡ 0) ⊎ (result ≡ 4) ⊎ (result ≡ 6) }
-    ensures done { result ≡ 0 → WroteSummary session (O.taken sink.old) (O.taken sink.new) }
-    ensures part { 3 ≤ result → WroteSome session (O.taken sink.old) (O.taken sink.new) }
+    ensures wrote { result ≡ 0 → WroteSummary
+        ⟦<LspService<Sample> as Handlers<PlainDesk>>⟧.semantics session (O.taken sink.old)
+        (O.taken sink.new) }
+    ensures part { 3 ≤ result → WroteSome
+        ⟦<LspService<Sample> as Handlers<PlainDesk>>⟧.semantics session (O.taken sink.old)
+        (O.taken sink.new) }
     ensures flushed { result ≡ 0 → IsFlushed (O.taken sink.old) (O.flushed sink.old)
         → IsFlushed (O.taken sink.new) (O.flushed sink.new) }
     ensures write { result ≡ 4 → CountRose (O.faults sink.old) (O.faults sink.new) }
@@ -46,7 +54,8 @@ pub(crate) fn bulk<O: Sink>(alloc: Global, session: MadeUp, sink: &mut O) -> u8
 // The summary of the session, which is served in memory.
 fn served_summary(alloc: Global, session: MadeUp) -> Result<String, NoMemory>
     requires { session.count ≤ 100000 }
-    ensures { IfOk result (λ line. IsSummary session (string_bytes line)) }
+    ensures { IfOk result (λ line. IsSummary
+        ⟦<LspService<Sample> as Handlers<PlainDesk>>⟧.semantics session (string_bytes line)) }
 {
     let input = generate(alloc, session)?;
     let mut source = NeverSource::new(input, READ_SIZE);

@@ -1,16 +1,14 @@
 // Sessions of editors that send floats, and params where a method takes none.
-ghost use Rattle.lsp_desk.specs.Meaning.{IsOpening};
-ghost use Rattle.lsp_desk.specs.Plain.{plain_meaning};
+ghost use Rattle.std.specs.Prelude.{◌≡◌};
 ghost use Rattle.lsp_server.specs.ServerView.{server_desk};
 
-use crate::Sample;
-use crate::tests::ids_left;
-use lsp_desk::{ClientSocket, PlainDesk};
+use crate::tests::{all_framed, ids_left, same, sample};
+use lsp_desk::PlainDesk;
 use lsp_frame::Floats;
 use lsp_server::{NeverSink, NeverSource, Server};
+use lsp_service::serve_session;
 use lsp_session::InOrder;
-use std::alloc::{AllocError, Global};
-use std::fmt::Debug;
+use std::alloc::Global;
 use std::test::Fail;
 
 const INITIALIZE: &str =
@@ -132,42 +130,34 @@ const ROWS: &[Row] = &[
     },
 ];
 
-fn all_framed(alloc: Global, bodies: &[&str]) -> Result<Vec<u8>, AllocError> {
-    let mut frames = Vec::new(alloc);
-    for body in bodies {
-        let head = format!(in alloc; "Content-Length: {}\r\n\r\n", body.len())?;
-        frames.extend_from_slice(head.as_bytes())?;
-        frames.extend_from_slice(body.as_bytes())?;
-    }
-    Ok(frames)
+fn try_row(alloc: Global, row: &Row) -> Result<(), Fail> {
+    let want = all_framed(alloc, row.answers)?;
+    let mut source = NeverSource::new(all_framed(alloc, row.sent)?, 50);
+    let mut sink = NeverSink::new(alloc);
+    let (service, server) = sample(alloc)?;
+    let server = letting_in(server, row.lets_in);
+    let served = serve_session(
+        alloc,
+        &mut source,
+        &mut sink,
+        service,
+        server,
+        &mut InOrder,
+        9999,
+        8,
+    );
+    same(row.name, ids_left(served)?.len(), 0)?;
+    same(row.name, sink.bytes(), want.as_slice())
 }
 
-fn same<T: PartialEq + Debug + Drop>(name: &str, found: T, expected: T) -> Result<(), Fail> {
-    if found == expected {
-        return Ok(());
-    }
-    Err(Fail::new(format_args!("{name}: expected {expected:?}, found {found:?}")))
-}
-
-fn server(alloc: Global, lets_in: bool) -> Server<PlainDesk>
-    ensures { IsOpening plain_meaning (server_desk result) }
+fn letting_in(server: Server<PlainDesk>, lets_in: bool) -> Server<PlainDesk>
+    ensures { server_desk result ≡ server_desk server }
 {
-    let server = Server::new(ClientSocket::new(PlainDesk::new(alloc)));
     if lets_in {
         server.floats(Floats::Read).allow_empty_params()
     } else {
         server
     }
-}
-
-fn try_row(alloc: Global, row: &Row) -> Result<(), Fail> {
-    let want = all_framed(alloc, row.answers)?;
-    let mut source = NeverSource::new(all_framed(alloc, row.sent)?, 50);
-    let mut sink = NeverSink::new(alloc);
-    let server = server(alloc, row.lets_in);
-    let served = server.serve(alloc, &mut source, &mut sink, Sample, &mut InOrder, 9999, 8);
-    same(row.name, ids_left(served)?.len(), 0)?;
-    same(row.name, sink.bytes(), want.as_slice())
 }
 
 #[test]

@@ -133,8 +133,8 @@ fn each_message_comes_back(rt: HostRuntime) -> Result<(), Fail> {
     Ok(())
 }
 
-/// Params that are so many lists, one inside the other.
-fn nested(alloc: Global, levels: usize) -> Result<String, Fail> {
+/// A notification whose params are so many lists, one inside the other.
+pub(crate) fn nested(alloc: Global, levels: usize) -> Result<String, Fail> {
     let mut text = String::from_str(alloc, "{\"jsonrpc\":\"2.0\",\"method\":\"a\",\"params\":")?;
     for _ in 0..levels {
         text.push_str("[")?;

@@ -1,13 +1,24 @@
-// Whole sessions: what an editor sends, and the bytes and the exit status that answer it.
-ghost use Rattle.std.specs.Prelude.{◌≤◌};
+// Whole runs: the bytes and the exit status that answer what an editor sends.
+ghost use Rattle.std.specs.Prelude.{◌≤◌, ◌<◌, IfOk};
+ghost use Rattle.lsp_desk.specs.Meaning.{IsOpening};
+ghost use Rattle.lsp_desk.specs.Plain.{plain_meaning};
+ghost use Rattle.lsp_server.specs.ServerView.{server_desk};
 
+use crate::documents::DOCUMENTS;
+use crate::round_trips::nested;
+use crate::run::new_desk;
+use crate::sessions::{
+    ASKS, CALLS, EXIT, INITIALIZE, INITIALIZED, Row, SESSIONS, SHUT_DOWN, SHUTDOWN,
+};
 use crate::{Sample, run};
-use lsp_desk::{ClientSocket, PlainDesk};
+use lsp_desk::PlainDesk;
 use lsp_rpc::Id;
+use lsp_sample_server::sample_service;
 use lsp_server::{
     MemorySink, MemorySource, NeverSink, NeverSource, ServeError, Served, Server, Sink, Source,
     Stopped,
 };
+use lsp_service::{LspService, serve_session};
 use lsp_session::InOrder;
 use lsp_shared::SharedDesk;
 use std::alloc::{AllocError, Global};
@@ -15,278 +26,6 @@ use std::fmt::Debug;
 use std::sync::Wait;
 use std::test::Fail;
 use std::thread::Threads;
-
-const INITIALIZE: &str =
-    "{\"jsonrpc\":\"2.0\",\"method\":\"initialize\",\"params\":{\"capabilities\":{}},\"id\":1}";
-
-const SHUTDOWN: &str = "{\"jsonrpc\":\"2.0\",\"method\":\"shutdown\",\"id\":2}";
-
-const EXIT: &str = "{\"jsonrpc\":\"2.0\",\"method\":\"exit\"}";
-
-const INITIALIZED: &str = "{\"jsonrpc\":\"2.0\",\"result\":{\"capabilities\":{}},\"id\":1}";
-
-const SHUT_DOWN: &str = "{\"jsonrpc\":\"2.0\",\"result\":null,\"id\":2}";
-
-const PARSE_ERROR: &str =
-    "{\"jsonrpc\":\"2.0\",\"error\":{\"code\":-32700,\"message\":\"Parse error\"},\"id\":null}";
-
-/// A session: its name, the program's arguments, the bodies sent, the bodies of the answers with
-/// their lengths, and the exit status.
-type Row = (
-    &'static str,
-    &'static [&'static str],
-    &'static [&'static str],
-    &'static [(usize, &'static str)],
-    u8,
-);
-
-const SESSIONS: &[Row] = &[
-    (
-        "a whole session",
-        &[],
-        &[INITIALIZE, SHUTDOWN, EXIT],
-        &[(53, INITIALIZED), (38, SHUT_DOWN)],
-        0,
-    ),
-    ("no bytes", &[], &[], &[], 1),
-    (
-        "the input ends after initialize",
-        &[],
-        &[INITIALIZE],
-        &[(53, INITIALIZED)],
-        1,
-    ),
-    (
-        "a body that is cut",
-        &[],
-        &["{\"jsonrpc\":\"2.0\",\"method\":"],
-        &[(75, PARSE_ERROR)],
-        1,
-    ),
-    (
-        "a name that is not registered",
-        &[],
-        &["{\"jsonrpc\":\"2.0\",\"method\":\"foo\",\"id\":0}"],
-        &[(
-            90,
-            "{\"jsonrpc\":\"2.0\",\"error\":{\"code\":-32601,\"message\":\"Method not found\",\"data\":\"foo\"},\"id\":0}",
-        )],
-        1,
-    ),
-    (
-        "a request that may be ignored is answered",
-        &[],
-        &["{\"jsonrpc\":\"2.0\",\"method\":\"$/foo\",\"id\":0}"],
-        &[(
-            92,
-            "{\"jsonrpc\":\"2.0\",\"error\":{\"code\":-32601,\"message\":\"Method not found\",\"data\":\"$/foo\"},\"id\":0}",
-        )],
-        1,
-    ),
-    (
-        "shutdown with params, and once more",
-        &[],
-        &[
-            INITIALIZE,
-            "{\"jsonrpc\":\"2.0\",\"method\":\"shutdown\",\"params\":null,\"id\":2}",
-            "{\"jsonrpc\":\"2.0\",\"method\":\"shutdown\",\"id\":3}",
-        ],
-        &[
-            (53, INITIALIZED),
-            (
-                84,
-                "{\"jsonrpc\":\"2.0\",\"error\":{\"code\":-32602,\"message\":\"Unexpected params: null\"},\"id\":2}",
-            ),
-            (
-                76,
-                "{\"jsonrpc\":\"2.0\",\"error\":{\"code\":-32600,\"message\":\"Invalid request\"},\"id\":3}",
-            ),
-        ],
-        1,
-    ),
-    (
-        "no method, and no message",
-        &[],
-        &["{\"jsonrpc\":\"2.0\",\"id\":0}", "[1]"],
-        &[
-            (
-                87,
-                "{\"jsonrpc\":\"2.0\",\"error\":{\"code\":-32601,\"message\":\"Method not found\",\"data\":\"\"},\"id\":0}",
-            ),
-            (
-                79,
-                "{\"jsonrpc\":\"2.0\",\"error\":{\"code\":-32600,\"message\":\"Invalid request\"},\"id\":null}",
-            ),
-        ],
-        1,
-    ),
-    (
-        "what an editor sends",
-        &[],
-        &[
-            "{\"jsonrpc\":\"2.0\",\"id\":0,\"method\":\"initialize\",\"params\":{\"processId\":1234,\"clientInfo\":{\"name\":\"Visual Studio Code\",\"version\":\"1.92.0\"},\"locale\":\"en\",\"rootPath\":\"/w\",\"rootUri\":\"file:///w\",\"capabilities\":{\"workspace\":{\"applyEdit\":true},\"textDocument\":{\"publishDiagnostics\":{\"tagSupport\":{\"valueSet\":[1,2]}}},\"general\":{\"positionEncodings\":[\"utf-16\"]}},\"trace\":\"off\",\"workspaceFolders\":[{\"uri\":\"file:///w\",\"name\":\"w\"}]}}",
-            "{\"jsonrpc\":\"2.0\",\"method\":\"$/setTrace\",\"params\":{\"value\":\"off\"}}",
-        ],
-        &[(
-            53,
-            "{\"jsonrpc\":\"2.0\",\"result\":{\"capabilities\":{}},\"id\":0}",
-        )],
-        1,
-    ),
-    (
-        "shutdown before initialize",
-        &[],
-        &[SHUTDOWN, EXIT],
-        &[(
-            83,
-            "{\"jsonrpc\":\"2.0\",\"error\":{\"code\":-32002,\"message\":\"Server not initialized\"},\"id\":2}",
-        )],
-        1,
-    ),
-    (
-        "initialize twice",
-        &[],
-        &[INITIALIZE, INITIALIZE],
-        &[
-            (53, INITIALIZED),
-            (
-                76,
-                "{\"jsonrpc\":\"2.0\",\"error\":{\"code\":-32600,\"message\":\"Invalid request\"},\"id\":1}",
-            ),
-        ],
-        1,
-    ),
-    (
-        "initialize without params, and with others",
-        &[],
-        &[
-            "{\"jsonrpc\":\"2.0\",\"method\":\"initialize\",\"id\":1}",
-            "{\"jsonrpc\":\"2.0\",\"method\":\"initialize\",\"params\":{\"capabilities\":1},\"id\":2}",
-        ],
-        &[
-            (
-                81,
-                "{\"jsonrpc\":\"2.0\",\"error\":{\"code\":-32602,\"message\":\"Missing params field\"},\"id\":1}",
-            ),
-            (
-                75,
-                "{\"jsonrpc\":\"2.0\",\"error\":{\"code\":-32602,\"message\":\"Invalid params\"},\"id\":2}",
-            ),
-        ],
-        1,
-    ),
-    ("nothing after exit", &[], &[EXIT, INITIALIZE], &[], 1),
-    (
-        "a cancel is answered at once, and once",
-        &[],
-        &[
-            INITIALIZE,
-            "{\"jsonrpc\":\"2.0\",\"method\":\"workspace/executeCommand\",\"params\":{\"command\":\"wait\",\"arguments\":[1000]},\"id\":3}",
-            "{\"jsonrpc\":\"2.0\",\"method\":\"$/cancelRequest\",\"params\":{\"id\":3}}",
-            "{\"jsonrpc\":\"2.0\",\"method\":\"$/cancelRequest\",\"params\":{\"id\":3}}",
-        ],
-        &[
-            (53, INITIALIZED),
-            (
-                69,
-                "{\"jsonrpc\":\"2.0\",\"error\":{\"code\":-32800,\"message\":\"Canceled\"},\"id\":3}",
-            ),
-        ],
-        1,
-    ),
-    (
-        "one slot: a call waits in the queue",
-        &["serve", "1", "1"],
-        &[
-            INITIALIZE,
-            "{\"jsonrpc\":\"2.0\",\"method\":\"workspace/executeCommand\",\"params\":{\"command\":\"wait\",\"arguments\":[2]},\"id\":2}",
-            "{\"jsonrpc\":\"2.0\",\"method\":\"workspace/executeCommand\",\"params\":{\"command\":\"echo\",\"arguments\":[\"x\"]},\"id\":3}",
-        ],
-        &[
-            (53, INITIALIZED),
-            (35, "{\"jsonrpc\":\"2.0\",\"result\":2,\"id\":2}"),
-            (37, "{\"jsonrpc\":\"2.0\",\"result\":\"x\",\"id\":3}"),
-        ],
-        1,
-    ),
-    (
-        "one slot: the wait is longer than the input",
-        &["serve", "1", "1"],
-        &[
-            INITIALIZE,
-            "{\"jsonrpc\":\"2.0\",\"method\":\"workspace/executeCommand\",\"params\":{\"command\":\"wait\",\"arguments\":[3]},\"id\":2}",
-            "{\"jsonrpc\":\"2.0\",\"method\":\"workspace/executeCommand\",\"params\":{\"command\":\"echo\",\"arguments\":[\"x\"]},\"id\":3}",
-        ],
-        &[(53, INITIALIZED)],
-        1,
-    ),
-    (
-        "an id that is live is refused, and the first goes on",
-        &[],
-        &[
-            INITIALIZE,
-            "{\"jsonrpc\":\"2.0\",\"method\":\"workspace/executeCommand\",\"params\":{\"command\":\"wait\",\"arguments\":[1000]},\"id\":7}",
-            "{\"jsonrpc\":\"2.0\",\"method\":\"workspace/executeCommand\",\"params\":{},\"id\":7}",
-        ],
-        &[
-            (53, INITIALIZED),
-            (
-                76,
-                "{\"jsonrpc\":\"2.0\",\"error\":{\"code\":-32600,\"message\":\"Invalid request\"},\"id\":7}",
-            ),
-        ],
-        1,
-    ),
-    (
-        "a cancel names no id past 32 bits",
-        &[],
-        &[
-            INITIALIZE,
-            "{\"jsonrpc\":\"2.0\",\"method\":\"workspace/executeCommand\",\"params\":{\"command\":\"wait\",\"arguments\":[1000]},\"id\":5000000000}",
-            "{\"jsonrpc\":\"2.0\",\"method\":\"$/cancelRequest\",\"params\":{\"id\":5000000000}}",
-        ],
-        &[(53, INITIALIZED)],
-        1,
-    ),
-    (
-        "a greeting",
-        &[],
-        &[
-            INITIALIZE,
-            "{\"jsonrpc\":\"2.0\",\"method\":\"initialized\",\"params\":{}}",
-        ],
-        &[
-            (53, INITIALIZED),
-            (
-                98,
-                "{\"jsonrpc\":\"2.0\",\"method\":\"window/logMessage\",\"params\":{\"message\":\"server initialized!\",\"type\":3}}",
-            ),
-        ],
-        1,
-    ),
-    (
-        "exit answers each call that waits",
-        &[],
-        &[
-            INITIALIZE,
-            "{\"jsonrpc\":\"2.0\",\"method\":\"workspace/executeCommand\",\"params\":{\"command\":\"wait\",\"arguments\":[1000]},\"id\":4}",
-            "{\"jsonrpc\":\"2.0\",\"method\":\"workspace/executeCommand\",\"params\":{\"command\":\"wait\",\"arguments\":[1000]},\"id\":5}",
-            EXIT,
-        ],
-        &[
-            (53, INITIALIZED),
-            (
-                69,
-                "{\"jsonrpc\":\"2.0\",\"error\":{\"code\":-32800,\"message\":\"Canceled\"},\"id\":4}",
-            ),
-            (
-                69,
-                "{\"jsonrpc\":\"2.0\",\"error\":{\"code\":-32800,\"message\":\"Canceled\"},\"id\":5}",
-            ),
-        ],
-        1,
-    ),
-];
 
 /// Bytes that are not all frames: the bytes sent, those of the answer, and the exit status.
 const STRETCHES: &[(&str, &[u8], &[u8], u8)] = &[
@@ -320,6 +59,14 @@ const OTHER_ARGUMENTS: &[&[&str]] = &[
     &["serve", "", "8"],
     &["serve", "4", "18446744073709551616"],
     &["serve", "4", "8", "1"],
+    &["docs", "4", "8"],
+    &["pump"],
+    &["pump", "4"],
+    &["pump", "0", "8"],
+    &["pump", "4", "0"],
+    &["pump", "4", "8", "1"],
+    &["docs", "docs"],
+    &["Docs"],
     &["bulk", "1", "0"],
     &["talk", "0", "1"],
     &["talk", "5", "1"],
@@ -337,7 +84,7 @@ fn framed(alloc: Global, body: &str, frames: &mut Vec<u8>) -> Result<(), AllocEr
     frames.extend_from_slice(body.as_bytes())
 }
 
-fn all_framed(alloc: Global, bodies: &[&str]) -> Result<Vec<u8>, AllocError> {
+pub(crate) fn all_framed(alloc: Global, bodies: &[&str]) -> Result<Vec<u8>, AllocError> {
     let mut frames = Vec::new(alloc);
     for body in bodies {
         framed(alloc, body, &mut frames)?;
@@ -347,7 +94,11 @@ fn all_framed(alloc: Global, bodies: &[&str]) -> Result<Vec<u8>, AllocError> {
 
 // The two are equal, or what they are is told: the error of an `assert_eq!`, which costs the prover
 // seconds at each place that it stands at.
-fn same<T: PartialEq + Debug + Drop>(name: &str, found: T, expected: T) -> Result<(), Fail> {
+pub(crate) fn same<T: PartialEq + Debug + Drop>(
+    name: &str,
+    found: T,
+    expected: T,
+) -> Result<(), Fail> {
     if found == expected {
         return Ok(());
     }
@@ -379,34 +130,63 @@ fn copied(alloc: Global, bytes: &[u8]) -> Result<Vec<u8>, AllocError> {
 }
 
 // Runs the program over a new desk.
-fn run_over<R: Threads + Wait + Sync, I: Source, O: Sink>(
+fn run_over<R: Threads + Wait + Sync, I: Source + Send + Drop + 'static, O: Sink>(
     rt: &R,
     alloc: Global,
     arguments: &Vec<String>,
-    source: &mut I,
+    source: I,
     sink: &mut O,
 ) -> Result<u8, Fail> {
     let Ok((desk, seat)) = SharedDesk::new(alloc) else {
         return Err(Fail::new("out of memory"));
     };
-    let (status, _) = run(rt, alloc, arguments, desk.owner(rt, seat), source, sink);
+    let (source, status, _) = run(rt, alloc, arguments, desk.owner(rt, seat), source, sink);
+    drop(source);
     Ok(status)
+}
+
+// Runs the program on a session, by so many bytes a read, and compares what it writes.
+fn try_session<R: Threads + Wait + Sync>(rt: &R, alloc: Global, row: &Row) -> Result<(), Fail> {
+    let want = answers_framed(alloc, row.answers)?;
+    let arguments = arguments_of(alloc, row.arguments)?;
+    for piece in [1, 2, 3, 7, 13, 4096] {
+        let source = NeverSource::new(all_framed(alloc, row.sent)?, piece);
+        let mut sink = NeverSink::new(alloc);
+        let status = run_over(rt, alloc, &arguments, source, &mut sink)?;
+        same(row.name, status, row.status)?;
+        same(row.name, sink.bytes(), want.as_slice())?;
+    }
+    Ok(())
 }
 
 #[test]
 fn sessions(rt: HostRuntime) -> Result<(), Fail> {
-    let alloc = rt.alloc();
-    for (name, arguments, sent, answers, status) in SESSIONS {
-        let want = answers_framed(alloc, *answers)?;
-        let arguments = arguments_of(alloc, *arguments)?;
-        let mut source = NeverSource::new(all_framed(alloc, *sent)?, 4096);
-        let mut sink = NeverSink::new(alloc);
-        same(
-            *name,
-            run_over(&rt, alloc, &arguments, &mut source, &mut sink)?,
-            *status,
-        )?;
-        same(*name, sink.bytes(), want.as_slice())?;
+    for row in SESSIONS {
+        try_session(&rt, rt.alloc(), row)?;
+    }
+    Ok(())
+}
+
+#[test]
+fn calls(rt: HostRuntime) -> Result<(), Fail> {
+    for row in CALLS {
+        try_session(&rt, rt.alloc(), row)?;
+    }
+    Ok(())
+}
+
+#[test]
+fn asks(rt: HostRuntime) -> Result<(), Fail> {
+    for row in ASKS {
+        try_session(&rt, rt.alloc(), row)?;
+    }
+    Ok(())
+}
+
+#[test]
+fn sessions_of_documents(rt: HostRuntime) -> Result<(), Fail> {
+    for row in DOCUMENTS {
+        try_session(&rt, rt.alloc(), row)?;
     }
     Ok(())
 }
@@ -417,11 +197,11 @@ fn stretches(rt: HostRuntime) -> Result<(), Fail> {
     let arguments = arguments_of(alloc, &["serve"])?;
     for (name, sent, want, status) in STRETCHES {
         for piece in [1, 7, 4096] {
-            let mut source = NeverSource::new(copied(alloc, *sent)?, piece);
+            let source = NeverSource::new(copied(alloc, *sent)?, piece);
             let mut sink = NeverSink::new(alloc);
             same(
                 *name,
-                run_over(&rt, alloc, &arguments, &mut source, &mut sink)?,
+                run_over(&rt, alloc, &arguments, source, &mut sink)?,
                 *status,
             )?;
             same(*name, sink.bytes(), *want)?;
@@ -435,9 +215,9 @@ fn other_arguments(rt: HostRuntime) -> Result<(), Fail> {
     let alloc = rt.alloc();
     for texts in OTHER_ARGUMENTS {
         let arguments = arguments_of(alloc, texts)?;
-        let mut source = NeverSource::new(all_framed(alloc, &[INITIALIZE])?, 4096);
+        let source = NeverSource::new(all_framed(alloc, &[INITIALIZE])?, 4096);
         let mut sink = NeverSink::new(alloc);
-        let status = run_over(&rt, alloc, &arguments, &mut source, &mut sink)?;
+        let status = run_over(&rt, alloc, &arguments, source, &mut sink)?;
         if status != 2 || !sink.bytes().is_empty() {
             return Err(Fail::new(format_args!("{texts:?}: status {status}")));
         }
@@ -445,53 +225,235 @@ fn other_arguments(rt: HostRuntime) -> Result<(), Fail> {
     Ok(())
 }
 
-// Reads, and writes with flushes, are numbered from 1; the ones of these numbers fail.
-fn try_stop<R: Threads + Wait + Sync>(
+// Runs the program with these arguments on what is sent, so many bytes a read. Reads, and writes with flushes, are
+// numbered from 1; the ones of these numbers fail. Gives the status, and what was written.
+fn stopped_by<R: Threads + Wait + Sync>(
     rt: &R,
     alloc: Global,
-    name: &str,
+    arguments: &[&str],
+    sent: &[&str],
+    piece: usize,
     read: u64,
     call: u64,
-    status: u8,
-    answers: &[&str],
-) -> Result<(), Fail> {
+) -> Result<(u8, Vec<u8>), Fail>
+    requires { 0 < piece }
+{
     if read == u64::MAX || call == u64::MAX {
         return Err(Fail::new("no such call"));
     }
-    let want = all_framed(alloc, answers)?;
-    let arguments = Vec::new(alloc);
-    let sent = all_framed(alloc, &[INITIALIZE])?;
-    let mut source = MemorySource::new(sent, 97, vec![in alloc; read]?);
+    let arguments = arguments_of(alloc, arguments)?;
+    let source = MemorySource::new(all_framed(alloc, sent)?, piece, vec![in alloc; read]?);
     let mut sink = MemorySink::new(alloc, vec![in alloc; call]?);
-    same(
-        name,
-        run_over(rt, alloc, &arguments, &mut source, &mut sink)?,
-        status,
-    )?;
-    same(name, sink.bytes(), want.as_slice())
+    let status = run_over(rt, alloc, &arguments, source, &mut sink)?;
+    Ok((status, copied(alloc, sink.bytes())?))
 }
+
+// A read, and a write or flush, that fails while an `initialize` is served, or none, with the
+// program's arguments, and the status and the answers that come.
+struct Stop {
+    name: &'static str,
+    arguments: &'static [&'static str],
+    read: u64,
+    call: u64,
+    status: u8,
+    answers: &'static [&'static str],
+}
+
+const STOPS: &[Stop] = &[
+    Stop {
+        name: "the second read, after the whole frame",
+        arguments: &[],
+        read: 2,
+        call: 0,
+        status: 3,
+        answers: &[INITIALIZED],
+    },
+    Stop {
+        name: "the first write",
+        arguments: &[],
+        read: 0,
+        call: 1,
+        status: 4,
+        answers: &[],
+    },
+    Stop {
+        name: "the first flush, after the first write",
+        arguments: &[],
+        read: 0,
+        call: 2,
+        status: 4,
+        answers: &[INITIALIZED],
+    },
+    Stop {
+        name: "the second read, of a thread",
+        arguments: &["pump", "4", "8"],
+        read: 2,
+        call: 0,
+        status: 3,
+        answers: &[INITIALIZED],
+    },
+    Stop {
+        name: "the first write, while a thread reads",
+        arguments: &["pump", "4", "8"],
+        read: 0,
+        call: 1,
+        status: 4,
+        answers: &[],
+    },
+];
 
 #[test]
 fn failing_reads_and_writes(rt: HostRuntime) -> Result<(), Fail> {
     let alloc = rt.alloc();
-    try_stop(
-        &rt,
+    for stop in STOPS {
+        let want = all_framed(alloc, stop.answers)?;
+        let (status, written) = stopped_by(
+            &rt,
+            alloc,
+            stop.arguments,
+            &[INITIALIZE],
+            97,
+            stop.read,
+            stop.call,
+        )?;
+        same(stop.name, status, stop.status)?;
+        same(stop.name, written.as_slice(), want.as_slice())?;
+    }
+    Ok(())
+}
+
+const WHOLE: &[&str] = &[INITIALIZE, SHUTDOWN, EXIT];
+
+// Which reads of a whole session fail, in pieces of 10 bytes: from a number up to another, with the
+// number of bytes that are written by then, and the status.
+const CUTS: &[(u64, u64, usize, u8)] = &[
+    (1, 11, 0, 3),
+    (11, 18, 75, 3),
+    (18, 23, 135, 3),
+    (23, 24, 135, 0),
+];
+
+#[test]
+fn each_read_fails(rt: HostRuntime) -> Result<(), Fail> {
+    let alloc = rt.alloc();
+    let want = all_framed(alloc, &[INITIALIZED, SHUT_DOWN])?;
+    for (first, end, length, expected) in CUTS {
+        for read in *first..*end {
+            let (status, written) = stopped_by(&rt, alloc, &[], WHOLE, 10, read, 0)?;
+            same("the status", status, *expected)?;
+            same("the length", written.len(), *length)?;
+            same(
+                "it begins the answers",
+                want.as_slice().starts_with(written.as_slice()),
+                true,
+            )?;
+        }
+    }
+    Ok(())
+}
+
+// The writes and the flushes of a whole session fail in turn, until none of that number is made.
+#[test]
+fn each_write_fails(rt: HostRuntime) -> Result<(), Fail> {
+    let alloc = rt.alloc();
+    let want = all_framed(alloc, &[INITIALIZED, SHUT_DOWN])?;
+    for call in 1..100 {
+        let (status, written) = stopped_by(&rt, alloc, &[], WHOLE, 10, 0, call)?;
+        same(
+            "it begins the answers",
+            want.as_slice().starts_with(written.as_slice()),
+            true,
+        )?;
+        if status != 4 {
+            same("the length", written.len(), want.len())?;
+            return same("the status", status, 0);
+        }
+    }
+    Err(Fail::new("writes without an end"))
+}
+
+// The frame of `initialize`, and of so many messages, each with its number between the two texts.
+fn numbered(alloc: Global, head: &str, tail: &str, count: u64) -> Result<Vec<u8>, Fail> {
+    let mut frames = all_framed(alloc, &[INITIALIZE])?;
+    for k in 0..count {
+        let body = format!(in alloc; "{head}{k}{tail}")?;
+        framed(alloc, body.as_str(), &mut frames)?;
+    }
+    Ok(frames)
+}
+
+// Runs the program on these bytes, and compares what it writes before the input ends.
+fn try_bytes<R: Threads + Wait + Sync>(
+    rt: &R,
+    alloc: Global,
+    name: &str,
+    sent: Vec<u8>,
+    want: &[u8],
+) -> Result<(), Fail> {
+    let arguments = arguments_of(alloc, &["serve", "4", "1"])?;
+    let source = NeverSource::new(sent, 4096);
+    let mut sink = NeverSink::new(alloc);
+    same(name, run_over(rt, alloc, &arguments, source, &mut sink)?, 1)?;
+    same(name, sink.bytes(), want)
+}
+
+#[test]
+fn floods(rt: HostRuntime) -> Result<(), Fail> {
+    let alloc = rt.alloc();
+    let initialized = all_framed(alloc, &[INITIALIZED])?;
+    let cancels = numbered(
         alloc,
-        "the second read, after the whole frame",
-        2,
-        0,
-        3,
-        &[INITIALIZED],
+        "{\"jsonrpc\":\"2.0\",\"method\":\"$/cancelRequest\",\"params\":{\"id\":",
+        "}}",
+        501,
     )?;
-    try_stop(&rt, alloc, "the first write", 0, 1, 4, &[])?;
-    try_stop(
+    try_bytes(&rt, alloc, "cancels", cancels, initialized.as_slice())?;
+    let answers = numbered(
+        alloc,
+        "{\"jsonrpc\":\"2.0\",\"result\":null,\"id\":",
+        "}",
+        500,
+    )?;
+    try_bytes(&rt, alloc, "false answers", answers, initialized.as_slice())?;
+
+    // The first of these waits, and the others have its id. Their number stands in their arguments.
+    let waits = numbered(
+        alloc,
+        "{\"jsonrpc\":\"2.0\",\"method\":\"workspace/executeCommand\",\"id\":7,\"params\":{\"command\":\"wait\",\"arguments\":[1000],\"n\":",
+        "}}",
+        500,
+    )?;
+    let mut refused = initialized;
+    for _ in 0..499 {
+        framed(
+            alloc,
+            "{\"jsonrpc\":\"2.0\",\"error\":{\"code\":-32600,\"message\":\"Invalid request\"},\"id\":7}",
+            &mut refused,
+        )?;
+    }
+    try_bytes(&rt, alloc, "one id", waits, refused.as_slice())
+}
+
+#[test]
+fn deep_messages(rt: HostRuntime) -> Result<(), Fail> {
+    let alloc = rt.alloc();
+    let deepest = nested(alloc, 126)?;
+    try_bytes(
         &rt,
         alloc,
-        "the first flush, after the first write",
-        0,
-        2,
-        4,
-        &[INITIALIZED],
+        "126 levels",
+        all_framed(alloc, &[deepest.as_str()])?,
+        b"",
+    )?;
+    let deeper = nested(alloc, 127)?;
+    let fault =
+        b"Content-Length: 75\r\n\r\n{\"jsonrpc\":\"2.0\",\"error\":{\"code\":-32700,\"message\":\"Parse error\"},\"id\":null}";
+    try_bytes(
+        &rt,
+        alloc,
+        "127 levels",
+        all_framed(alloc, &[deeper.as_str()])?,
+        fault,
     )
 }
 
@@ -601,41 +563,30 @@ const LIMITED: &[Limited] = &[
     },
 ];
 
-fn served_with(
-    alloc: Global,
-    row: &Limited,
-    source: &mut NeverSource,
-    sink: &mut NeverSink,
-) -> Result<Served<Sample, PlainDesk>, Stopped<PlainDesk>>
-    requires { (1 ≤ row.now.max) × (1 ≤ row.now.rounds) }
+// The sample behind its methods, and a server over a new desk.
+pub(crate) fn sample(alloc: Global) -> Result<(LspService<Sample>, Server<PlainDesk>), Fail>
+    ensures { IfOk result (λ made. IsOpening plain_meaning (server_desk made.1)) }
 {
-    Server::new(ClientSocket::new(PlainDesk::new(alloc)))
-        .concurrency_level(row.max)
-        .waiting_limit(row.wait)
-        .serve(
-            alloc,
-            source,
-            sink,
-            Sample,
-            &mut InOrder,
-            row.reads,
-            row.rounds,
-        )
+    match sample_service(alloc, new_desk(alloc)) {
+        Ok((service, socket)) => Ok((service, Server::new(socket))),
+        Err(_) => Err(Fail::new("out of memory")),
+    }
 }
 
-// The ids that are left, or why the session stopped; the desk is let go.
+// The ids that are left, or why the session stopped; the service and the desk are let go.
 pub(crate) fn ids_left(
-    served: Result<Served<Sample, PlainDesk>, Stopped<PlainDesk>>,
+    served: Result<Served<LspService<Sample>, PlainDesk>, Stopped<PlainDesk>>,
 ) -> Result<Vec<Id>, ServeError> {
     match served {
         Ok(
             Served {
-                service: Sample,
+                service,
                 desk,
                 exited: _,
                 unanswered,
             },
         ) => {
+            drop(service);
             drop(desk);
             Ok(unanswered)
         }
@@ -653,7 +604,19 @@ fn try_limited(alloc: Global, row: &Limited) -> Result<(), Fail> {
     let want = all_framed(alloc, row.answers)?;
     let mut source = NeverSource::new(all_framed(alloc, row.sent)?, 50);
     let mut sink = NeverSink::new(alloc);
-    let left = ids_left(served_with(alloc, row, &mut source, &mut sink))?;
+    let (service, server) = sample(alloc)?;
+    let server = server.concurrency_level(row.max).waiting_limit(row.wait);
+    let served = serve_session(
+        alloc,
+        &mut source,
+        &mut sink,
+        service,
+        server,
+        &mut InOrder,
+        row.reads,
+        row.rounds,
+    );
+    let left = ids_left(served)?;
     same(row.name, left.len(), row.unanswered.len())?;
     for (id, want) in left.iter().zip(row.unanswered) {
         same(row.name, *id == Id::Number(*want), true)?;
@@ -676,8 +639,17 @@ fn granted_reads(rt: HostRuntime) -> Result<(), Fail> {
     // One read of 50 bytes tells nothing of a frame of 97.
     let mut source = NeverSource::new(all_framed(alloc, &[INITIALIZE])?, 50);
     let mut sink = NeverSink::new(alloc);
-    let server = Server::new(ClientSocket::new(PlainDesk::new(alloc)));
-    let served = server.serve(alloc, &mut source, &mut sink, Sample, &mut InOrder, 1, 8);
+    let (service, server) = sample(alloc)?;
+    let served = serve_session(
+        alloc,
+        &mut source,
+        &mut sink,
+        service,
+        server,
+        &mut InOrder,
+        1,
+        8,
+    );
     let error = ids_left(served).err();
     same("the error", error, Some(ServeError::ReadsSpent))?;
     same("the bytes", sink.bytes().len(), 0)
@@ -706,11 +678,11 @@ fn line_of<R: Threads + Wait + Sync>(
     texts: &[&str],
 ) -> Result<Vec<u8>, Fail> {
     let arguments = arguments_of(alloc, texts)?;
-    let mut source = MemorySource::new(Vec::new(alloc), 1, vec![in alloc; 1]?);
+    let source = MemorySource::new(Vec::new(alloc), 1, vec![in alloc; 1]?);
     let mut sink = NeverSink::new(alloc);
     same(
         "the status",
-        run_over(rt, alloc, &arguments, &mut source, &mut sink)?,
+        run_over(rt, alloc, &arguments, source, &mut sink)?,
         0,
     )?;
     Ok(copied(alloc, sink.bytes())?)
@@ -724,11 +696,6 @@ const MADE_UP: &[(&str, &[&str], &[u8])] = &[
     ),
     (
         "many items",
-        &["bulk", "7", "100000"],
-        b"replies 80110 errors 40083 messages 19892 bytes 9388599\n",
-    ),
-    (
-        "the same again",
         &["bulk", "7", "100000"],
         b"replies 80110 errors 40083 messages 19892 bytes 9388599\n",
     ),

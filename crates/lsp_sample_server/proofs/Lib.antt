@@ -1,1 +1,4 @@
-mod ParamsLemmas
+pub mod CommandLemmas
+pub mod PlanLemmas
+pub mod PollLemmas
+pub mod WrittenLemmas

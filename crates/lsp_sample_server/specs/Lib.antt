@@ -1,6 +1,9 @@
-pub mod Calls
-pub mod Params
+pub mod Command
+pub mod Left
+pub mod Execute
 pub mod Shown
 pub mod Sample
+pub mod Plan
 pub mod SampleLaws
 pub mod Sessions
+pub mod Written

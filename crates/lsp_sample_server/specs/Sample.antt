@@ -1,111 +1,124 @@
--- What the sample's calls mean.
-use Rattle.std.specs.Prelude.{◌≡◌, ◌==◌, ◌-◌, ℕ, List, [], ◌∷◌, bytes_eq, codes, false, if◌then◌else◌, Option, Some, None, Ok}
-use Rattle.serde_json.specs.Data.{Data, number, unsigned}
-use Rattle.lsp_desk.specs.Call.{Tell}
-use Rattle.lsp_desk.specs.Reply.{Reply}
+-- What the sample does: its relations are a function of the calls, of what was asked and of the desk's replies.
+use Rattle.std.specs.Prelude.{◌≡◌, ℕ, zero, suc, pos, List, [], codes, Option, Some, None, Result, Ok, Err}
+use Rattle.serde_json.specs.Data.{number, unsigned}
+use Rattle.lsp_rpc.specs.declared.code.ErrorCode.TheVariants.{InvalidParams, MethodNotFound}
+use Rattle.lsp_rpc.specs.Message.{ErrorData, error_with_code}
+use Rattle.lsp_desk.specs.Call.{Call as DeskCall}
 use Rattle.lsp_desk.specs.Trace.{DeskEntry}
-use Rattle.lsp_session.specs.declared.table.Entry.{Entry}
 use Rattle.lsp_session.specs.declared.table.Kind.{Kind}
 use Rattle.lsp_session.specs.declared.table.Kind.TheVariants.{Request, Notification}
-use Rattle.lsp_session.specs.declared.table.Layer.{Layer}
-use Rattle.lsp_session.specs.declared.table.Layer.TheVariants as layers
-use Rattle.lsp_session.specs.Semantics.{Semantics, Reading, call, missing, unexpected, unfit, Progress, Pending, Done}
+use Rattle.lsp_shape.specs.Plain.{Plain, absent, parts, Parts, no_parts, part}
+use Rattle.lsp_methods.specs.declared.method.Method.{Method}
+use Rattle.lsp_methods.specs.declared.method.Method.TheVariants as methods
+use Rattle.lsp_methods.specs.declared.method.LifeMethod.{LifeMethod}
+use Rattle.lsp_methods.specs.declared.method.LifeMethod.TheVariants as life
+use Rattle.lsp_methods.specs.declared.method.WorkMethod.{WorkMethod}
+use Rattle.lsp_methods.specs.declared.method.WorkMethod.TheVariants as work
+use Rattle.lsp_methods.specs.Methods.{method_row}
+use Rattle.lsp_client.specs.declared.answers.Told.{Told}
+use Rattle.lsp_client.specs.Client.{IsTold}
+use Rattle.lsp_client.specs.Methods.{log_message_call}
+use Rattle.lsp_service.specs.declared.call.Target.{Target}
+use Rattle.lsp_service.specs.declared.call.Target.TheVariants as targets
+use Rattle.lsp_service.specs.Data.{MethodCall, typed, custom, MethodReply, answer, refusal, noted, nil_row}
+use Rattle.lsp_service.specs.Server.{Start, Now, ServerSemantics}
+use Rattle.lsp_sample_server.specs.declared.command.Command.{Command}
+use Rattle.lsp_sample_server.specs.declared.command.Command.TheVariants.{Echo, Wait, Ask, Unknown}
+use Rattle.lsp_sample_server.specs.declared.task.SampleTask.{SampleTask}
 use Rattle.lsp_sample_server.specs.declared.sample.Sample.{Sample}
-use Rattle.lsp_sample_server.specs.declared.sample.SampleCall.{SampleCall}
-use Rattle.lsp_sample_server.specs.declared.command.Waiting.{Waiting}
-use Rattle.lsp_sample_server.specs.Calls.{CommandData, Wait, CallData, Initialize, Initialized, Shutdown, Execute, outcome_of, is_sound, greeting}
-use Rattle.lsp_sample_server.specs.Params.{is_object, has_capabilities, command_in}
-use Rattle.lsp_sample_server.specs.Shown.{show_call}
+use Rattle.lsp_sample_server.specs.Command.{command_in, argument_in}
+use Rattle.lsp_sample_server.specs.Execute.{TaskData, command_reply, command_result, Executes, ResumesCommand}
+use Rattle.lsp_sample_server.specs.Shown.{show_task}
 
--- ---- the method table and its params
+-- ---- what a call is
 
-abbrev pub sample_find : List ℕ → Option Entry
-sample_find name =
-    if bytes_eq name (codes "initialize") then Some (record { place = 0; layer = layers.Initialize; kind = Request })
-    else (if bytes_eq name (codes "initialized") then Some (record { place = 1; layer = layers.Normal; kind = Notification })
-    else (if bytes_eq name (codes "shutdown") then Some (record { place = 2; layer = layers.Shutdown; kind = Request })
-    else (if bytes_eq name (codes "exit") then Some (record { place = 3; layer = layers.Exit; kind = Notification })
-    else (if bytes_eq name (codes "$/cancelRequest") then Some (record { place = 4; layer = layers.Cancel; kind = Notification })
-    else (if bytes_eq name (codes "workspace/executeCommand") then Some (record { place = 5; layer = layers.Normal; kind = Request })
-    else None)))))
+-- so many fields that are absent
+abbrev pub absents : ℕ → Parts
+absents zero = no_parts
+absents (suc n) = part absent (absents n)
 
-abbrev pub read_initialize : Option Data → Reading CallData
-read_initialize None = missing
-read_initialize (Some params) = if has_capabilities params then call Initialize else unfit
+-- none of the 34 capabilities
+abbrev pub no_capabilities_shown : Plain
+no_capabilities_shown = parts (absents 34)
 
-abbrev pub read_initialized : Option Data → Reading CallData
-read_initialized None = missing
-read_initialized (Some params) = if is_object params then call Initialized else unfit
+-- the default `InitializeResult`: no capabilities, and no information on the server
+abbrev pub bare_result : Plain
+bare_result = parts (part no_capabilities_shown (part absent no_parts))
 
-abbrev pub read_shutdown : Option Data → Reading CallData
-read_shutdown None = call Shutdown
-read_shutdown (Some params) = unexpected
+-- what the first poll of a call does: it has this reply; it greets the client; or it executes a command with these params
+pub data SampleTurn : Type 0 where
+  replies : MethodReply → SampleTurn
+  greets : SampleTurn
+  executes : Plain → SampleTurn
 
-abbrev pub executes : Option CommandData → Reading CallData
-executes None = unfit
-executes (Some c) = call (Execute c)
+abbrev pub reply_by_kind : Kind → MethodReply
+reply_by_kind Request = refusal (error_with_code MethodNotFound)
+reply_by_kind Notification = noted
 
-abbrev pub read_execute : Option Data → Reading CallData
-read_execute None = missing
-read_execute (Some params) = executes (command_in params)
+-- a request of another method isn't known, and another notification is taken note of
+abbrev pub other_reply : Target → MethodReply
+other_reply (targets.Typed m) = reply_by_kind (method_row m).kind
+other_reply (targets.Custom kind) = reply_by_kind kind
 
--- of the methods on the layer Normal one is a notification
-abbrev pub read_normal : Kind → Option Data → Reading CallData
-read_normal Notification params = read_initialized params
-read_normal Request params = read_execute params
+abbrev pub life_turn : LifeMethod → SampleTurn
+life_turn life.Initialize = replies (answer (methods.Life life.Initialize) (Ok bare_result))
+life_turn life.Initialized = greets
+life_turn life.Shutdown = replies (answer (methods.Life life.Shutdown) (Ok (nil_row.shown tt)))
 
-abbrev pub read_by_layer : Layer → Kind → Option Data → Reading CallData
-read_by_layer layers.Initialize kind params = read_initialize params
-read_by_layer layers.Shutdown kind params = read_shutdown params
-read_by_layer layers.Exit kind params = unfit
-read_by_layer layers.Cancel kind params = unfit
-read_by_layer layers.Normal kind params = read_normal kind params
+abbrev pub work_turn : WorkMethod → Option Plain → SampleTurn
+work_turn work.ExecuteCommand (Some params) = executes params
+work_turn m params = replies (other_reply (targets.Typed (methods.Work m)))
+
+abbrev pub method_turn : Method → Option Plain → SampleTurn
+method_turn (methods.Life m) params = life_turn m
+method_turn (methods.Work m) params = work_turn m params
+method_turn m params = replies (other_reply (targets.Typed m))
+
+-- there are no custom methods; a call of one would be a request that isn't known
+abbrev pub sample_turn : MethodCall → SampleTurn
+sample_turn (typed m params) = method_turn m params
+sample_turn (custom n params) = replies (other_reply (targets.Custom Request))
 
 -- ---- polls
 
--- `initialized` greets the client, at any time of the session; no other call asks for anything
-abbrev pub Asks : CallData → List DeskEntry → Type 0
-Asks Initialized asked = (reply : Reply) × (asked ≡ record { call = Tell (codes "window/logMessage") greeting false; reply = Some reply } ∷ [])
-Asks Initialize asked = asked ≡ []
-Asks Shutdown asked = asked ≡ []
-Asks (Execute c) asked = asked ≡ []
+-- it is logged, as information, that the server is initialized
+abbrev pub greeting_call : DeskCall
+greeting_call = log_message_call (pos 3) (codes "server initialized!")
 
--- a wait of so many polls, of which these are left
-abbrev pub waits : ℕ → ℕ → Progress Waiting
-waits left polls = if left == 0 then Done (Ok (number (unsigned polls))) else Pending (record { left = left - 1; polls = polls })
+abbrev pub BeginsTurn : SampleTurn → List DeskEntry → Start TaskData → Type 0
+BeginsTurn (replies r) asked start = (asked ≡ []) × (start ≡ Now r)
+BeginsTurn greets asked start = ((told : Told) × IsTold greeting_call told asked) × (start ≡ Now noted)
+BeginsTurn (executes params) asked start = Executes params (command_in params) asked start
 
--- a call ends at its first poll, unless it is a wait
-abbrev pub first_poll : CallData → Progress Waiting
-first_poll Initialize = Done (outcome_of Initialize)
-first_poll Initialized = Done (outcome_of Initialized)
-first_poll Shutdown = Done (outcome_of Shutdown)
-first_poll (Execute (Wait polls)) = waits polls polls
-first_poll (Execute other) = Done (outcome_of (Execute other))
-
-pub record BeginsCall (s : Sample) (c : CallData) (asked : List DeskEntry) (s2 : Sample) (progress : Progress Waiting) : Type 0 where
+pub record BeginsCall (s : Sample) (c : MethodCall) (asked : List DeskEntry) (s2 : Sample) (start : Start TaskData) : Type 0 where
   pub same : s2 ≡ s
-  pub asks : Asks c asked
-  pub gives : progress ≡ first_poll c
+  pub begins : BeginsTurn (sample_turn c) asked start
 
-pub record Resumes (s : Sample) (t : Waiting) (asked : List DeskEntry) (s2 : Sample) (progress : Progress Waiting) : Type 0 where
+pub record ResumesTask (s : Sample) (t : TaskData) (asked : List DeskEntry) (s2 : Sample) (start : Start TaskData) : Type 0 where
   pub same : s2 ≡ s
-  pub asks : asked ≡ []
-  pub gives : progress ≡ waits t.left t.polls
+  pub goes_on : ResumesCommand t asked start
 
-abbrev pub call_of_wait : Waiting → CallData
-call_of_wait t = Execute (Wait t.polls)
+-- the replies of a command: any for `ask`, and one for each other
+abbrev pub MayEnd : Plain → Command → MethodReply → Type 0
+MayEnd params Echo r = r ≡ command_reply (Ok (argument_in params))
+MayEnd params (Wait polls) r = r ≡ command_result (number (unsigned polls))
+MayEnd params Ask r = (body : Result Plain ErrorData) × (r ≡ command_reply body)
+MayEnd params Unknown r = r ≡ command_reply (Err (error_with_code InvalidParams))
 
-abbrev pub sample_semantics : Semantics Sample SampleCall Waiting
+abbrev pub MayReply : SampleTurn → MethodReply → Type 0
+MayReply (replies r1) r = r ≡ r1
+MayReply greets r = r ≡ noted
+MayReply (executes params) r = MayEnd params (command_in params) r
+
+abbrev pub task_call : TaskData → MethodCall
+task_call t = typed (methods.Work work.ExecuteCommand) (Some t.params)
+
+abbrev pub sample_semantics : ServerSemantics Sample SampleTask
 sample_semantics = record {
-  Call = CallData;
-  show_call = show_call;
-  Task = Waiting;
-  show_task = λ t. t;
-  call_of = call_of_wait;
-  find = λ s name. sample_find name;
-  reads = λ entry params. read_by_layer entry.layer entry.kind params;
-  is_sound = is_sound;
+  Task = TaskData;
+  show_task = show_task;
+  call_of = task_call;
   begins = BeginsCall;
-  resumes = Resumes;
-  answers = λ c outcome. outcome ≡ outcome_of c;
+  resumes = ResumesTask;
+  answers = λ c r. MayReply (sample_turn c) r;
 }

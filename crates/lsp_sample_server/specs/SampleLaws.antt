@@ -1,159 +1,127 @@
--- The sample keeps the laws of servers.
-use Rattle.std.specs.Prelude.{◌≡◌, ◌==◌, ◌-◌, ◌||◌, ℕ, List, true, false, not, if◌then◌else◌, codes, bytes_eq, nat_le, Bool, Option, Some, None, option_and_then, Ok, refl}
-use Rattle.serde_json.specs.Data.{Data, null, boolean, number, string, array, object, Items, no_items, item, unsigned}
-use Rattle.serde_json.specs.Find.{get, as_str, as_number, as_u64}
-use Rattle.serde_json.specs.Written.{has_float, items_have_float}
-use Rattle.lsp_rpc.specs.Message.{body_has_float, may_have_float}
-use Rattle.lsp_rpc.proofs.Floats.{get_clean}
-use Rattle.std.proofs.Common.{ap, sym, ◌∙◌, subst, true≢false}
+-- What holds of each language server holds of the sample.
+use Rattle.std.specs.Prelude.{◌≡◌, ◌==◌, ◌-◌, ℕ, List, Bool, true, false, if◌then◌else◌, Option, Some, None, Result, Ok, Err}
+use Rattle.std.proofs.Common.{refl, sym, ap, ◌∙◌, subst}
+use Rattle.serde_json.specs.Data.{number, unsigned}
+use Rattle.lsp_rpc.specs.Message.{ErrorData}
 use Rattle.lsp_desk.specs.Trace.{DeskEntry}
-use Rattle.lsp_session.specs.declared.table.Kind.{Kind}
-use Rattle.lsp_session.specs.declared.table.Kind.TheVariants.{Request, Notification}
-use Rattle.lsp_session.specs.declared.table.Layer.{Layer}
-use Rattle.lsp_session.specs.declared.table.Layer.TheVariants as layers
-use Rattle.lsp_session.specs.Semantics.{Reading, call, missing, unexpected, unfit, Progress, Pending, Done, Phase, Fresh, Held, Polls, call_in, AreClient, IsLawfulHandlers}
+use Rattle.lsp_session.specs.Semantics.{Phase, Fresh, Held, AreClient}
+use Rattle.lsp_shape.specs.Plain.{Plain}
+use Rattle.lsp_methods.specs.declared.method.Method.TheVariants as methods
+use Rattle.lsp_methods.specs.declared.method.LifeMethod.{LifeMethod}
+use Rattle.lsp_methods.specs.declared.method.LifeMethod.TheVariants as life
+use Rattle.lsp_methods.specs.declared.method.WorkMethod.{WorkMethod}
+use Rattle.lsp_methods.specs.declared.method.WorkMethod.TheVariants as work
+use Rattle.lsp_client.specs.Answers.{AskedData, ticket, refused, AnsweredData, value, error, pending}
+use Rattle.lsp_service.specs.Data.{MethodCall, typed, custom, MethodReply}
+use Rattle.lsp_service.specs.Server.{Start, Now, Later, ServerPolls, polled_call, IsLawfulServer}
+use Rattle.lsp_sample_server.specs.declared.command.Command.{Command}
+use Rattle.lsp_sample_server.specs.declared.command.Command.TheVariants.{Echo, Wait, Ask, Unknown}
 use Rattle.lsp_sample_server.specs.declared.sample.Sample.{Sample}
-use Rattle.lsp_sample_server.specs.declared.command.Waiting.{Waiting}
-use Rattle.lsp_sample_server.specs.Calls.{CommandData, Echo, Wait, Unknown, CallData, Initialize, Initialized, Shutdown, Execute, outcome_of, is_sound}
-use Rattle.lsp_sample_server.specs.Params.{is_object, has_capabilities, sole, echo, wait_for, command, command_with, command_in}
-use Rattle.lsp_sample_server.specs.Sample.{Asks, waits, first_poll, call_of_wait, read_by_layer, executes, sample_semantics}
+use Rattle.lsp_sample_server.specs.Command.{command_in}
+use Rattle.lsp_sample_server.specs.Execute.{TaskData, command_reply, command_result, waits, Asks, asked_start, PollsAnswer, answered_start, Quietly, Executes, ResumesLeft, ResumesCommand}
+use Rattle.lsp_sample_server.specs.Left.{LeftData, waiting, asking, command_left}
+use Rattle.lsp_sample_server.specs.Sample.{SampleTurn, replies, greets, executes, life_turn, work_turn, sample_turn, BeginsTurn, BeginsCall, ResumesTask, MayEnd, MayReply, task_call, sample_semantics}
 
--- ---- what is read may be begun
+-- ---- a poll makes no calls of the session
 
-abbrev IsSoundReading : Reading CallData → Type 0
-IsSoundReading (call c) = is_sound c ≡ true
-IsSoundReading missing = Unit {0}
-IsSoundReading unexpected = Unit {0}
-IsSoundReading unfit = Unit {0}
+quiet_client : (gives : Start TaskData) (asked : List DeskEntry) (start : Start TaskData) → Quietly gives asked start → AreClient asked
+quiet_client gives asked start p = subst AreClient (sym p.asks) tt
 
-abbrev IsSoundCommand : Option CommandData → Type 0
-IsSoundCommand None = Unit {0}
-IsSoundCommand (Some c) = is_sound (Execute c) ≡ true
+executes_client : (params : Plain) (c : Command) (asked : List DeskEntry) (start : Start TaskData) → Executes params c asked start → AreClient asked
+executes_client params Echo asked start p = quiet_client _ asked start p
+executes_client params (Wait polls) asked start p = quiet_client _ asked start p
+executes_client params Ask asked start p = subst AreClient (sym p.asks.1) (refl, tt)
+executes_client params Unknown asked start p = quiet_client _ asked start p
 
-clean_item : (a b : Bool) → (a || b) ≡ false → a ≡ false
-clean_item true b h = h
-clean_item false b h = refl
+begins_client : (turn : SampleTurn) (asked : List DeskEntry) (start : Start TaskData) → BeginsTurn turn asked start → AreClient asked
+begins_client (replies r) asked start p = subst AreClient (sym p.0) tt
+begins_client greets asked start p = subst AreClient (sym p.0.1) (refl, tt)
+begins_client (executes params) asked start p = executes_client params (command_in params) asked start p
 
-clean_sole : (values : Items) → items_have_float values ≡ false → may_have_float (sole values) ≡ false
-clean_sole no_items h = refl
-clean_sole (item value no_items) h = clean_item (has_float value) false h
-clean_sole (item value (item next more)) h = refl
+left_client : (params : Plain) (left : LeftData) (asked : List DeskEntry) (start : Start TaskData) → ResumesLeft params left asked start → AreClient asked
+left_client params (waiting left polls) asked start p = quiet_client _ asked start p
+left_client params (asking n) asked start p = subst AreClient (sym p.polls.1) (refl, tt)
 
-sound_if : (b : Bool) (c other : CommandData) → is_sound (Execute c) ≡ true → is_sound (Execute other) ≡ true
-    → is_sound (Execute (if b then c else other)) ≡ true
-sound_if true c other h k = h
-sound_if false c other h k = k
+asks : (s : Sample) (phase : Phase MethodCall TaskData) (asked : List DeskEntry) (s2 : Sample) (start : Start TaskData) → ServerPolls sample_semantics s phase asked s2 start → AreClient asked
+asks s (Fresh c) asked s2 start p = begins_client (sample_turn c) asked start p.begins
+asks s (Held t) asked s2 start p = left_client t.params t.left asked start p.goes_on.goes
 
-sound_echo : (argument : Option Data) → may_have_float argument ≡ false → is_sound (Execute (echo argument)) ≡ true
-sound_echo None h = refl
-sound_echo (Some value) h = ap not h
+-- ---- what a poll comes to, where the params are these
 
-sound_wait : (polls : Option ℕ) → is_sound (Execute (wait_for polls)) ≡ true
-sound_wait None = refl
-sound_wait (Some polls) = sound_if (nat_le polls 1000) (Wait polls) Unknown refl refl
+-- the call goes on with them, or it ends with such a reply
+abbrev Comes : Plain → (MethodReply → Type 0) → Start TaskData → Type 0
+Comes params ends (Now r) = ends r
+Comes params ends (Later t) = t.params ≡ params
 
-sound_command : (name : List ℕ) (argument : Option Data) → may_have_float argument ≡ false → is_sound (Execute (command name argument)) ≡ true
-sound_command name argument h = sound_if (bytes_eq name (codes "echo")) (echo argument) (if bytes_eq name (codes "wait") then wait_for (option_and_then as_u64 (option_and_then as_number argument)) else Unknown)
-    (sound_echo argument h)
-    (sound_if (bytes_eq name (codes "wait")) (wait_for (option_and_then as_u64 (option_and_then as_number argument))) Unknown
-    (sound_wait (option_and_then as_u64 (option_and_then as_number argument))) refl)
+comes_if : (b : Bool) (params : Plain) (polls : ℕ) (left : LeftData) → Comes params (MayEnd params (Wait polls)) (if b then Now (command_result (number (unsigned polls))) else Later (record { params = params; left = left }))
+comes_if true params polls left = refl
+comes_if false params polls left = refl
 
-sound_with : (name : List ℕ) (arguments : Option Data) → may_have_float arguments ≡ false → IsSoundCommand (command_with name arguments)
-sound_with name None h = sound_command name None refl
-sound_with name (Some null) h = tt
-sound_with name (Some (boolean b)) h = tt
-sound_with name (Some (number n)) h = tt
-sound_with name (Some (string s)) h = tt
-sound_with name (Some (array values)) h = sound_command name (sole values) (clean_sole values h)
-sound_with name (Some (object _)) h = tt
+comes_asked : (params : Plain) (a : AskedData) → Comes params (MayEnd params Ask) (asked_start params a)
+comes_asked params (ticket n) = refl
+comes_asked params (refused e) = (Err e, refl)
 
-sound_named : (name : Option (List ℕ)) (arguments : Option Data) → may_have_float arguments ≡ false
-    → IsSoundCommand (option_and_then (λ n. command_with n arguments) name)
-sound_named None arguments h = tt
-sound_named (Some name) arguments h = sound_with name arguments h
+comes_answered : (params : Plain) (a : AnsweredData) → Comes params (MayEnd params Ask) (answered_start params a)
+comes_answered params (value p) = (_, refl)
+comes_answered params (error e) = (Err e, refl)
+comes_answered params (pending n) = refl
 
-sound_executes : (c : Option CommandData) → IsSoundCommand c → IsSoundReading (executes c)
-sound_executes None h = tt
-sound_executes (Some c) h = h
+comes_executed : (params : Plain) (c : Command) (asked : List DeskEntry) (start : Start TaskData) → Executes params c asked start → Comes params (MayEnd params c) start
+comes_executed params Echo asked start p = subst (Comes params (MayEnd params Echo)) (sym p.is) refl
+comes_executed params (Wait polls) asked start p = subst (Comes params (MayEnd params (Wait polls))) (sym p.is) (comes_if (polls == 0) params polls (waiting (polls - 1) polls))
+comes_executed params Ask asked start p = subst (Comes params (MayEnd params Ask)) (sym p.gives) (comes_asked params p.asked_data)
+comes_executed params Unknown asked start p = subst (Comes params (MayEnd params Unknown)) (sym p.is) refl
 
-sound_unless_unfit : (b : Bool) (c : CallData) → is_sound c ≡ true → IsSoundReading (if b then call c else unfit)
-sound_unless_unfit true c h = h
-sound_unless_unfit false c h = tt
+comes_left : (params : Plain) (left : LeftData) (asked : List DeskEntry) (start : Start TaskData) → ResumesLeft params left asked start → Comes params (MayEnd params (command_left left)) start
+comes_left params (waiting left polls) asked start p = subst (Comes params (MayEnd params (Wait polls))) (sym p.is) (comes_if (left == 0) params polls (waiting (left - 1) polls))
+comes_left params (asking n) asked start p = subst (Comes params (MayEnd params Ask)) (sym p.gives) (comes_answered params p.answered)
 
-sound_reading : (layer : Layer) (kind : Kind) (params : Option Data) → may_have_float params ≡ false → IsSoundReading (read_by_layer layer kind params)
-sound_reading layers.Initialize kind None h = tt
-sound_reading layers.Initialize kind (Some params) h = sound_unless_unfit (has_capabilities params) Initialize refl
-sound_reading layers.Shutdown kind None h = refl
-sound_reading layers.Shutdown kind (Some params) h = tt
-sound_reading layers.Exit kind params h = tt
-sound_reading layers.Cancel kind params h = tt
-sound_reading layers.Normal Notification None h = tt
-sound_reading layers.Normal Notification (Some params) h = sound_unless_unfit (is_object params) Initialized refl
-sound_reading layers.Normal Request None h = tt
-sound_reading layers.Normal Request (Some params) h =
-    sound_executes (command_in params)
-    (sound_named (option_and_then as_str (get (codes "command") params)) (get (codes "arguments") params) (get_clean (codes "arguments") params h))
+comes_on : (t : TaskData) (asked : List DeskEntry) (start : Start TaskData) → ResumesCommand t asked start → Comes t.params (MayEnd t.params (command_in t.params)) start
+comes_on t asked start p = subst (λ c. Comes t.params (MayEnd t.params c) start) p.tied (comes_left t.params t.left asked start p.goes)
 
--- ---- what a poll comes to
+-- ---- what a poll comes to, whatever the call
 
--- a call that goes on is kept, and one that ends has its outcome
-abbrev Comes : CallData → Progress Waiting → Type 0
-Comes c (Pending t) = call_of_wait t ≡ c
-Comes c (Done outcome) = outcome ≡ outcome_of c
+-- only a command goes on
+abbrev ComesOf : SampleTurn → Start TaskData → Type 0
+ComesOf (replies r1) (Now r) = r ≡ r1
+ComesOf (replies r1) (Later t) = ⊥
+ComesOf greets (Now r) = MayReply greets r
+ComesOf greets (Later t) = ⊥
+ComesOf (executes params) start = Comes params (MayEnd params (command_in params)) start
 
-comes_if : (b : Bool) (left polls : ℕ)
-    → Comes (Execute (Wait polls)) (if b then Done (Ok (number (unsigned polls))) else Pending (record { left = left; polls = polls }))
-comes_if true left polls = refl
-comes_if false left polls = refl
+comes_begun : (turn : SampleTurn) (asked : List DeskEntry) (start : Start TaskData) → BeginsTurn turn asked start → ComesOf turn start
+comes_begun (replies r) asked start p = subst (ComesOf (replies r)) (sym p.1) refl
+comes_begun greets asked start p = subst (ComesOf greets) (sym p.1) refl
+comes_begun (executes params) asked start p = comes_executed params (command_in params) asked start p
 
-comes_waiting : (left polls : ℕ) → Comes (Execute (Wait polls)) (waits left polls)
-comes_waiting left polls = comes_if (left == 0) (left - 1) polls
+no_life : (m : LifeMethod) (t : TaskData) → ComesOf (life_turn m) (Later t) → ⊥
+no_life life.Initialize t p = p
+no_life life.Initialized t p = p
+no_life life.Shutdown t p = p
 
-comes_first : (c : CallData) → Comes c (first_poll c)
-comes_first Initialize = refl
-comes_first Initialized = refl
-comes_first Shutdown = refl
-comes_first (Execute (Echo value)) = refl
-comes_first (Execute (Wait polls)) = comes_waiting polls polls
-comes_first (Execute Unknown) = refl
+of_work : (m : WorkMethod) (params : Option Plain) (t : TaskData) → ComesOf (work_turn m params) (Later t) → task_call t ≡ typed (methods.Work m) params
+of_work work.ExecuteCommand (Some params) t p = ap (λ x. typed (methods.Work work.ExecuteCommand) (Some x)) p
+of_work m params t p = absurd p
 
-comes : (s : Sample) (phase : Phase CallData Waiting) (asked : List DeskEntry) (s2 : Sample) (progress : Progress Waiting)
-    → Polls sample_semantics s phase asked s2 progress → Comes (call_in sample_semantics phase) progress
-comes s (Fresh c) asked s2 progress polls = subst (Comes c) (sym polls.gives) (comes_first c)
-comes s (Held t) asked s2 progress polls = subst (Comes (call_of_wait t)) (sym polls.gives) (comes_waiting t.left t.polls)
+keeps_turn : (c : MethodCall) (t : TaskData) → ComesOf (sample_turn c) (Later t) → task_call t ≡ c
+keeps_turn (typed (methods.Life m) params) t p = absurd (no_life m t p)
+keeps_turn (typed (methods.Work m) params) t p = of_work m params t p
+keeps_turn c t p = absurd p
 
--- ---- the other laws
+keeps : (s : Sample) (phase : Phase MethodCall TaskData) (asked : List DeskEntry) (s2 : Sample) (t : TaskData) → ServerPolls sample_semantics s phase asked s2 (Later t)
+    → task_call t ≡ polled_call sample_semantics phase
+keeps s (Fresh c) asked s2 t p = keeps_turn c t (comes_begun (sample_turn c) asked (Later t) p.begins)
+keeps s (Held u) asked s2 t p = ap (λ x. typed (methods.Work work.ExecuteCommand) (Some x)) (comes_on u asked (Later t) p.goes_on)
 
-asks_call : (c : CallData) (asked : List DeskEntry) → Asks c asked → AreClient asked
-asks_call Initialize asked asks = subst AreClient (sym asks) tt
-asks_call Initialized asked asks = subst AreClient (sym asks.1) (refl, tt)
-asks_call Shutdown asked asks = subst AreClient (sym asks) tt
-asks_call (Execute c) asked asks = subst AreClient (sym asks) tt
+replies_turn : (turn : SampleTurn) (r : MethodReply) → ComesOf turn (Now r) → MayReply turn r
+replies_turn (replies r1) r p = p
+replies_turn greets r p = p
+replies_turn (executes params) r p = p
 
-asks_polled : (s : Sample) (phase : Phase CallData Waiting) (asked : List DeskEntry) (s2 : Sample) (progress : Progress Waiting)
-    → Polls sample_semantics s phase asked s2 progress → AreClient asked
-asks_polled s (Fresh c) asked s2 progress polls = asks_call c asked polls.asks
-asks_polled s (Held t) asked s2 progress polls = subst AreClient (sym polls.asks) tt
+answers : (s : Sample) (phase : Phase MethodCall TaskData) (asked : List DeskEntry) (s2 : Sample) (r : MethodReply) → ServerPolls sample_semantics s phase asked s2 (Now r)
+    → MayReply (sample_turn (polled_call sample_semantics phase)) r
+answers s (Fresh c) asked s2 r p = replies_turn (sample_turn c) r (comes_begun (sample_turn c) asked (Now r) p.begins)
+answers s (Held u) asked s2 r p = comes_on u asked (Now r) p.goes_on
 
-unless_true : (b : Bool) → not b ≡ true → b ≡ false
-unless_true true h = absurd (true≢false (sym h))
-unless_true false h = refl
-
-clean_outcome : (c : CallData) → is_sound c ≡ true → body_has_float (outcome_of c) ≡ false
-clean_outcome Initialize h = refl
-clean_outcome Initialized h = refl
-clean_outcome Shutdown h = refl
-clean_outcome (Execute (Echo value)) h = unless_true (has_float value) h
-clean_outcome (Execute (Wait polls)) h = refl
-clean_outcome (Execute Unknown) h = refl
-
-pub sample_laws : IsLawfulHandlers sample_semantics
-sample_laws = record {
-  reads_sound = λ entry params c clean reads. subst IsSoundReading reads (sound_reading entry.layer entry.kind params clean);
-  keeps_table = λ s phase asked s2 progress polls name. refl;
-  asks_client = asks_polled;
-  keeps_call = λ s phase asked s2 t polls. comes s phase asked s2 (Pending t) polls;
-  keeps_answers = λ s phase asked s2 outcome polls. comes s phase asked s2 (Done outcome) polls;
-  keeps_float_free = λ s phase asked s2 outcome sound polls.
-      ap body_has_float (comes s phase asked s2 (Done outcome) polls) ∙ clean_outcome (call_in sample_semantics phase) sound;
-}
+pub sample_laws : IsLawfulServer sample_semantics
+sample_laws = record { asks_client = asks; keeps_call = keeps; keeps_answers = answers }

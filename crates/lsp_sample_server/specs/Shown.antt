@@ -1,18 +1,17 @@
--- The plain data that the code's calls and tasks stand for.
-use Rattle.serde_json.specs.View.{view}
-use Rattle.lsp_sample_server.specs.declared.command.Command.{Command}
-use Rattle.lsp_sample_server.specs.declared.command.Command.TheVariants as commands
-use Rattle.lsp_sample_server.specs.declared.sample.SampleCall.{SampleCall}
-use Rattle.lsp_sample_server.specs.declared.sample.SampleCall.TheVariants as calls
-use Rattle.lsp_sample_server.specs.Calls.{CommandData, Echo, Wait, Unknown, CallData, Initialize, Initialized, Shutdown, Execute}
+-- The plain data that the code's tasks and outcomes stand for.
+use Rattle.lsp_shape.specs.Row.{any, maybe}
+use Rattle.lsp_work.specs.Workspace.{execute_command_params_row}
+use Rattle.lsp_service.specs.Data.{result_shown}
+use Rattle.lsp_service.specs.Server.{Start, Now, Later}
+use Rattle.lsp_sample_server.specs.declared.task.SampleTask.{SampleTask}
+use Rattle.lsp_sample_server.specs.declared.execute.Outcome.{Outcome}
+use Rattle.lsp_sample_server.specs.declared.execute.Outcome.TheVariants as outcomes
+use Rattle.lsp_sample_server.specs.Execute.{TaskData, command_reply}
+use Rattle.lsp_sample_server.specs.Left.{show_left}
 
-abbrev pub show_command : Command → CommandData
-show_command (commands.Echo value) = Echo (view value)
-show_command (commands.Wait polls) = Wait polls
-show_command commands.Unknown = Unknown
+abbrev pub show_task : SampleTask → TaskData
+show_task t = record { params = execute_command_params_row.shown t.params; left = show_left t.left }
 
-abbrev pub show_call : SampleCall → CallData
-show_call calls.Initialize = Initialize
-show_call calls.Initialized = Initialized
-show_call calls.Shutdown = Shutdown
-show_call (calls.ExecuteCommand c) = Execute (show_command c)
+abbrev pub show_outcome : Outcome → Start TaskData
+show_outcome (outcomes.Ended r) = Now (command_reply (result_shown (maybe any).shown r))
+show_outcome (outcomes.Going t) = Later (show_task t)

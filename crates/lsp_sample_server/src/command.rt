@@ -1,99 +1,85 @@
 // The commands of the server.
-ghost use Rattle.std.specs.Prelude.{◌≡◌, IfOk, option_map};
-ghost use Rattle.serde_json.specs.View.{view, items_view};
-ghost use Rattle.lsp_session.specs.Progress.{show_progress};
-ghost use Rattle.lsp_sample_server.specs.Params.{command_in, command as command_lem, echo as echo_lem, wait as wait_lem, sole as sole_lem};
-ghost use Rattle.lsp_sample_server.specs.Shown.{show_command};
+ghost use Rattle.std.specs.Prelude.{◌≡◌, map};
+ghost use Rattle.serde_json.specs.View.{view};
+ghost use Rattle.lsp_shape.specs.Plain.{no_parts, parts_of};
+ghost use Rattle.lsp_shape.specs.Row.{any, maybe};
+ghost use Rattle.lsp_shape.specs.Shown.{show_value};
+ghost use Rattle.lsp_work.specs.Workspace.{execute_command_params_row};
+ghost use Rattle.lsp_sample_server.specs.Command.{argument_in, command_in, command_of, of_argument, wait_of};
 
-use lsp_rpc::NoMemory;
+use lsp_work::ExecuteCommandParams;
 use serde_json::Value;
 
 /// What `workspace/executeCommand` asks for.
-#[derive(Drop, Debug)]
+#[derive(Clone, Copy, Debug, PartialEq, Eq)]
 pub enum Command {
-    /// `echo` gives back its one argument.
-    Echo(Value),
+    /// `echo` gives its one argument back.
+    Echo,
     /// `wait` goes on for so many polls, and then gives their number.
     Wait(u64),
+    /// `ask` gives the folders that the client has in its workspace.
+    Ask,
     /// Another command, or other arguments.
     Unknown,
-}
-
-/// A `wait` that goes on.
-#[derive(Clone, Copy, Debug, PartialEq, Eq)]
-pub struct Waiting {
-    /// For so many polls more.
-    pub left: u64,
-    /// The polls of the whole wait.
-    pub polls: u64,
 }
 
 /// The most polls that a `wait` takes.
 const MOST_POLLS: u64 = 1000;
 
-/// The command that the params of `workspace/executeCommand` are, where they are an object with a
-/// string `command` and, if `arguments` is there, an array.
-pub(crate) fn read_command(params: &Value) -> Result<Option<Command>, NoMemory>
-    ensures { IfOk result (λ o. option_map show_command o ≡ command_in (view params.now)) }
+/// The command that these params ask for.
+#[tactic(auto, unfolding(lsp_work::specs::Workspace::execute_command_params_row))]
+pub(crate) fn read_command(params: &ExecuteCommandParams) -> Command
+    ensures { result ≡ command_in (execute_command_params_row.shown params.now) }
 {
-    let name = match params.get("command") {
-        Some(name) => name.as_str(),
-        None => None,
-    };
-    let Some(name) = name else {
-        return Ok(None);
-    };
-    match params.get("arguments") {
-        None => Ok(Some(named(name, None)?)),
-        Some(arguments) => match arguments.as_array() {
-            Some(arguments) => Ok(Some(named(name, sole(arguments))?)),
-            None => Ok(None),
-        },
-    }
+    named(params.command.as_str(), params.arguments.as_slice())
 }
 
-// The command of that name with this argument alone.
-fn named(name: &str, argument: Option<&Value>) -> Result<Command, NoMemory>
-    ensures { IfOk result (λ c. show_command c
-        ≡ command_lem name.now (option_map (λ v. view v.now) argument.entry)) }
+/// What `echo` gives back: the last of the arguments, of which it has one.
+#[tactic(auto, unfolding(lsp_work::specs::Workspace::execute_command_params_row))]
+pub(crate) fn echoed(params: ExecuteCommandParams) -> Option<Value>
+    ensures { (maybe any).shown result ≡ argument_in (execute_command_params_row.shown params) }
 {
-    match name {
-        "echo" => echo(argument),
-        "wait" => Ok(wait(argument)),
-        _ => Ok(Command::Unknown),
-    }
+    let mut arguments = params.arguments;
+    arguments.pop()
 }
 
-fn echo(argument: Option<&Value>) -> Result<Command, NoMemory>
-    ensures { IfOk result (λ c. show_command c
-        ≡ echo_lem (option_map (λ v. view v.now) argument.entry)) }
+// The command of that name with these arguments.
+fn named(name: &str, arguments: &[Value]) -> Command
+    ensures { result ≡ command_of name.now (parts_of (map show_value arguments.now)) }
 {
-    match argument {
-        Some(value) => Ok(Command::Echo(value.clone()?)),
-        None => Ok(Command::Unknown),
-    }
-}
-
-fn wait(argument: Option<&Value>) -> Command
-    ensures { show_command result ≡ wait_lem (option_map (λ v. view v.now) argument.entry) }
-{
-    let polls = match argument {
-        Some(value) => value.as_u64(),
-        None => None,
-    };
-    match polls {
-        Some(polls) if polls <= MOST_POLLS => Command::Wait(polls),
+    match arguments {
+        [] => without_argument(name),
+        [value] => with_argument(name, value),
         _ => Command::Unknown,
     }
 }
 
-// The value of an array of one.
-fn sole(values: &Vec<Value>) -> Option<&Value>
-    ensures { option_map (λ v. view v.now) result ≡ sole_lem (items_view values.now.items) }
+// The same without arguments.
+fn without_argument(name: &str) -> Command
+    ensures { result ≡ command_of name.now no_parts }
 {
-    match values.as_slice() {
-        [] => None,
-        [value] => Some(value),
-        _ => None,
+    match name {
+        "ask" => Command::Ask,
+        _ => Command::Unknown,
+    }
+}
+
+// The same with one argument.
+fn with_argument(name: &str, argument: &Value) -> Command
+    ensures { result ≡ of_argument name.now (view argument.now) }
+{
+    match name {
+        "echo" => Command::Echo,
+        "wait" => wait(argument.as_u64()),
+        _ => Command::Unknown,
+    }
+}
+
+fn wait(polls: Option<u64>) -> Command
+    ensures { result ≡ wait_of polls }
+{
+    match polls {
+        Some(polls) if polls <= MOST_POLLS => Command::Wait(polls),
+        _ => Command::Unknown,
     }
 }

@@ -15,4 +15,5 @@ pub mod ServedLemmas
 pub mod ServesOnLemmas
 pub mod ErrorLemmas
 pub mod HandedLemmas
+pub mod ServesSessionLemmas
 pub mod HistoryLemmas

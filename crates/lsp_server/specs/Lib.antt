@@ -17,4 +17,5 @@ pub mod Consuming
 pub mod Serving
 pub mod ServerView
 pub mod ServedView
+pub mod ServesSession
 pub mod History

@@ -1,5 +1,5 @@
 // The server.
-ghost use Rattle.std.specs.Prelude.{◌≡◌, ◌≢◌, ◌≤◌, ◌<◌, ◌+◌, ◌*◌, [], ◌∷◌, ℕ, true, false, length, OnOk, OnErr, IfOk, IfErr, IfSome, IsErrAnd};
+ghost use Rattle.std.specs.Prelude.{◌≡◌, ◌≢◌, ◌≤◌, [], ◌∷◌, true, false, OnOk, OnErr, IfOk, IfErr};
 ghost use Rattle.std.specs.Result.{result_err};
 ghost use Rattle.lsp_desk.specs.Meaning.{IsOpening, Grown};
 ghost use Rattle.lsp_frame.specs.Codec.{AreLimits, default_limits};
@@ -7,13 +7,14 @@ ghost use Rattle.lsp_session.specs.Item.{show_item, item_has_float, tick};
 ghost use Rattle.lsp_session.specs.Run.{Step, order_by};
 ghost use Rattle.lsp_session.specs.State.{opening_by};
 ghost use Rattle.lsp_session.specs.SessionView.{session_view, has_stopped, desk_of, life_of};
-ghost use Rattle.lsp_server.specs.SourceSink.{CountRose, IsFlushed};
-ghost use Rattle.lsp_server.specs.Course.{course, picked};
+ghost use Rattle.lsp_server.specs.SourceSink.{IsFlushed};
+ghost use Rattle.lsp_server.specs.Course.{course};
 ghost use Rattle.lsp_server.specs.Written.{Ran, RanPart};
-ghost use Rattle.lsp_server.specs.Served.{call_bytes, handed_back, IsServed, ReadEnough, WroteTold, WrotePart};
+ghost use Rattle.lsp_server.specs.Served.{handed_back};
 ghost use Rattle.lsp_server.specs.Leaves.{LeavesFaults};
 ghost use Rattle.lsp_server.specs.ServedView.{show_served};
-ghost use Rattle.lsp_server.specs.Errors.{IsBetweenReads, IsFlushedAt, IsInStep, ComesUnfailed, SaysSpent};
+ghost use Rattle.lsp_server.specs.ServesSession.{ServesSession};
+ghost use Rattle.lsp_server.specs.Errors.{IsInStep, SaysSpent};
 
 use crate::serving::serve_over;
 use crate::step::{ServeError, flush, write_step};
@@ -297,80 +298,22 @@ impl<D: Desk + Drop> Server<D> {
         requires rounds { 1 ≤ rounds }
         requires opening { IsOpening D.meaning (server_desk self) }
 
-        // The bytes written, and the service and desk handed back, are those of a session run over
-        // the items that the frame grammar finds in all the source's bytes; in it each owed request
-        // and each fault before any exit is answered once, but for what is listed as unanswered.
-        ensures headline { IfOk result (λ served. IfSome (I.left source.old) (λ bytes. IsServed
-            (course H.semantics D.meaning (order_by P.gives P.later)
+        // What was written and is handed back is of the session over all the source's bytes; at an
+        // error it begins that. Each error has its cause, and each failure is told.
+        ensures { ServesSession (course H.semantics D.meaning (order_by P.gives P.later)
             (setting self service (P.state pick.old) rounds))
-            (call_bytes bytes (I.left source.new) (O.taken sink.old) (O.taken sink.new))
-            (show_served served) (P.state pick.new))) }
-
-        // Ok comes only at the end of input or at an exit, and nothing is read after the piece that
-        // tells the exit.
-        ensures enough { OnOk result (IfSome (I.left source.old) (λ bytes. ReadEnough
-            (course H.semantics D.meaning (order_by P.gives P.later)
-            (setting self service (P.state pick.old) rounds))
-            (call_bytes bytes (I.left source.new) (O.taken sink.old) (O.taken sink.new)) 4096)) }
-
-        // The bytes taken are flushed, if they were at the start, also at an error that isn't of
-        // the sink or of memory.
-        ensures flushed { OnOk result (IsFlushed (O.taken sink.old) (O.flushed sink.old)
-            → IsFlushed (O.taken sink.new) (O.flushed sink.new)) }
-        ensures flushed_at { IfErr result (λ stopped. IsFlushedAt stopped.error
-            → IsFlushed (O.taken sink.old) (O.flushed sink.old)
-            → IsFlushed (O.taken sink.new) (O.flushed sink.new)) }
-
-        // Each error has its cause.
-        ensures read { IfErr result (λ stopped. stopped.error ≡ ServeError.ReadFault
-            → CountRose (I.faults source.old) (I.faults source.new)) }
-        ensures write { IfErr result (λ stopped. stopped.error ≡ ServeError.WriteFault
-            → CountRose (O.faults sink.old) (O.faults sink.new)) }
-        ensures reads_spent { IfErr result (λ stopped. stopped.error ≡ ServeError.ReadsSpent
-            → IfSome (I.left source.old) (λ bytes.
-            IfSome (I.left source.new) (λ rest. reads + length rest ≤ length bytes))) }
-        ensures desk_spent { IfErr result
-            (λ stopped. SaysSpent D.meaning stopped.desk stopped.error) }
-        ensures never_alone { IfErr result (λ stopped. D.meaning.alone (server_desk self) ≡ true
-            → (n : ℕ) → stopped.error ≢ ServeError.DeskSpent n) }
-
-        // A failure is told: where a count rose, the answer is that error.
-        ensures counts { (I.faults source.old ≤ I.faults source.new)
-            × (O.faults sink.old ≤ O.faults sink.new) }
-        ensures read_told { I.faults source.old < I.faults source.new
-            → IsErrAnd result (λ stopped. stopped.error ≡ ServeError.ReadFault) }
-        ensures write_told { O.faults sink.old < O.faults sink.new
-            → IsErrAnd result (λ stopped. stopped.error ≡ ServeError.WriteFault) }
-
-        // Each of at most `reads` reads takes at most 4,096 bytes.
-        ensures few { IfSome (I.left source.old) (λ bytes. IfSome (I.left source.new)
-            (λ rest. length bytes ≤ length rest + reads * 4096)) }
-
-        // So with no failure, and with more reads than bytes, only `NoMemory` may come, and
-        // `DeskSpent` over a desk that others use.
-        ensures complete { IfErr result (λ stopped. IfSome (I.left source.old)
-            (λ bytes. length bytes < reads
-            → ¬ CountRose (I.faults source.old) (I.faults source.new)
-            → ¬ CountRose (O.faults sink.old) (O.faults sink.new)
-            → ComesUnfailed (D.meaning.alone (server_desk self)) stopped.error)) }
-
-        // What was written by then.
-        ensures exact { IfErr result (λ stopped. IsBetweenReads stopped.error
-            → IfSome (I.left source.old) (λ bytes. WroteTold
-            (course H.semantics D.meaning (order_by P.gives P.later)
-            (setting self service (P.state pick.old) rounds))
-            (call_bytes bytes (I.left source.new) (O.taken sink.old)
-            (O.taken sink.new)) stopped.desk)) }
-        ensures part { IfErr result (λ stopped. IfSome (I.left source.old) (λ bytes. WrotePart
-            (course H.semantics D.meaning (order_by P.gives P.later)
-            (setting self service (P.state pick.old) rounds))
-            (call_bytes bytes (I.left source.new) (O.taken sink.old) (O.taken sink.new)) 4096
-            stopped.desk)) }
-
-        // At each answer the desk that is handed back has grown from the one that was handed in.
-        ensures grown { IfOk result (λ served. Grown D.meaning (server_desk self) served.desk) }
-        ensures grown_stopped { IfErr result (λ stopped. Grown D.meaning
-            (server_desk self) stopped.desk) }
+            (record {
+              left = I.left source.old;
+              left_after = I.left source.new;
+              reads_failed = I.faults source.old;
+              reads_failed_after = I.faults source.new;
+              taken = O.taken sink.old;
+              taken_after = O.taken sink.new;
+              flushed = O.flushed sink.old;
+              flushed_after = O.flushed sink.new;
+              writes_failed = O.faults sink.old;
+              writes_failed_after = O.faults sink.new;
+            }) reads (P.state pick.new) result }
     {
         let desk = self.socket.into_desk();
         let mut session = open(alloc, service, desk, self.max, self.wait, self.empty_params);

@@ -10,5 +10,4 @@ pub mod Open
 pub mod Answering
 pub mod Service
 pub mod Ready
-pub mod Serving
 pub mod ServiceLaws

@@ -34,5 +34,5 @@ pub use reply::{
 };
 pub use server::{LanguageServer, NoTask, Started};
 pub use service::{Held, LspService};
-pub use serving::{serve, serve_session};
-pub use stdio::serve_stdio;
+pub use serving::{pump, serve, serve_session};
+pub use stdio::{pump_stdio, serve_stdio};

@@ -6,8 +6,9 @@ ghost use Rattle.lsp_server.specs.SourceSink.{CountRose, IsFlushed};
 ghost use Rattle.lsp_server.specs.Course.{course};
 ghost use Rattle.lsp_server.specs.Served.{call_bytes};
 ghost use Rattle.lsp_server.specs.ServerView.{server_desk, setting};
+ghost use Rattle.lsp_server.specs.ServesSession.{ServesSession};
 ghost use Rattle.lsp_stdio.specs.Stdio.{in_order, EndsWith};
-ghost use Rattle.lsp_service.specs.Serving.{ServesSession};
+ghost use Rattle.lsp_stdio.specs.Pumping.{EndsUnread, PumpEndsWith};
 
 use crate::server::LanguageServer;
 use crate::service::LspService;
@@ -15,6 +16,8 @@ use lsp_desk::Desk;
 use lsp_server::{Served, Server, Sink, Source, Stopped};
 use lsp_session::{Handlers, Pick};
 use std::alloc::Global;
+use std::sync::Wait;
+use std::thread::Threads;
 
 /// Serves a session of the service over a source and a sink, and answers the program's exit status,
 /// as [`serve`](lsp_stdio::serve) does for any handlers.
@@ -54,6 +57,57 @@ pub fn serve<I: Source, O: Sink, D: Desk + Drop, S: LanguageServer<D>>(
         → (result ≤ 1) ⊎ (result ≡ 6) ⊎ (result ≡ 7)) }
 {
     lsp_stdio::serve(alloc, source, sink, service, server, rounds)
+}
+
+/// Serves a session of the service while a thread of its own reads, and answers the source and the
+/// program's exit status, as [`pump`](lsp_stdio::pump) does for any handlers.
+pub fn pump<
+    R: Threads + Wait,
+    I: Source + Send + Drop + 'static,
+    O: Sink,
+    D: Desk + Drop,
+    S: LanguageServer<D>,
+>(
+    rt: &R,
+    alloc: Global,
+    source: I,
+    sink: &mut O,
+    service: LspService<S>,
+    server: Server<D>,
+    rounds: u64,
+) -> (I, u8)
+    requires rounds { 1 ≤ rounds }
+    requires opening { IsOpening D.meaning (server_desk server) }
+
+    // What was written is of the session over all the source's bytes, by the status.
+    ensures known { (result.1 ≤ 7) × (result.1 ≢ 2) }
+    ensures session { IfSome (I.left source) (λ bytes. PumpEndsWith
+        (course ⟦<LspService<S> as Handlers<D>>⟧.semantics D.meaning in_order
+        (setting server service tt rounds))
+        (call_bytes bytes (I.left result.0) (O.taken sink.old) (O.taken sink.new))
+        (I.faults source) (I.faults result.0) result.1) }
+    ensures flushed { (result.1 ≢ 4) → (result.1 ≢ 6)
+        → IsFlushed (O.taken sink.old) (O.flushed sink.old)
+        → IsFlushed (O.taken sink.new) (O.flushed sink.new) }
+
+    // Each failure has its cause, and is told, but for a read that failed when the session had
+    // ended.
+    ensures read { result.1 ≡ 3 → CountRose (I.faults source) (I.faults result.0) }
+    ensures write { result.1 ≡ 4 → CountRose (O.faults sink.old) (O.faults sink.new) }
+    ensures counts { (I.faults source ≤ I.faults result.0) × (O.faults sink.old ≤ O.faults sink.new) }
+    ensures read_told { I.faults source < I.faults result.0
+        → (result.1 ≡ 3) ⊎ EndsUnread result.1 }
+    ensures write_told { O.faults sink.old < O.faults sink.new → result.1 ≡ 4 }
+    ensures desk_spent { result.1 ≡ 7 → D.meaning.alone (server_desk server) ≡ false }
+
+    // So with no failure, and with fewer bytes than reads, memory alone may lack, or turns at a
+    // desk that others use.
+    ensures complete { IfSome (I.left source) (λ bytes. length bytes < 2 ^ 64 - 1
+        → ¬ CountRose (I.faults source) (I.faults result.0)
+        → ¬ CountRose (O.faults sink.old) (O.faults sink.new)
+        → (result.1 ≤ 1) ⊎ (result.1 ≡ 6) ⊎ (result.1 ≡ 7)) }
+{
+    lsp_stdio::pump(rt, alloc, source, sink, service, server, rounds)
 }
 
 /// Serves a session of the service over a source and a sink, as

@@ -1,1 +1,2 @@
 pub mod StdioLemmas
+pub mod PumpingLemmas

@@ -44,7 +44,7 @@ status_at_low (Some Exited) = omega arith
 
 -- ---- what was written
 
-status_seven : {D : Type 0} (m : Meaning D) (desk : D) (e : ServeError) → SaysSpent m desk e → status_of e ≡ 7 → m.spent desk ≡ true
+pub status_seven : {D : Type 0} (m : Meaning D) (desk : D) (e : ServeError) → SaysSpent m desk e → status_of e ≡ 7 → m.spent desk ≡ true
 status_seven m desk ReadFault says h = cc
 status_seven m desk WriteFault says h = cc
 status_seven m desk ReadsSpent says h = cc

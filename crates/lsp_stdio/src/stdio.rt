@@ -18,7 +18,7 @@ use std::io::{BufWriter, Read, Write};
 use std::process::ExitCode;
 
 // How many rounds each message gets.
-const ROUNDS: u64 = 8;
+pub(crate) const ROUNDS: u64 = 8;
 
 /// Serves a session of these handlers over a source and a sink, and answers the program's exit
 /// status, one of [`Status`].

@@ -1,3 +1,4 @@
+pub mod AgainLemmas
 pub mod QuietLemmas
 pub mod CalmLemmas
 pub mod HelloLemmas

@@ -1,16 +1,15 @@
 -- Entries that send nothing, and hand out only what a `Take` does.
-use Rattle.std.proofs.Common.{◌≡◌, ◌+◌, ◌*◌, ℕ, zero, suc, List, [], ◌∷◌, ◌++◌, length, refl, sym, ap, ◌∙◌, arith, length-append, Some, None}
+use Rattle.std.proofs.Common.{◌≡◌, ◌*◌, ℕ, zero, suc, List, [], ◌∷◌, ◌++◌, length, refl, ◌∙◌, arith, length-append}
 use Rattle.std.specs.List.{sum_by}
 use Rattle.std.proofs.lemmas.List.Sums.{sum_by-cons, sum_by-append}
 use Rattle.lsp_rpc.specs.Message.{RequestData}
-use Rattle.lsp_desk.specs.declared.life.Life.{Life}
 use Rattle.lsp_desk.specs.Flow.{put_by, taken_by, all_put, all_taken}
 use Rattle.lsp_desk.specs.Trace.{DeskEntry}
 use Rattle.lsp_session.specs.declared.life_check.LifeChange.{LifeChange}
 use Rattle.lsp_session.specs.declared.life_check.LifeChange.TheVariants.{Stays, Rises, Falls}
 use Rattle.lsp_session.specs.Run.{took, changing}
 use Rattle.lsp_callers.specs.Said.{entry_said, said_by, said_by_all}
-use Rattle.lsp_callers.specs.Counted.{one_sent, sent_in, handed_out, delivered_in}
+use Rattle.lsp_callers.specs.Counted.{one_sent, handed_out}
 
 -- how many messages an entry puts in and takes out
 abbrev pub puts : DeskEntry → ℕ

@@ -15,11 +15,12 @@ use Rattle.lsp_server.specs.Items.{stream_items}
 use Rattle.lsp_shared.specs.declared.view.View.{View}
 use Rattle.lsp_shared.specs.Seats.{entries_seen}
 use Rattle.lsp_callers.specs.Made.{KeepsSeat}
+use Rattle.lsp_service.specs.declared.service.LspService.{LspService}
+use Rattle.lsp_service.specs.Data.{IncomingCall}
+use Rattle.lsp_service.specs.Service.{KeptTask}
 use Rattle.lsp_sample_server.specs.declared.sample.Sample.{Sample}
-use Rattle.lsp_sample_server.specs.declared.command.Waiting.{Waiting}
-use Rattle.lsp_sample_server.specs.Calls.{CallData}
-use Rattle.lsp_sample_server.specs.Sample.{sample_semantics, sample_find}
-use Rattle.lsp_sample_server.specs.Sessions.{sample, in_order}
+use Rattle.lsp_sample_server.specs.Execute.{TaskData}
+use Rattle.lsp_sample_server.specs.Sessions.{IsSampleService, in_order, service_of_sample}
 
 -- the editor sends an `initialize`, and nothing more
 abbrev pub hello_text : List ℕ
@@ -28,17 +29,19 @@ hello_text = codes "{\"jsonrpc\":\"2.0\",\"method\":\"initialize\",\"params\":{\
 abbrev pub hello_bytes : List ℕ
 hello_bytes = framed hello_text
 
--- what is served of these bytes: their items and a tick
-abbrev pub hello_items : List ItemData
-hello_items = served sample_find (stream_items default_settings hello_bytes)
+-- what is served of these bytes by a service: their items and a tick
+abbrev pub hello_items : LspService Sample → List ItemData
+hello_items service = served (service_of_sample.find service) (stream_items default_settings hello_bytes)
 
--- this is the trace of a session of the sample over them: each entry is marked as the session's own or as another's
+-- this is the trace of a session of the sample behind its methods over them: each entry is marked as the session's own or as another's
 pub record ServesHello (trace : List TraceEntry) : Type 0 where
   pub rounds : ℕ
   pub some : 1 ≤ rounds
+  pub service : LspService Sample
+  pub is_sample : IsSampleService service
   pub out : List MessageData
-  pub last : State Sample CallData Waiting
-  pub serves : Serves sample_semantics in_order rounds sample hello_items (record { trace = trace; out = out }) last
+  pub last : State (LspService Sample) IncomingCall (KeptTask TaskData)
+  pub serves : Serves service_of_sample in_order rounds service (hello_items service) (record { trace = trace; out = out }) last
 
 -- the seat has seen such a session, and made the calls of it that are its own
 pub record HasServedHello (v : View) : Type 0 where

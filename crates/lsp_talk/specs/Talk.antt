@@ -39,12 +39,10 @@ talk_line sent delivered = codes "sent " ++ decimal sent ++ codes " delivered " 
 abbrev pub WroteLine : List DeskEntry → Option (List ℕ) → Option (List ℕ) → Type 0
 WroteLine history taken taken_after = Appends taken taken_after (talk_line (sent_in history) (delivered_in history))
 
--- what begins such a line was written, or nothing
-pub record WroteLinePart (taken taken_after : Option (List ℕ)) : Type 0 where
-  pub sent : ℕ
-  pub delivered : ℕ
+-- what begins the line of this history was written, or nothing
+pub record WroteLinePart (history : List DeskEntry) (taken taken_after : Option (List ℕ)) : Type 0 where
   pub written : List ℕ
-  pub part : IsPrefixOf written (talk_line sent delivered)
+  pub part : IsPrefixOf written (talk_line (sent_in history) (delivered_in history))
   pub writes : Appends taken taken_after written
 
 -- the callers' seats were taken in, and then what the desk held was taken

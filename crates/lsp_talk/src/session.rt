@@ -2,13 +2,15 @@
 ghost use Rattle.std.specs.Prelude.{◌≡◌, ℕ, IfOk};
 ghost use Rattle.lsp_shared.specs.Desks.{desk_id};
 ghost use Rattle.lsp_callers.specs.Tallies.{tallied_view, tallied_desk, tallied_spent, tally_view, tally_desk, tally_spent};
+ghost use Rattle.lsp_sample_server.specs.Sessions.{IsSampleService};
 ghost use Rattle.lsp_talk.specs.Hello.{hello_bytes, IsUnseen, EndsHello};
 
 use lsp_callers::{RestedTally, Tallied};
 use lsp_desk::{ClientSocket, DeskFault};
 use lsp_rpc::NoMemory;
-use lsp_sample_server::Sample;
+use lsp_sample_server::{Sample, sample_service};
 use lsp_server::{NeverSink, NeverSource, ServeError, Served, Server, Stopped};
+use lsp_service::{LspService, Unmade, serve_session};
 use lsp_session::InOrder;
 use lsp_shared::SharedDesk;
 use std::alloc::Global;
@@ -35,7 +37,7 @@ pub(crate) fn hello(alloc: Global) -> Result<Vec<u8>, NoMemory>
     Ok(input)
 }
 
-// Serves the sample over these bytes, in memory, and hands back its desk.
+// Serves a sample over these bytes, in memory, and hands back its desk.
 fn session<'a, R: Wait + Sync>(
     alloc: Global,
     input: Vec<u8>,
@@ -46,13 +48,36 @@ fn session<'a, R: Wait + Sync>(
     ensures { EndsHello (tallied_desk desk.entry) (tallied_view desk.entry) result.0
         (tallied_desk result.1) (tallied_view result.1) (tallied_spent result.1) }
 {
+    match sample_service(alloc, desk) {
+        Ok((service, socket)) => serve_hello(alloc, input, service, socket),
+        Err(unmade) => {
+            let Unmade { desk, .. } = unmade;
+            (Err(DeskFault::NoMemory), desk)
+        }
+    }
+}
+
+// The same by this service.
+fn serve_hello<'a, R: Wait + Sync>(
+    alloc: Global,
+    input: Vec<u8>,
+    service: LspService<Sample>,
+    socket: ClientSocket<Tallied<'a, R>>,
+) -> (Result<(), DeskFault>, Tallied<'a, R>)
+    requires hello { input.items ≡ hello_bytes }
+    requires sample { IsSampleService service }
+    requires unseen { IsUnseen (tallied_view socket.desk) (tallied_spent socket.desk) }
+    ensures { EndsHello (tallied_desk socket.entry.desk) (tallied_view socket.entry.desk) result.0
+        (tallied_desk result.1) (tallied_view result.1) (tallied_spent result.1) }
+{
     let mut source = NeverSource::new(input, READ_SIZE);
     let mut sink = NeverSink::new(alloc);
-    match Server::new(ClientSocket::new(desk)).serve(
+    match serve_session(
         alloc,
         &mut source,
         &mut sink,
-        Sample,
+        service,
+        Server::new(socket),
         &mut InOrder,
         u64::MAX,
         ROUNDS,

@@ -1,5 +1,5 @@
 //! A talk: a session, and callers beside it.
-ghost use Rattle.std.specs.Prelude.{◌≡◌, ◌≢◌, ◌⊎◌, ◌≤◌, ◌<◌, ◌+◌, ◌^◌, ℕ, true, Err, IsOk, OnOk, IfOk, string_bytes};
+ghost use Rattle.std.specs.Prelude.{◌≡◌, ◌≢◌, ◌⊎◌, ◌≤◌, ◌<◌, ◌+◌, ◌^◌, ℕ, List, true, Err, IsOk, OnOk, IfOk, string_bytes};
 ghost use Rattle.std.specs.List.{AllZip};
 ghost use Rattle.std.specs.Io.KnownBytes.{Appends};
 ghost use Rattle.lsp_desk.specs.Meaning.{IsOpening};
@@ -7,6 +7,7 @@ ghost use Rattle.lsp_shared.specs.Desks.{desk_id};
 ghost use Rattle.lsp_shared.specs.Seats.{seat_meaning, seat_view, seat_desk, entries_seen};
 ghost use Rattle.lsp_shared.specs.Steps.{IsNew};
 ghost use Rattle.lsp_server.specs.SourceSink.{CountRose, IsFlushed};
+ghost use Rattle.lsp_server.specs.Written.{IsPrefixOf};
 ghost use Rattle.lsp_callers.specs.Callers.{AreIdleFrom, AreHeardOn, ComesOf, heard_shares, messages_of};
 ghost use Rattle.lsp_callers.specs.Tallies.{tallied_view, tallied_desk, tallied_spent, tally_view, tally_desk, tally_spent};
 ghost use Rattle.lsp_talk.specs.Hello.{hello_bytes, IsUnseen, EndsHello};
@@ -46,7 +47,8 @@ pub fn talk_with<'a, R: Threads + Wait + Sync, G: Gate + Sync, O: Sink>(
         → HasTalked clones messages (entries_seen (seat_view result.1)) }
     ensures wrote { result.0 ≡ 0
         → WroteLine (entries_seen (seat_view result.1)) (O.taken sink.old) (O.taken sink.new) }
-    ensures part { 3 ≤ result.0 → WroteLinePart (O.taken sink.old) (O.taken sink.new) }
+    ensures part { 3 ≤ result.0
+        → WroteLinePart (entries_seen (seat_view result.1)) (O.taken sink.old) (O.taken sink.new) }
     ensures flushed { result.0 ≡ 0 → IsFlushed (O.taken sink.old) (O.flushed sink.old)
         → IsFlushed (O.taken sink.new) (O.flushed sink.new) }
 
@@ -156,7 +158,9 @@ fn write_sums<O: Sink>(alloc: Global, sent: u64, delivered: u64, sink: &mut O) -
     ensures known { (result ≡ 0) ⊎ (result ≡ 4) ⊎ (result ≡ 6) }
     ensures wrote { result ≡ 0
         → Appends (O.taken sink.old) (O.taken sink.new) (talk_line_lem sent delivered) }
-    ensures part { 3 ≤ result → WroteLinePart (O.taken sink.old) (O.taken sink.new) }
+    ensures part { 3 ≤ result → (written : List ℕ)
+        × IsPrefixOf written (talk_line_lem sent delivered)
+        × Appends (O.taken sink.old) (O.taken sink.new) written }
     ensures flushed { result ≡ 0 → IsFlushed (O.taken sink.old) (O.flushed sink.old)
         → IsFlushed (O.taken sink.new) (O.flushed sink.new) }
     ensures write { result ≡ 4 → CountRose (O.faults sink.old) (O.faults sink.new) }

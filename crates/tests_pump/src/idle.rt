@@ -7,13 +7,13 @@ ghost use Rattle.lsp_shared.specs.Desks.{desk_id, rested_desk, rested_view};
 ghost use Rattle.lsp_shared.specs.Seats.{seat_meaning};
 
 use lsp_callers::Plan;
-use lsp_desk::{Caller, ClientCall, ClientReply, ClientSocket};
-use lsp_pump::pump;
+use lsp_desk::{Caller, ClientCall, ClientReply};
+use lsp_program::Status;
 use lsp_rows::{RowError, Trial};
 use lsp_rpc::NoMemory;
-use lsp_sample_server::Sample;
+use lsp_sample_server::sample_service;
 use lsp_server::{Failed, Refused, Server, Sink, Source};
-use lsp_session::InOrder;
+use lsp_service::pump;
 use lsp_shared::{DeskOwner, Rested, SharedClient, SharedDesk};
 use serde_json::Value;
 use std::alloc::{AllocError, Global};
@@ -141,19 +141,12 @@ fn serve<R: Threads + Wait + Sync>(
     requires { IsOpening seat_meaning owner }
 {
     let mut sink = Watched { stage };
-    let server = Server::new(ClientSocket::new(owner));
-    let (_, served) = pump(
-        rt,
-        alloc,
-        server,
-        source,
-        &mut sink,
-        Sample,
-        &mut InOrder,
-        u64::MAX,
-        8,
-    );
-    served.is_ok()
+    let Ok((service, socket)) = sample_service(alloc, owner) else {
+        return false;
+    };
+    let server = Server::new(socket);
+    let (_, status) = pump(rt, alloc, source, &mut sink, service, server, 8);
+    status == Status::Unfinished as u8
 }
 
 fn beside<R: Threads + Wait + Sync>(

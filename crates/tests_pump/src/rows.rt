@@ -5,12 +5,12 @@ ghost use Rattle.lsp_server.specs.ServerView.{server_desk};
 
 use lsp_desk::{ClientSocket, PlainDesk};
 use lsp_frame::{Floats, Limits};
-use lsp_pump::pump;
 use lsp_rows::{RowError, Trial};
-use lsp_sample_server::Sample;
-use lsp_server::{NeverSink, NeverSource, ServeError, Served, Server, Stopped};
-use lsp_session::{InOrder, Life};
-use std::alloc::{AllocError, Global};
+use lsp_rpc::NoMemory;
+use lsp_sample_server::sample_service;
+use lsp_server::{NeverSink, NeverSource, Server};
+use lsp_service::{pump, serve};
+use std::alloc::Global;
 use std::sync::Wait;
 use std::thread::Threads;
 
@@ -97,7 +97,7 @@ const ROWS: &[Row] = &[
 // How many bytes a read gives.
 const CUTS: &[usize] = &[1, 2, 7, 100, 4096];
 
-fn framed(alloc: Global, bodies: &[&str]) -> Result<Vec<u8>, AllocError> {
+fn framed(alloc: Global, bodies: &[&str]) -> Result<Vec<u8>, NoMemory> {
     let mut frames = Vec::new(alloc);
     for body in bodies {
         let length = body.len();
@@ -108,16 +108,15 @@ fn framed(alloc: Global, bodies: &[&str]) -> Result<Vec<u8>, AllocError> {
     Ok(frames)
 }
 
-fn new_server(alloc: Global, row: &Row) -> Server<PlainDesk>
+fn new_server(socket: ClientSocket<PlainDesk>, row: &Row) -> Server<PlainDesk>
+    requires { IsOpening plain_meaning socket.desk }
     ensures { IsOpening plain_meaning (server_desk result) }
 {
     let limits = Limits {
         head: 99,
         body: row.body.max(1),
     };
-    let server = Server::new(ClientSocket::new(PlainDesk::new(alloc)))
-        .limits(limits)
-        .floats(row.floats);
+    let server = Server::new(socket).limits(limits).floats(row.floats);
     if row.empty_params {
         server.allow_empty_params()
     } else {
@@ -125,63 +124,45 @@ fn new_server(alloc: Global, row: &Row) -> Server<PlainDesk>
     }
 }
 
-// What a way of serving comes to: the life at the exit or the error, and the bytes.
+// What a way of serving comes to: the exit status, and the bytes.
 #[derive(Drop)]
 struct Told {
-    outcome: Result<Option<Life>, ServeError>,
+    status: u8,
     written: Vec<u8>,
 }
 
-fn tell(
-    alloc: Global,
-    served: Result<Served<Sample, PlainDesk>, Stopped<PlainDesk>>,
-    sink: &NeverSink,
-) -> Result<Told, AllocError> {
+fn tell(alloc: Global, status: u8, sink: &NeverSink) -> Result<Told, NoMemory> {
     let mut written = Vec::new(alloc);
     written.extend_from_slice(sink.bytes())?;
-    let outcome = match served {
-        Ok(served) => Ok(served.exited),
-        Err(stopped) => Err(stopped.error),
-    };
-    Ok(Told { outcome, written })
+    Ok(Told { status, written })
 }
 
-fn serve(alloc: Global, row: &Row) -> Result<Told, AllocError> {
+fn serve_row(alloc: Global, row: &Row) -> Result<Told, NoMemory> {
     let mut sink = NeverSink::new(alloc);
     let mut source = NeverSource::new(framed(alloc, row.sent)?, 4096);
-    let served = new_server(alloc, row).serve(
-        alloc,
-        &mut source,
-        &mut sink,
-        Sample,
-        &mut InOrder,
-        u64::MAX,
-        8,
-    );
-    tell(alloc, served, &sink)
+    let Ok((service, socket)) = sample_service(alloc, PlainDesk::new(alloc)) else {
+        return Err(NoMemory);
+    };
+    let server = new_server(socket, row);
+    let status = serve(alloc, &mut source, &mut sink, service, server, 8);
+    tell(alloc, status, &sink)
 }
 
-fn pump_by<R: Threads + Wait>(
+fn pump_row<R: Threads + Wait>(
     rt: &R,
     alloc: Global,
     row: &Row,
     cut: usize,
-) -> Result<Told, AllocError> {
+) -> Result<Told, NoMemory> {
     let mut sink = NeverSink::new(alloc);
     let source = NeverSource::new(framed(alloc, row.sent)?, cut.max(1));
-    let (source, served) = pump(
-        rt,
-        alloc,
-        new_server(alloc, row),
-        source,
-        &mut sink,
-        Sample,
-        &mut InOrder,
-        u64::MAX,
-        8,
-    );
+    let Ok((service, socket)) = sample_service(alloc, PlainDesk::new(alloc)) else {
+        return Err(NoMemory);
+    };
+    let server = new_server(socket, row);
+    let (source, status) = pump(rt, alloc, source, &mut sink, service, server, 8);
     drop(source);
-    tell(alloc, served, &sink)
+    tell(alloc, status, &sink)
 }
 
 fn try_row<R: Threads + Wait>(
@@ -189,11 +170,11 @@ fn try_row<R: Threads + Wait>(
     trial: &mut Trial,
     alloc: Global,
     row: &Row,
-) -> Result<(), AllocError> {
-    let served = serve(alloc, row)?;
+) -> Result<(), NoMemory> {
+    let served = serve_row(alloc, row)?;
     for cut in CUTS {
-        let pumped = pump_by(rt, alloc, row, *cut)?;
-        trial.same(row.name, pumped.outcome, served.outcome);
+        let pumped = pump_row(rt, alloc, row, *cut)?;
+        trial.same(row.name, pumped.status, served.status);
         let is_same = pumped.written.as_slice() == served.written.as_slice();
         trial.is_true(row.name, is_same);
     }

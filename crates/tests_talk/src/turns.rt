@@ -7,11 +7,12 @@ ghost use Rattle.lsp_shared.specs.Desks.{desk_id, rested_desk, rested_view};
 ghost use Rattle.lsp_shared.specs.Seats.{seat_meaning};
 
 use lsp_callers::Plan;
-use lsp_desk::{Caller, ClientCall, ClientReply, ClientSocket};
+use lsp_desk::{Caller, ClientCall, ClientReply};
 use lsp_rows::{RowError, Trial};
 use lsp_rpc::NoMemory;
-use lsp_sample_server::Sample;
+use lsp_sample_server::sample_service;
 use lsp_server::{Failed, MemorySink, Server, Source};
+use lsp_service::serve_session;
 use lsp_session::InOrder;
 use lsp_shared::{DeskOwner, Rested, SharedClient, SharedDesk};
 use serde_json::Value;
@@ -129,13 +130,17 @@ fn send<R: Wait + Sync>(
 fn serve<R: Wait + Sync>(alloc: Global, owner: DeskOwner<'_, R>, steps: &AtomicU64) -> bool
     requires { IsOpening seat_meaning owner }
 {
+    let Ok((service, socket)) = sample_service(alloc, owner) else {
+        return false;
+    };
     let mut source = Patient { left: READS, steps };
     let mut sink = MemorySink::new(alloc, Vec::new(alloc));
-    let served = Server::new(ClientSocket::new(owner)).serve(
+    let served = serve_session(
         alloc,
         &mut source,
         &mut sink,
-        Sample,
+        service,
+        Server::new(socket),
         &mut InOrder,
         u64::MAX,
         8,

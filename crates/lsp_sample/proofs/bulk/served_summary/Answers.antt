@@ -1,11 +1,9 @@
 -- The session is served to its end, and its summary is that of what was written.
-use Rattle.std.proofs.Common.{List, ℕ, sym}
+use Rattle.std.proofs.Common.{sym}
 use Rattle.std.specs.Prelude.{string_bytes}
 use Rattle.lsp_server.specs.MemorySource.{never_left}
 use Rattle.lsp_server.specs.MemorySink.{never_taken}
-use Rattle.lsp_server.specs.Served.{call_bytes}
-use Rattle.lsp_sample.specs.Arguments.{default_setting}
-use Rattle.lsp_sample.proofs.BulkLemmas.{served_any, written_as, summary_as}
+use Rattle.lsp_sample.proofs.BulkLemmas.{written_as, summary_as}
 use Rattle.lsp_sample.proofs.bulk.served_summary.Goals as goal
 
 pub returns : goal.returns
@@ -14,6 +12,5 @@ returns c =
     let rest = never_left c.serve.new.source in
     let taken = never_taken c.new-output.result in
     let after = never_taken c.serve.new.sink in
-    let served = served_any default_setting c.serve.result left (λ (b : List ℕ). call_bytes b rest taken after) c.if-serve-gt1.false c.serve.ensures.done c.serve.ensures.unfinished in
-    let writes = written_as c.args.session c.in_ok-input.input.items c.bytes.result.now left rest taken after c.new-source.ensures.left c.in_ok-input.ensures c.new-output.ensures.taken (sym c.bytes.ensures) served in
-    summary_as c.args.session c.bytes.result.now c.summary.result string_bytes writes c.summary.ensures
+    let writes = written_as _ c.args.session c.in_ok-input.input.items c.bytes.result.now left rest taken after c.serve.result c.if-serve-gt1.false c.new-source.ensures.left c.in_ok-input.ensures c.new-output.ensures.taken (sym c.bytes.ensures) c.serve.ensures.session in
+    summary_as _ c.args.session c.bytes.result.now c.summary.result string_bytes writes c.summary.ensures

@@ -1,11 +1,11 @@
-use Rattle.std.proofs.Common.{◌≡◌, Some, sym, ap, ◌∙◌, refl, rules, w32}
+use Rattle.std.proofs.Common.{◌≡◌, Some, sym, ap, ◌∙◌, refl, map, rules, w32}
 use Rattle.std.specs.Option.{option_copied_mut}
 use Rattle.std.specs.FinMap as fin
 use Rattle.std.specs.HashMap.{get_by_text}
 use Rattle.std.proofs.lemmas.Map.Text.{hash_map_updates_text}
 use Rattle.std.proofs.lemmas.Int.{to_z-of_z}
 use Rattle.std.proofs.lemmas.Result.{on_err_weaker}
-use Rattle.lsp_documents.specs.Documents.{DocumentMap, after_changes}
+use Rattle.lsp_documents.specs.Documents.{DocumentMap, after_changes, change_of}
 use Rattle.lsp_documents.proofs.MapLemmas.{get-documents_of, changed_map, none_made, kept_map, ok_both}
 use Rattle.lsp_documents.proofs.documents.Documents.change.Goals as goal
 
@@ -26,8 +26,8 @@ returns-clause-ok c =
     let is : get_by_text m k ≡ Some c.in-Some.document.now = sym c.get_mut.ensures.value ∙ ap option_copied_mut c.in-Some.is in
     let updated = hash_map_updates_text k m n (Some w) ((c.get_mut.follows.holds w).3 (search rules)) in
     ok_both c.change.result c.change.ensures.ok c.change.ensures.version (λ made versioned.
-    ap (λ (ds : DocumentMap). after_changes k c.args.version c.args.changes.now ds) (sym c.self.view_is)
-    ∙ changed_map m n k c.args.version c.args.changes.now c.in-Some.document.now w is made (versioned ∙ to_z-of_z w32 c.args.version c.ranges.version) updated)
+    ap (λ (ds : DocumentMap). after_changes k c.args.version (map change_of c.args.changes.now) ds) (sym c.self.view_is)
+    ∙ changed_map m n k c.args.version (map change_of c.args.changes.now) c.in-Some.document.now w is made (versioned ∙ to_z-of_z w32 c.args.version c.ranges.version) updated)
 
 pub returns-clause-not_open : goal.returns-clause-not_open
 returns-clause-not_open c =
@@ -46,8 +46,8 @@ returns-clause-behind c =
     let w = c.change.new.self in
     let n = c.get_mut.follows.lender w in
     let is : get_by_text m k ≡ Some c.in-Some.document.now = sym c.get_mut.ensures.value ∙ ap option_copied_mut c.in-Some.is in
-    λ e. ap (λ (ds : DocumentMap). after_changes k c.args.version c.args.changes.now ds) (sym c.self.view_is)
-    ∙ none_made m k c.args.version c.args.changes.now c.in-Some.document.now is (c.change.ensures.behind e)
+    λ e. ap (λ (ds : DocumentMap). after_changes k c.args.version (map change_of c.args.changes.now) ds) (sym c.self.view_is)
+    ∙ none_made m k c.args.version (map change_of c.args.changes.now) c.in-Some.document.now is (c.change.ensures.behind e)
 
 pub returns-clause-err : goal.returns-clause-err
 returns-clause-err c =

@@ -1,0 +1,74 @@
+// What is done of a call.
+ghost use Rattle.std.specs.Prelude.{◌≡◌, IfOk};
+ghost use Rattle.lsp_initialize.specs.Server.{server_capabilities_row};
+ghost use Rattle.lsp_service.specs.Calls.{show_call, target_of};
+ghost use Rattle.lsp_service.specs.Replies.{show_reply};
+ghost use Rattle.lsp_sample_server.specs.Plan.{show_plan};
+ghost use Rattle.lsp_sample_server.specs.Sample.{no_capabilities_shown, sample_turn, other_reply as other_reply_lem};
+
+use lsp_initialize::ServerCapabilities;
+use lsp_rpc::NoMemory;
+use lsp_service::{
+    Call, LifeCall, LifeReply, Reply, Target, WorkCall, initialize_reply, let_go, not_found,
+};
+use lsp_session::Kind;
+use lsp_work::ExecuteCommandParams;
+use std::alloc::Global;
+
+// What the first poll of a call does.
+pub(crate) enum Plan {
+    // It has this reply.
+    Reply(Reply),
+    // It greets the client.
+    Greet,
+    // It executes a command.
+    Execute(ExecuteCommandParams),
+}
+
+// What is to be done of a call: it asks nothing of the client yet.
+pub(crate) fn plan_of(alloc: Global, call: Call) -> Result<Plan, NoMemory>
+    ensures { IfOk result (λ plan. show_plan plan ≡ sample_turn (show_call call)) }
+{
+    match call {
+        Call::Life(call) => match call {
+            LifeCall::Initialize(params) => {
+                let reply = initialize_reply(alloc, params, no_capabilities())?;
+                Ok(Plan::Reply(reply))
+            }
+            LifeCall::Initialized(params) => {
+                drop(params);
+                Ok(Plan::Greet)
+            }
+            LifeCall::Shutdown => Ok(Plan::Reply(Reply::Life(LifeReply::Shutdown(Ok(()))))),
+        },
+        Call::Work(call) => match call {
+            WorkCall::ExecuteCommand(params) => Ok(Plan::Execute(params)),
+            other => Ok(Plan::Reply(other_reply(alloc, Call::Work(other))?)),
+        },
+        other => Ok(Plan::Reply(other_reply(alloc, other)?)),
+    }
+}
+
+// Nothing is offered.
+#[tactic(auto, unfolding(lsp_initialize::specs::Server::server_capabilities_row, lsp_initialize::specs::Server::server_capabilities_fields))]
+fn no_capabilities() -> ServerCapabilities
+    ensures { server_capabilities_row.shown result ≡ no_capabilities_shown }
+{
+    ServerCapabilities::default()
+}
+
+// A request of another method isn't known, and another notification is taken note of.
+fn other_reply(alloc: Global, call: Call) -> Result<Reply, NoMemory>
+    ensures { IfOk result (λ r. show_reply r
+        ≡ other_reply_lem (target_of (show_call call) Kind.Request)) }
+{
+    let kind = match call.target(Kind::Request) {
+        Target::Typed(method) => method.kind(),
+        Target::Custom(kind) => kind,
+    };
+    let_go(call);
+    match kind {
+        Kind::Request => not_found(alloc),
+        Kind::Notification => Ok(Reply::Noted),
+    }
+}

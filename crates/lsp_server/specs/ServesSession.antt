@@ -1,0 +1,70 @@
+-- What serving a session comes to, over any source and sink.
+use Rattle.std.specs.Prelude.{◌≡◌, ◌≢◌, ◌≤◌, ◌<◌, ◌+◌, ◌*◌, ℕ, true, List, length, Option, Result, IfSome, OnOk, IfOk, IfErr, IsErrAnd}
+use Rattle.lsp_desk.specs.Meaning.{Grown}
+use Rattle.lsp_session.specs.State.{State}
+use Rattle.lsp_session.specs.Run.{Picked}
+use Rattle.lsp_server.specs.declared.server.Served.{Served}
+use Rattle.lsp_server.specs.declared.server.Stopped.{Stopped}
+use Rattle.lsp_server.specs.declared.step.ServeError.TheVariants.{ReadFault, WriteFault, ReadsSpent, DeskSpent}
+use Rattle.lsp_server.specs.SourceSink.{CountRose, IsFlushed}
+use Rattle.lsp_server.specs.Course.{Course}
+use Rattle.lsp_server.specs.Served.{CallBytes, call_bytes, IsServed, ReadEnough, WroteTold, WrotePart}
+use Rattle.lsp_server.specs.ServedView.{show_served}
+use Rattle.lsp_server.specs.Errors.{IsBetweenReads, IsFlushedAt, ComesUnfailed, SaysSpent}
+
+-- what a source and a sink tell of themselves before a call, and after it
+pub record SourceSinkTold : Type 0 where
+  -- the bytes that a source still has, and how many of its reads failed
+  pub left : Option (List ℕ)
+  pub left_after : Option (List ℕ)
+  pub reads_failed : ℕ
+  pub reads_failed_after : ℕ
+  -- the bytes that a sink took, how many of them are flushed, and how many of its writes failed
+  pub taken : Option (List ℕ)
+  pub taken_after : Option (List ℕ)
+  pub flushed : Option ℕ
+  pub flushed_after : Option ℕ
+  pub writes_failed : ℕ
+  pub writes_failed_after : ℕ
+
+-- the bytes of a call over a source that had these
+abbrev pub bytes_told : SourceSinkTold → List ℕ → CallBytes
+bytes_told told bytes = call_bytes bytes told.left_after told.taken told.taken_after
+
+-- what was flushed stays so
+abbrev pub KeepsFlushed : SourceSinkTold → Type 0
+KeepsFlushed told = IsFlushed told.taken told.flushed → IsFlushed told.taken_after told.flushed_after
+
+module _ {H D C T P : Type 0} (course : Course (Picked (State H C T) P) D) where
+  -- the session was served to this result with at most so many reads, and left the pick in this state
+  pub record ServesSession (told : SourceSinkTold) (reads : ℕ) (pick : P) (result : Result (Served H D) (Stopped D)) : Type 0 where
+    -- the bytes written, and the service and desk handed back, are those of a session run over the items that the frame
+    -- grammar finds in all the source's bytes; in it each owed request and each fault before any exit is answered once,
+    -- but for what is listed as unanswered
+    pub headline : IfOk result (λ served. IfSome told.left (λ bytes. IsServed course (bytes_told told bytes) (show_served served) pick))
+    -- Ok comes only at the end of input or at an exit, and nothing is read after the piece that tells the exit
+    pub enough : OnOk result (IfSome told.left (λ bytes. ReadEnough course (bytes_told told bytes) 4096))
+    -- the bytes taken are flushed, if they were at the start, also at an error that isn't of the sink or of memory
+    pub flushed : OnOk result (KeepsFlushed told)
+    pub flushed_at : IfErr result (λ stopped. IsFlushedAt stopped.error → KeepsFlushed told)
+    -- each error has its cause
+    pub read : IfErr result (λ stopped. stopped.error ≡ ReadFault → CountRose told.reads_failed told.reads_failed_after)
+    pub write : IfErr result (λ stopped. stopped.error ≡ WriteFault → CountRose told.writes_failed told.writes_failed_after)
+    pub reads_spent : IfErr result (λ stopped. stopped.error ≡ ReadsSpent → IfSome told.left (λ bytes. IfSome told.left_after (λ rest. reads + length rest ≤ length bytes)))
+    pub desk_spent : IfErr result (λ stopped. SaysSpent course.meaning stopped.desk stopped.error)
+    pub never_alone : IfErr result (λ stopped. course.meaning.alone course.desk ≡ true → (n : ℕ) → stopped.error ≢ DeskSpent n)
+    -- a failure is told: where a count rose, the answer is that error
+    pub counts : (told.reads_failed ≤ told.reads_failed_after) × (told.writes_failed ≤ told.writes_failed_after)
+    pub read_told : told.reads_failed < told.reads_failed_after → IsErrAnd result (λ stopped. stopped.error ≡ ReadFault)
+    pub write_told : told.writes_failed < told.writes_failed_after → IsErrAnd result (λ stopped. stopped.error ≡ WriteFault)
+    -- each of at most `reads` reads takes at most 4,096 bytes
+    pub few : IfSome told.left (λ bytes. IfSome told.left_after (λ rest. length bytes ≤ length rest + reads * 4096))
+    -- so with no failure, and with more reads than bytes, only NoMemory may come, and DeskSpent over a desk that others use
+    pub complete : IfErr result (λ stopped. IfSome told.left (λ bytes. length bytes < reads → ¬ CountRose told.reads_failed told.reads_failed_after
+        → ¬ CountRose told.writes_failed told.writes_failed_after → ComesUnfailed (course.meaning.alone course.desk) stopped.error))
+    -- what was written by then
+    pub exact : IfErr result (λ stopped. IsBetweenReads stopped.error → IfSome told.left (λ bytes. WroteTold course (bytes_told told bytes) stopped.desk))
+    pub part : IfErr result (λ stopped. IfSome told.left (λ bytes. WrotePart course (bytes_told told bytes) 4096 stopped.desk))
+    -- at each answer the desk that is handed back has grown from the one that was handed in
+    pub grown : IfOk result (λ served. Grown course.meaning course.desk served.desk)
+    pub grown_stopped : IfErr result (λ stopped. Grown course.meaning course.desk stopped.desk)

@@ -1,0 +1,66 @@
+-- The exit status of a session that was served while a thread read, and what was written by then.
+use Rattle.std.proofs.Common.{◌≡◌, ◌≤◌, ◌<◌, ◌+◌, ◌-◌, ◌^◌, ◌⊎◌, inl, inr, ℕ, true, List, length, refl, sym, ◌∙◌, subst, arith}
+use Rattle.std.specs.Prelude.{Option, IfSome, is_some, ⊤}
+use Rattle.lsp_desk.specs.Meaning.{Grown}
+use Rattle.lsp_frame.specs.Codec.{start_by}
+use Rattle.lsp_session.specs.State.{State}
+use Rattle.lsp_session.specs.Run.{Picked}
+use Rattle.lsp_server.specs.declared.step.ServeError.{ServeError}
+use Rattle.lsp_server.specs.declared.step.ServeError.TheVariants.{ReadFault, WriteFault, ReadsSpent, NoMemory, DeskSpent}
+use Rattle.lsp_server.specs.Course.{Course}
+use Rattle.lsp_server.specs.Errors.{IsBetweenReads, IsInStep, SaysSpent}
+use Rattle.lsp_server.specs.Items.{stream_items}
+use Rattle.lsp_server.specs.Served.{CallBytes, call_bytes, ServedView}
+use Rattle.lsp_program.specs.Status.{status_of}
+use Rattle.lsp_program.proofs.StatusLemmas.{status_of_high, status_five, status_between}
+use Rattle.lsp_pump.specs.Pumped.{IsPumped, PumpedEnough, PumpedPart, WrotePumped}
+use Rattle.lsp_stdio.specs.Status.{status_at}
+use Rattle.lsp_stdio.specs.Pumping.{EndsUnread, PumpEndsWith, PumpEndsWithin}
+use Rattle.lsp_stdio.proofs.StdioLemmas.{status_zero, status_one, status_at_low, status_seven, on_some}
+
+-- a failed read that isn't told
+pub unread_status : (e : ServeError) → (e ≡ ReadFault) ⊎ IsInStep e → (status_of e ≡ 3) ⊎ EndsUnread (status_of e)
+unread_status ReadFault h = inl refl
+unread_status WriteFault h = inr (inr (inl refl))
+unread_status ReadsSpent (inl h) = inl cc
+unread_status ReadsSpent (inr h) = absurd h
+unread_status NoMemory h = inr (inr (inr (inl refl)))
+unread_status (DeskSpent n) h = inr (inr (inr (inr refl)))
+
+module _ {H D C T : Type 0} (course : Course (Picked (State H C T) ⊤) D) (call : CallBytes) (failed failed_after n : ℕ) where
+  pub pump_ends_whole : (view : ServedView H D) → n ≡ status_at view.exited → (failed < failed_after → is_some view.exited ≡ true)
+      → IsPumped course call view tt → PumpedEnough course (start_by course.codec) call → PumpEndsWith course call failed failed_after n
+  pump_ends_whole view is unread pumps enough = record {
+    done = λ zero. record { view = view; pumps = pumps; enough = enough; ends = status_zero view.exited (sym is ∙ zero); unread = unread };
+    unfinished = λ one. record { view = view; pumps = pumps; enough = enough; ends = status_one view.exited (sym is ∙ one); unread = unread };
+    stopped = λ high. absurd (omega (arith, is, high, status_at_low view.exited));
+  }
+
+  pub pump_ends_stopped : (e : ServeError) (desk : D) → n ≡ status_of e
+      → (IsBetweenReads e → WrotePumped course call desk) → (e ≡ ReadsSpent → IfSome call.left (λ rest. 2 ^ 64 - 1 + length rest ≤ length call.bytes))
+      → SaysSpent course.meaning desk e → Grown course.meaning course.desk desk → PumpedPart course (stream_items course.codec call.bytes) call desk
+      → PumpEndsWith course call failed failed_after n
+  pump_ends_stopped e desk is told spent says grown part = record {
+    done = λ zero. absurd (omega (arith, is, zero, status_of_high e));
+    unfinished = λ one. absurd (omega (arith, is, one, status_of_high e));
+    stopped = λ high. record {
+      desk = desk;
+      part = part;
+      exact = λ exact. told (status_between e (subst (λ (k : ℕ). (k ≡ 3) ⊎ (k ≡ 5)) is exact));
+      reads_spent = λ five. spent (status_five e (sym is ∙ five));
+      desk_spent = λ seven. status_seven course.meaning desk e says (sym is ∙ seven);
+      grown = grown;
+    };
+  }
+
+-- what is said of a source and a sink that were given away
+pub pump_ends_within : {H D C T : Type 0} (course : Course (Picked (State H C T) ⊤) D) (o left taken taken_after : Option (List ℕ)) (failed n status : ℕ) → status ≡ n
+    → IfSome o (λ bytes. PumpEndsWith course (call_bytes bytes left taken taken_after) 0 failed n) → IfSome o (λ bytes. PumpEndsWithin course bytes status)
+pump_ends_within course o left taken taken_after failed n status is =
+    on_some o _ _ (λ bytes ends. record {
+      left = left;
+      taken = taken;
+      taken_after = taken_after;
+      failed = failed;
+      ends = subst (λ k. PumpEndsWith course (call_bytes bytes left taken taken_after) 0 failed k) (sym is) ends;
+    })
