@@ -12,6 +12,9 @@ use serde_json::Value;
 use std::alloc::Global;
 use std::sync::atomic::Ordering;
 
+/// The largest number whose primes are counted: the program ends when the thread has ended its job.
+const MOST: u64 = 1_000_000;
+
 #[derive(Drop)]
 pub(crate) struct Counts {
     pub(crate) jobs: Jobs,
@@ -62,10 +65,13 @@ impl<D: Caller> Asking<D> for Counts {
     }
 }
 
-// The number that the command is asked with.
+// The number that the command is asked with, if it is one and not too large.
 fn number_of(params: &ExecuteCommandParams) -> Option<u64> {
     match params.arguments.as_slice() {
-        [number] if params.command.as_str() == "primes" => number.as_u64(),
+        [number] if params.command.as_str() == "primes" => match number.as_u64() {
+            Some(below) if below <= MOST => Some(below),
+            _ => None,
+        },
         _ => None,
     }
 }

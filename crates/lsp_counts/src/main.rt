@@ -41,10 +41,10 @@ fn main(rt: HostRuntime) -> ExitCode {
         return ExitCode::from(Status::NoMemory as u8);
     };
     let (alloc, input, output) = (rt.alloc(), rt.stdin(), rt.stdout());
-    let (status, ()) = thread::join(
+    let ((), status) = thread::join(
         &rt,
-        || serve(&rt, alloc, input, output, jobs),
         || work(&rt, worker),
+        || serve(&rt, alloc, input, output, jobs),
     );
     status
 }
