@@ -1,5 +1,5 @@
 -- What reading a dump comes to over a call.
-use Rattle.std.proofs.Common.{◌≡◌, ℕ, List, [], ◌∷◌, ◌++◌, Bool, true, false, ◌⊎◌, inl, inr, refl, sym, ◌∙◌, ap, subst, append_assoc}
+use Rattle.std.proofs.Common.{◌≡◌, ℕ, List, [], ◌∷◌, ◌++◌, Bool, true, false, ◌⊎◌, inl, inr, refl, sym, ◌∙◌, ap, subst}
 use Rattle.std.specs.Prelude.{◌≢◌, Option, Some, Ok, not}
 use Rattle.std.specs.Bool.{MatchBool}
 use Rattle.std.specs.Io.KnownBytes.{Consumes, Appends}
@@ -22,15 +22,12 @@ use Rattle.lsp_index.specs.Kept.{IsKept}
 use Rattle.lsp_index.specs.Answered.{IsAnswerLine, IsQueryAnswered, IsRefused, WroteBegun, WroteNone}
 use Rattle.lsp_index.specs.Reading.{IsAfter, TookMore, TookEnd, TookEndPart, TookGood, TookBad, TookBytes, Reads, dump_reading}
 use Rattle.lsp_index.proofs.LineLemmas.{bad_stays, bad_ended, entries_good}
-use Rattle.lsp_index.proofs.ReadingLemmas.{took_last_bad, answer_line}
+use Rattle.lsp_index.proofs.ReadingLemmas.{took_both, took_last_bad, answer_line}
 
 -- ---- the laws
 
 reads_none : (a : Lines × Search) → Reads a (piece []) goes_on [] a
 reads_none a = (refl, λ q before after. subst (λ l. IsAfter q l a) (sym (append-nil before)) after)
-
-pub took_both : (a b c : Lines × Search) (xs ys : List ℕ) → TookMore a xs b → TookMore b ys c → TookMore a (xs ++ ys) c
-took_both a b c xs ys p r = λ q before after. subst (λ l. IsAfter q l c) (append_assoc before xs ys) (r q (before ++ xs) (p q before after))
 
 reads_more : (a b c : Lines × Search) (xs ys ws vs : List ℕ) → Reads a (piece xs) goes_on ws b → Reads b (piece ys) goes_on vs c → Reads a (piece (xs ++ ys)) goes_on (ws ++ vs) c
 reads_more a b c xs ys ws vs p r = (ap (λ l. l ++ vs) p.0 ∙ r.0, took_both a b c xs ys p.1 r.1)

@@ -1,14 +1,16 @@
 -- The lines that end in bytes, and the last one.
-use Rattle.std.proofs.Common.{◌≡◌, ◌==◌, ℕ, length, List, [], ◌∷◌, ◌++◌, Bool, true, false, cond, ◌||◌, not, map, refl, sym, ◌∙◌, ap, append_assoc, true≢false}
+use Rattle.std.proofs.Common.{◌≡◌, ◌==◌, ℕ, zero, suc, ◌+◌, ◌≤◌, length, take, drop, get_or, take-append-drop, List, [], ◌∷◌, ◌++◌, Bool, true, false, cond, ◌||◌, not, Some, None, map, refl, sym, ◌∙◌, ap, subst, append_assoc, true≢false, arith}
 use Rattle.std.specs.Prelude.{is_none}
 use Rattle.std.specs.List.{list_any, slice_split, onto_first}
 use Rattle.std.specs.Str.Lines.{lines, lines_of_parts, strip_carriage_return}
-use Rattle.std.proofs.lemmas.List.{append-nil, map-append}
+use Rattle.std.proofs.lemmas.Bool.{eqb-true}
+use Rattle.std.proofs.lemmas.List.{append-nil, map-append, take_all, take_more}
 use Rattle.std.proofs.lemmas.List.Elements.{filter-append}
 use Rattle.std.proofs.lemmas.List.Folds.{list_any-append}
+use Rattle.memchr.specs.Find.{Nowhere, Passes, IsFirstByte, is_byte}
 use Rattle.lsp_lsif.specs.declared.entry.Entry.{Entry}
 use Rattle.lsp_index.specs.Entries.{value_of_line, entry_lines, AreEntries, HasBadLine}
-use Rattle.lsp_index.specs.Reading.{ended_lines, part_after, filled, values_of, shown_all, has_bad, HasBadEnded}
+use Rattle.lsp_index.specs.Reading.{ended_lines, part_after, HasNoEnd, filled, values_of, shown_all, has_bad, HasBadEnded}
 
 -- ---- bytes after bytes
 
@@ -31,6 +33,48 @@ part-append p (b ∷ xs) ys = at (b == 10) (part-append [] xs ys) (part-append (
         → cond t (part_after [] (xs ++ ys)) (part_after (p ++ b ∷ []) (xs ++ ys)) ≡ part_after (cond t (part_after [] xs) (part_after (p ++ b ∷ []) xs)) ys
     at true h k = h
     at false h k = k
+
+-- ---- bytes in which no line ends
+
+pub ended_none : (p bs : List ℕ) → HasNoEnd bs → ended_lines p bs ≡ []
+ended_none p [] none = refl
+ended_none p (b ∷ bs) none = at (b == 10) none (ended_none (p ++ b ∷ []) bs)
+  where
+    at : (t : Bool) → (t || list_any (λ c. c == 10) bs) ≡ false → (HasNoEnd bs → ended_lines (p ++ b ∷ []) bs ≡ [])
+        → cond t (strip_carriage_return p ∷ ended_lines [] bs) (ended_lines (p ++ b ∷ []) bs) ≡ []
+    at true none later = absurd (true≢false none)
+    at false none later = later none
+
+pub part_none : (p bs : List ℕ) → HasNoEnd bs → part_after p bs ≡ p ++ bs
+part_none p [] none = sym (append-nil p)
+part_none p (b ∷ bs) none = at (b == 10) none (part_none (p ++ b ∷ []) bs)
+  where
+    at : (t : Bool) → (t || list_any (λ c. c == 10) bs) ≡ false → (HasNoEnd bs → part_after (p ++ b ∷ []) bs ≡ (p ++ b ∷ []) ++ bs)
+        → cond t (part_after [] bs) (part_after (p ++ b ∷ []) bs) ≡ p ++ b ∷ bs
+    at true none later = absurd (true≢false none)
+    at false none later = later none ∙ append_assoc p (b ∷ []) bs
+
+-- a search of a byte has passed over n bytes
+passed_over : (bs : List ℕ) (n : ℕ) → n ≤ length bs → Nowhere (Passes (is_byte 10) bs) 0 n → HasNoEnd (take n bs)
+passed_over bs zero within none = refl
+passed_over [] (suc n) within none = refl
+passed_over (b ∷ bs) (suc n) within none =
+    at (b == 10) (none 0 (omega arith) (omega arith)) (passed_over bs n (omega (arith, within)) (λ k low high. none (suc k) (omega arith) (omega (arith, high))))
+  where
+    at : (t : Bool) → (t ≡ true → ⊥) → HasNoEnd (take n bs) → (t || list_any (λ c. c == 10) (take n bs)) ≡ false
+    at true differs none = absurd (differs refl)
+    at false differs none = none
+
+pub no_end : (bs : List ℕ) → IsFirstByte (is_byte 10) bs None → HasNoEnd bs
+no_end bs none = subst HasNoEnd (take_all (length bs) bs (omega arith)) (passed_over bs (length bs) (omega arith) none)
+
+pub first_end : (bs : List ℕ) (end : ℕ) → IsFirstByte (is_byte 10) bs (Some end) → HasNoEnd (take end bs)
+first_end bs end found = passed_over bs end (omega (arith, found.0.high)) found.0.before
+
+pub cut_at_end : (bs : List ℕ) (end : ℕ) → IsFirstByte (is_byte 10) bs (Some end) → (take end bs ++ 10 ∷ []) ++ drop (end + 1) bs ≡ bs
+cut_at_end bs end found =
+    ap (λ b. (take end bs ++ b ∷ []) ++ drop (end + 1) bs) (sym (eqb-true (get_or bs end 0) 10 found.1))
+    ∙ ap (λ l. l ++ drop (end + 1) bs) (sym (take_more bs end 0 found.0.high)) ∙ take-append-drop (end + 1) bs
 
 -- ---- all lines
 

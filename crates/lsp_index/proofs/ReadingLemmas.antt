@@ -1,10 +1,10 @@
--- A dump, byte by byte.
-use Rattle.std.proofs.Common.{◌≡◌, ◌==◌, ℕ, ◌+◌, ◌<◌, length, take, drop, get_or, take-append-drop, List, [], ◌∷◌, ◌++◌, Bool, true, false, cond, ◌||◌, not, Option, Some, None, option_map, map, fold, refl, sym, ◌∙◌, ap, subst, append_assoc, eq-eqb}
-use borrow.Author.Tests.{eqb-true}
+-- A dump, line by line.
+use Rattle.std.proofs.Common.{◌≡◌, ◌==◌, ℕ, ◌+◌, ◌-◌, length, take, drop, List, [], ◌∷◌, ◌++◌, Bool, true, false, cond, ◌||◌, not, Option, Some, None, option_map, map, fold, refl, sym, ◌∙◌, ap, subst, append_assoc}
 use Rattle.std.specs.Prelude.{is_none}
 use Rattle.std.specs.List.{list_any}
 use Rattle.std.specs.Str.Lines.{strip_carriage_return}
-use Rattle.std.proofs.lemmas.List.{append-nil, map-append, take_more}
+use Rattle.std.proofs.lemmas.List.{append-nil, map-append, take_rest}
+use Rattle.memchr.specs.Find.{IsFirstByte, is_byte}
 use Rattle.lsp_lsif.specs.Entry.{entry_row}
 use Rattle.lsp_lsif.specs.declared.entry.Entry.{Entry}
 use Rattle.lsp_index.specs.declared.lines.Lines.{Lines}
@@ -15,34 +15,20 @@ use Rattle.lsp_index.specs.Entries.{value_of_line, AreEntries, HasBadLine, entry
 use Rattle.lsp_index.specs.declared.graph.Seen.{Seen}
 use Rattle.lsp_index.specs.Shown.{show_query, show_seen}
 use Rattle.lsp_index.specs.Kept.{IsKept, with_entry}
-use Rattle.lsp_index.specs.Reading.{ended_lines, part_after, values_of, shown_all, IsSeenOf, has_bad, HasBadEnded, TookGood, TookBad, TookLine, TookMore, TookBadIn, TookBytes, IsAfter}
+use Rattle.lsp_index.specs.Reading.{ended_lines, part_after, HasNoEnd, values_of, shown_all, IsSeenOf, has_bad, HasBadEnded, TookGood, TookBad, TookLine, TookMore, TookBadIn, TookBytes, IsAfter}
 use Rattle.lsp_index.specs.Answered.{IsAnswerLine}
 use Rattle.lsp_index.proofs.KeptLemmas.{graph_of-more}
-use Rattle.lsp_index.proofs.LineLemmas.{ended-append, part-append, values-append, bad-append, or_right, all_values, bad_end, bad_stays}
+use Rattle.lsp_index.proofs.LineLemmas.{ended-append, part-append, ended_none, part_none, no_end, cut_at_end, values-append, bad-append, or_right, all_values, bad_end, bad_stays}
 
 module _ (q : QueryData) (before : List ℕ) (lines : Lines) (search : Search) (after : IsAfter q before (lines, search)) where
-  -- the lines that end where a byte comes
-  ended_more : (byte : ℕ) → ended_lines [] (before ++ byte ∷ []) ≡ ended_lines [] before ++ cond (byte == 10) (strip_carriage_return lines.part.items ∷ []) []
-  ended_more byte = ended-append [] before (byte ∷ []) ∙ ap (λ p. ended_lines [] before ++ cond (byte == 10) (strip_carriage_return p ∷ []) []) (sym after.part)
-
-  part_more : (byte : ℕ) → part_after [] (before ++ byte ∷ []) ≡ cond (byte == 10) [] (lines.part.items ++ byte ∷ [])
-  part_more byte = part-append [] before (byte ∷ []) ∙ ap (λ p. cond (byte == 10) [] (p ++ byte ∷ [])) (sym after.part)
-
-  other_byte : (byte : ℕ) → (byte ≡ 10 → ⊥) → (byte == 10) ≡ false
-  other_byte byte differs = at (byte == 10) refl
-    where
-      at : (t : Bool) → (byte == 10) ≡ t → t ≡ false
-      at true h = absurd (differs (eqb-true byte 10 h))
-      at false h = refl
-
-  -- a byte of a line
-  pub took_part : (byte : ℕ) → (byte ≡ 10 → ⊥) → (new : Lines) → new.part.items ≡ lines.part.items ++ byte ∷ [] → IsAfter q (before ++ byte ∷ []) (new, search)
-  took_part byte differs new grown = record {
+  -- bytes of a line
+  pub took_part : (bytes : List ℕ) → HasNoEnd bytes → (new : Lines) → new.part.items ≡ lines.part.items ++ bytes → IsAfter q (before ++ bytes) (new, search)
+  took_part bytes none new grown = record {
     query = after.query;
     good = after.good;
-    part = grown ∙ sym (part_more byte ∙ ap (λ t. cond t [] (lines.part.items ++ byte ∷ [])) (other_byte byte differs));
+    part = grown ∙ ap (λ p. p ++ bytes) after.part ∙ sym (part-append [] before bytes ∙ part_none (part_after [] before) bytes none);
     es = after.es;
-    values = ap values_of (ended_more byte ∙ ap (λ t. ended_lines [] before ++ cond t (strip_carriage_return lines.part.items ∷ []) []) (other_byte byte differs) ∙ append-nil (ended_lines [] before)) ∙ after.values;
+    values = ap values_of (ended-append [] before bytes ∙ ap (λ l. ended_lines [] before ++ l) (ended_none (part_after [] before) bytes none) ∙ append-nil (ended_lines [] before)) ∙ after.values;
     kept = after.kept;
   }
 
@@ -59,25 +45,26 @@ module _ (q : QueryData) (before : List ℕ) (lines : Lines) (search : Search) (
       ∙ sym (graph_of-more (map (entry_data q.request) after.es) (map (entry_data q.request) t.es))
       ∙ ap graph_of (sym (map-append (entry_data q.request) after.es t.es))) took
 
-  newline : (byte : ℕ) → byte ≡ 10 → ended_lines [] (before ++ byte ∷ []) ≡ ended_lines [] before ++ strip_carriage_return lines.part.items ∷ []
-  newline byte is = ended_more byte ∙ ap (λ t. ended_lines [] before ++ cond t (strip_carriage_return lines.part.items ∷ []) []) (eq-eqb byte 10 is)
+  -- the lines that end where an LF comes
+  ended_more : ended_lines [] (before ++ 10 ∷ []) ≡ ended_lines [] before ++ strip_carriage_return lines.part.items ∷ []
+  ended_more = ended-append [] before (10 ∷ []) ∙ ap (λ p. ended_lines [] before ++ strip_carriage_return p ∷ []) (sym after.part)
 
   -- the end of a line that is empty or an entry
-  pub took_line : (byte : ℕ) → byte ≡ 10 → (new : Search) → TookGood search (strip_carriage_return lines.part.items) new → (rest : Lines) → rest.part.items ≡ [] → IsAfter q (before ++ byte ∷ []) (rest, new)
-  took_line byte is new t rest empty = record {
+  pub took_line : (new : Search) → TookGood search (strip_carriage_return lines.part.items) new → (rest : Lines) → rest.part.items ≡ [] → IsAfter q (before ++ 10 ∷ []) (rest, new)
+  took_line new t rest empty = record {
     query = ap show_query t.query ∙ after.query;
     good = t.good ∙ after.good;
-    part = empty ∙ sym (part_more byte ∙ ap (λ t. cond t [] (lines.part.items ++ byte ∷ [])) (eq-eqb byte 10 is));
+    part = empty ∙ sym (part-append [] before (10 ∷ []));
     es = after.es ++ t.es;
-    values = ap values_of (newline byte is) ∙ values-append (ended_lines [] before) (strip_carriage_return lines.part.items ∷ [])
+    values = ap values_of ended_more ∙ values-append (ended_lines [] before) (strip_carriage_return lines.part.items ∷ [])
         ∙ ap (λ l. l ++ values_of (strip_carriage_return lines.part.items ∷ [])) after.values ∙ ap (λ l. shown_all after.es ++ l) t.values ∙ sym (shown-append after.es t.es);
     kept = kept_more (strip_carriage_return lines.part.items) new t;
   }
 
   -- the end of a bad line
-  pub took_bad : (byte : ℕ) → byte ≡ 10 → (new : Search) → TookBad search (strip_carriage_return lines.part.items) new → HasBadEnded (before ++ byte ∷ [])
-  took_bad byte is new t =
-      ap has_bad (newline byte is) ∙ bad-append (ended_lines [] before) (strip_carriage_return lines.part.items ∷ [])
+  pub took_bad : (new : Search) → TookBad search (strip_carriage_return lines.part.items) new → HasBadEnded (before ++ 10 ∷ [])
+  took_bad new t =
+      ap has_bad ended_more ∙ bad-append (ended_lines [] before) (strip_carriage_return lines.part.items ∷ [])
       ∙ or_right (has_bad (ended_lines [] before)) (has_bad (strip_carriage_return lines.part.items ∷ [])) t.bad
 
   -- ---- the last line, which has no end
@@ -108,30 +95,45 @@ module _ (q : QueryData) (before : List ℕ) (lines : Lines) (search : Search) (
 
 -- ---- bytes
 
--- a byte that ends a line, which is good or isn't
-pub took_newline : (lines rest : Lines) (search new : Search) (byte : ℕ) (good : Bool) → byte ≡ 10 → TookLine search (strip_carriage_return lines.part.items) good new → rest.part.items ≡ []
-    → TookBytes (lines, search) (byte ∷ []) good (rest, new)
-took_newline lines rest search new byte true is t empty = λ q before after. took_line q before lines search after byte is new t rest empty
-took_newline lines rest search new byte false is t empty = (t.is_bad, λ q before after. took_bad q before lines search after byte is new t)
+pub took_both : (a b c : Lines × Search) (xs ys : List ℕ) → TookMore a xs b → TookMore b ys c → TookMore a (xs ++ ys) c
+took_both a b c xs ys p r = λ q before after. subst (λ l. IsAfter q l c) (append_assoc before xs ys) (r q (before ++ xs) (p q before after))
 
--- a byte after others
-pub took_next : (a b c : Lines × Search) (bytes : List ℕ) (i : ℕ) → i < length bytes → TookMore a (take i bytes) b → TookMore b (get_or bytes i 0 ∷ []) c → TookMore a (take (i + 1) bytes) c
-took_next a b c bytes i within p r = λ q before after.
-    subst (λ l. IsAfter q l c) (append_assoc before (take i bytes) (get_or bytes i 0 ∷ []) ∙ ap (λ l. before ++ l) (sym (take_more bytes i 0 within))) (r q (before ++ take i bytes) (p q before after))
+-- bytes after others
+pub took_then : (a b c : Lines × Search) (xs ys : List ℕ) (good : Bool) → TookMore a xs b → TookBytes b ys good c → TookBytes a (xs ++ ys) good c
+took_then a b c xs ys true p r = took_both a b c xs ys p r
+took_then a b c xs ys false p r = (r.0, λ q before after. subst HasBadEnded (append_assoc before xs ys) (r.1 q (before ++ xs) (p q before after)))
 
--- a bad line ends among them
-pub took_bad_next : (a b c : Lines × Search) (bytes : List ℕ) (i : ℕ) → i < length bytes → TookMore a (take i bytes) b → TookBadIn b (get_or bytes i 0 ∷ []) c → TookBadIn a bytes c
-took_bad_next a b c bytes i within p r = (
-  r.0,
-  λ q before after.
-      let bad = bad_stays ((before ++ take i bytes) ++ get_or bytes i 0 ∷ []) (drop (i + 1) bytes) (r.1 q (before ++ take i bytes) (p q before after)) in
-      subst HasBadEnded (whole before) bad,
-)
-  where
-    whole : (before : List ℕ) → ((before ++ take i bytes) ++ get_or bytes i 0 ∷ []) ++ drop (i + 1) bytes ≡ before ++ bytes
-    whole before =
-        ap (λ l. l ++ drop (i + 1) bytes) (append_assoc before (take i bytes) (get_or bytes i 0 ∷ []) ∙ ap (λ l. before ++ l) (sym (take_more bytes i 0 within)))
-        ∙ append_assoc before (take (i + 1) bytes) (drop (i + 1) bytes) ∙ ap (λ l. before ++ l) (take-append-drop (i + 1) bytes)
+-- bytes in which a bad line ends, and others
+pub took_bad_then : (a b : Lines × Search) (xs ys : List ℕ) → TookBadIn a xs b → TookBadIn a (xs ++ ys) b
+took_bad_then a b xs ys t = (t.0, λ q before after. subst HasBadEnded (append_assoc before xs ys) (bad_stays (before ++ xs) ys (t.1 q before after)))
+
+-- an LF, which ends a line that is good or isn't
+took_newline : (lines rest : Lines) (search new : Search) (good : Bool) → TookLine search (strip_carriage_return lines.part.items) good new → rest.part.items ≡ []
+    → TookBytes (lines, search) (10 ∷ []) good (rest, new)
+took_newline lines rest search new true t empty = λ q before after. took_line q before lines search after new t rest empty
+took_newline lines rest search new false t empty = (t.is_bad, λ q before after. took_bad q before lines search after new t)
+
+-- the last bytes of a line, and its LF
+pub took_end : (lines grown rest : Lines) (search new : Search) (bytes : List ℕ) (good : Bool) → HasNoEnd bytes → grown.part.items ≡ lines.part.items ++ bytes
+    → TookLine search (strip_carriage_return grown.part.items) good new → rest.part.items ≡ [] → TookBytes (lines, search) (bytes ++ 10 ∷ []) good (rest, new)
+took_end lines grown rest search new bytes good none is t empty =
+    took_then (lines, search) (grown, search) (rest, new) bytes (10 ∷ []) good (λ q before after. took_part q before lines search after bytes none grown is) (took_newline grown rest search new good t empty)
+
+-- what the bytes after a line come to is what these and the line come to
+pub took_rest : (a b last : Lines × Search) (bytes : List ℕ) (end : ℕ) (good : Bool) → IsFirstByte (is_byte 10) bytes (Some end) → TookMore a (take end bytes ++ 10 ∷ []) b
+    → TookBytes b (take (length bytes - (end + 1)) (drop (end + 1) bytes)) good last → TookBytes a bytes good last
+took_rest a b last bytes end good found p r =
+    subst (λ l. TookBytes a l good last) (cut_at_end bytes end found)
+    (took_then a b last (take end bytes ++ 10 ∷ []) (drop (end + 1) bytes) good p (subst (λ l. TookBytes b l good last) (take_rest bytes (end + 1)) r))
+
+-- a bad line ends
+pub took_bad_rest : (a b : Lines × Search) (bytes : List ℕ) (end : ℕ) → IsFirstByte (is_byte 10) bytes (Some end) → TookBadIn a (take end bytes ++ 10 ∷ []) b → TookBadIn a bytes b
+took_bad_rest a b bytes end found p =
+    subst (λ l. TookBadIn a l b) (cut_at_end bytes end found) (took_bad_then a b (take end bytes ++ 10 ∷ []) (drop (end + 1) bytes) p)
+
+-- no line ends in what is left
+pub took_last_part : (lines grown : Lines) (search : Search) (bytes : List ℕ) → IsFirstByte (is_byte 10) bytes None → grown.part.items ≡ lines.part.items ++ bytes → TookMore (lines, search) bytes (grown, search)
+took_last_part lines grown search bytes none is = λ q before after. took_part q before lines search after bytes (no_end bytes none) grown is
 
 -- ---- a line
 

@@ -30,6 +30,10 @@ abbrev pub part_after : List ℕ → List ℕ → List ℕ
 part_after part [] = part
 part_after part (b ∷ bs) = if b == 10 then part_after [] bs else part_after (part ++ b ∷ []) bs
 
+-- no line ends in them
+abbrev pub HasNoEnd : List ℕ → Type 0
+HasNoEnd bytes = list_any (λ b. b == 10) bytes ≡ false
+
 abbrev pub filled : List (List ℕ) → List (List ℕ)
 filled ls = filter (λ l. not (length l == 0)) ls
 

@@ -10,13 +10,14 @@ ghost use Rattle.lsp_index.specs.Graph.{Graph};
 ghost use Rattle.lsp_index.specs.Kept.{IsKept};
 ghost use Rattle.lsp_index.specs.Queries.{IsAnswer};
 ghost use Rattle.lsp_index.specs.Shown.{show_query};
-ghost use Rattle.lsp_index.specs.Reading.{TookLine, TookBytes};
+ghost use Rattle.lsp_index.specs.Reading.{HasNoEnd, TookLine, TookBytes};
 
 use crate::Query;
 use crate::entry::read_line;
 use crate::graph::Index;
 use lsp_rpc::NoMemory;
 use lsp_server::{Consumer, Refused, ServeError, Sink, write_all};
+use memchr::memchr;
 
 /// Finds the ends of lines, and holds the part of a line that has no end yet.
 #[derive(Drop)]
@@ -93,15 +94,13 @@ fn send<O: Sink>(sink: &mut O, bytes: &[u8]) -> Result<(), ServeError>
 }
 
 impl Lines {
-    // Takes a byte, and says whether the line that it ends, if it ends one, is good.
-    fn take_byte(&mut self, search: &mut Search, byte: u8) -> Result<bool, NoMemory>
-        ensures { IfOk result (λ good. TookBytes (self.old, search.old) (byte ∷ []) good
+    // Takes what stands before an LF, with the LF, and says whether the line that it ends is good.
+    fn take_end(&mut self, search: &mut Search, bytes: &[u8]) -> Result<bool, NoMemory>
+        requires { HasNoEnd bytes.now }
+        ensures { IfOk result (λ good. TookBytes (self.old, search.old) (bytes.now ++ 10 ∷ []) good
             (self.new, search.new)) }
     {
-        if byte != b'\n' {
-            self.part.push(byte)?;
-            return Ok(true);
-        }
+        self.part.extend_from_slice(bytes)?;
         let good = search.take_line(without_cr(&self.part))?;
         self.part.clear();
         Ok(good)
@@ -112,11 +111,14 @@ impl Lines {
         ensures { IfOk result (λ good. TookBytes (self.old, search.old) bytes.now good
             (self.new, search.new)) }
     {
-        for byte in bytes {
-            if !self.take_byte(search, *byte)? {
+        let mut rest = bytes;
+        'lines: while let Some(end) = memchr(b'\n', rest) {
+            if !self.take_end(search, &rest[..end])? {
                 return Ok(false);
             }
+            rest = &rest[end + 1..];
         }
+        self.part.extend_from_slice(rest)?;
         Ok(true)
     }
 }
