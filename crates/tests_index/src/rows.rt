@@ -337,10 +337,10 @@ fn each_read_write_and_flush_fails(rt: HostRuntime) -> Result<(), RowError> {
     trial.end()
 }
 
-// So long is a line.
-const MIB_64: usize = 67_108_864;
+// So long is a line. `.ci/hostile` has lines of 64 MiB.
+const MIB: usize = 1_048_576;
 
-// A line of 64 MiB after the dump, made of a piece again and again between two texts, and the status
+// A long line after the dump, made of a piece again and again between two texts, and the status
 // with what is written: with the pieces too, between two texts, or without.
 struct Long {
     words: &'static str,
@@ -395,10 +395,10 @@ fn push_long(
 
 fn try_long(trial: &mut Trial, alloc: Global, row: &Long) -> Result<(), AllocError> {
     let mut dump = String::from_str(alloc, DUMP)?;
-    push_long(&mut dump, row.line, row.piece, MIB_64)?;
+    push_long(&mut dump, row.line, row.piece, MIB)?;
     let found = run(alloc, row.words, dump.as_bytes(), 4096);
     let mut wanted = String::new(alloc);
-    let shown = if row.is_shown { MIB_64 } else { 0 };
+    let shown = if row.is_shown { MIB } else { 0 };
     push_long(&mut wanted, row.expected, row.piece, shown)?;
     trial.text(row.words, found, wanted.as_str());
     Ok(())
