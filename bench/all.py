@@ -1,5 +1,6 @@
 #!/usr/bin/env python3
-"""Prints every figure of README.md as a table, of one program or of two side by side.
+"""Prints the figures of README.md as a table, of one program or of two side by side. index.py, typed.py and share.py
+stand apart.
 
     bench/all.py                            the programs of this checkout
     bench/all.py /path/landed .             those of a folder, and those of this checkout beside them

@@ -102,12 +102,14 @@ def rows_of(title, text, line, character, changes, together=1):
 def rows(sizes):
     for size in sizes.or_else(10_000, 1_000_000, 10_000_000):
         count = size // len(LINE)
+        letters = 10_000 if size <= 1_000_000 else 500
         for place, line in (("start", 0), ("middle", count // 2), ("end", count)):
-            yield from rows_of("{:,} bytes, {}".format(size, place), lambda size=size: lines(size), line, 0, 10_000)
+            yield from rows_of("{:,} bytes, {}".format(size, place), lambda size=size: lines(size), line, 0, letters)
         yield from rows_of("{:,} bytes, middle, 100 changes a notification".format(size),
-                           lambda size=size: lines(size), count // 2, 0, 10_000, 100)
-    yield from rows_of("10,000,000 bytes in one line, end", lambda: b"a" * 10_000_000, 0, 10_000_000, 500)
-    yield from rows_of("10,000,000 empty lines, end", lambda: b"\n" * 10_000_000, 10_000_000, 0, 500)
+                           lambda size=size: lines(size), count // 2, 0, letters, 100)
+    for size in sizes.or_else(10_000_000):
+        yield from rows_of("{:,} bytes in one line, end".format(size), lambda size=size: b"a" * size, 0, size, 500)
+        yield from rows_of("{:,} empty lines, end".format(size), lambda size=size: b"\n" * size, size, 0, 500)
 
 
 if __name__ == "__main__":

@@ -7,12 +7,13 @@ use lsp_service::{
     Asking, Call, LifeCall, LifeReply, NoMemory, Reply, Started, WorkCall, WorkReply,
     initialize_reply, not_found_for,
 };
-use lsp_types::{ExecuteCommandParams, ServerCapabilities};
+use lsp_types::{ExecuteCommandOptions, ExecuteCommandParams, ServerCapabilities};
 use serde_json::Value;
 use std::alloc::Global;
 use std::sync::atomic::Ordering;
 
-/// The largest number whose primes are counted: the program ends when the thread has ended its job.
+/// The largest number whose primes are counted, since the program ends only when the thread has
+/// ended its job.
 const MOST: u64 = 1_000_000;
 
 #[derive(Drop)]
@@ -88,9 +89,19 @@ fn refused(alloc: Global, code: ErrorCode) -> Result<Reply, NoMemory> {
 fn reply(alloc: Global, call: Call) -> Result<Reply, NoMemory> {
     match call {
         Call::Life(LifeCall::Initialize(params)) => {
-            initialize_reply(alloc, params, ServerCapabilities::default())
+            let capabilities = capabilities(alloc)?;
+            initialize_reply(alloc, params, capabilities)
         }
         Call::Life(LifeCall::Shutdown) => Ok(Reply::Life(LifeReply::Shutdown(Ok(())))),
         other => not_found_for(alloc, other),
     }
+}
+
+// The command is offered, so that an editor asks for it.
+fn capabilities(alloc: Global) -> Result<ServerCapabilities, NoMemory> {
+    let mut offered = ExecuteCommandOptions::default(alloc);
+    offered.commands.push(String::from_str(alloc, "primes")?)?;
+    let mut capabilities = ServerCapabilities::default();
+    capabilities.execute_command_provider = Some(offered);
+    Ok(capabilities)
 }

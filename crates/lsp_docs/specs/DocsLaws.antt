@@ -1,4 +1,4 @@
--- What holds of each language server holds of the document store.
+-- What holds of each language server holds of the document server.
 use Rattle.std.specs.Prelude.{◌≡◌, List, Bool, true, false}
 use Rattle.std.proofs.Common.{refl, sym, ap, subst}
 use Rattle.lsp_desk.specs.Trace.{DeskEntry}

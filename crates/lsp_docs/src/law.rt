@@ -21,8 +21,8 @@ pub fn docs_polls_are_a_function()
     ensures { PollsAreAFunction }
 {}
 
-/// What a session over a desk of its own writes, and the documents at its end, are a function of
-/// the bytes that it reads.
+/// What a session over a desk of its own has written at its end, and the documents then, are a
+/// function of its setting and of the bytes of its source.
 pub fn docs_sessions_are_a_function<D: Caller, P: Pick>()
     ensures { SessionsAreAFunction ⟦<LspService<DocsServer> as Handlers<D>>⟧.semantics D.meaning
         (order_by P.gives P.later) }

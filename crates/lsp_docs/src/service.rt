@@ -11,7 +11,7 @@ use lsp_session::Kind;
 use std::alloc::Global;
 
 /// A service that keeps documents, with `docs/text` as its one custom method, and the socket over
-/// the desk.
+/// the desk. Out of memory the desk is let go.
 pub fn docs_service<D: Desk + Drop>(
     alloc: Global,
     desk: D,

@@ -47,7 +47,8 @@ impl Documents {
         self.documents.get(uri)
     }
 
-    /// Opens a document, where none of its URI is open.
+    /// Opens a document, where none of its URI is open; else it is `AlreadyOpen`. After an error
+    /// all documents are as before.
     pub fn open(&mut self, uri: &str, version: i32, text: String) -> Result<(), OpenError>
         ensures ok { OnOk result (after_open uri.now
             (document_of version (chars (string_bytes text))) self.old ≡ Some self.new) }
@@ -64,7 +65,8 @@ impl Documents {
     }
 
     /// Makes changes of an open document in order, each of the text that the one before leaves, or
-    /// none of them.
+    /// none of them: `NotOpen` where no document of that URI is open, `StartBehindEnd` where a range
+    /// has its start behind its end. After an error all documents are as before.
     pub fn change(
         &mut self,
         uri: &str,

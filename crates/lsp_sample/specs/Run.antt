@@ -42,11 +42,11 @@ pub record IsDocsService (service : LspService DocsServer) : Type 0 where
 abbrev pub sample_setting : {H : Type 0} → Setting → H → PlainDesk → server_course.Setting H PlainDesk ⊤
 sample_setting setting service desk = record { service = service; desk = desk; max = setting.max; wait = 1024; rounds = setting.rounds; limits = default_limits; floats = Refused; empty_params = false; pick = tt }
 
--- ---- what a session writes
-
 -- what the document server is served with: floats are read, and empty params let in, as editors send both
 abbrev pub docs_setting : {H : Type 0} → H → PlainDesk → server_course.Setting H PlainDesk ⊤
 docs_setting service desk = record { service = service; desk = desk; max = 4; wait = 1024; rounds = 8; limits = default_limits; floats = Read; empty_params = true; pick = tt }
+
+-- ---- what a session writes
 
 -- there was no memory for a service, and nothing was read or written
 pub record NotBegun (call : CallBytes) (status : ℕ) : Type 0 where

@@ -6,7 +6,6 @@ use Rattle.std.specs.Option.{option_to_list}
 use Rattle.serde_json.specs.declared.value.Value.{Value}
 use Rattle.lsp_shape.specs.Plain.{present, maybe_of, parts_of}
 use Rattle.lsp_shape.specs.Shown.{show_value}
-use Rattle.lsp_sample_server.specs.declared.command.Command.{Command}
 use Rattle.lsp_sample_server.specs.declared.command.Command.TheVariants.{Unknown}
 use Rattle.lsp_sample_server.specs.Command.{command_of, last_of}
 

@@ -1,7 +1,6 @@
 -- What a call is taken for.
 use Rattle.std.proofs.Common.{◌≡◌, [], refl, ap, subst}
-use Rattle.std.specs.Prelude.{Option, Some, None}
-use Rattle.serde_json.specs.declared.value.Value.{Value}
+use Rattle.std.specs.Prelude.{None}
 use Rattle.lsp_desk.specs.Meaning.{Meaning, PollsOn}
 use Rattle.lsp_desk.proofs.TraceLemmas.{grows_none}
 use Rattle.lsp_session.specs.declared.table.Kind.TheVariants.{Request}
@@ -12,7 +11,6 @@ use Rattle.lsp_work.specs.declared.workspace.ExecuteCommandParams.{ExecuteComman
 use Rattle.lsp_service.specs.declared.call.Call.{Call}
 use Rattle.lsp_service.specs.declared.call.Call.TheVariants as calls
 use Rattle.lsp_service.specs.declared.call.LifeCall.{LifeCall}
-use Rattle.lsp_service.specs.declared.call.LifeCall.TheVariants as life_calls
 use Rattle.lsp_service.specs.declared.call.SyncCall.{SyncCall}
 use Rattle.lsp_service.specs.declared.call.SyncCall.TheVariants as sync_calls
 use Rattle.lsp_service.specs.declared.call.GotoCall.{GotoCall}

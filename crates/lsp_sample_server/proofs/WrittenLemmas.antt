@@ -1,9 +1,7 @@
 -- What is written for the sample's replies.
-use Rattle.std.proofs.Common.{◌≡◌, refl, ap, ◌∙◌, false}
-use Rattle.std.specs.Prelude.{Result, Ok, Err, if◌then◌else◌}
+use Rattle.std.proofs.Common.{◌≡◌, refl, ap}
+use Rattle.std.specs.Prelude.{Ok, Err, if◌then◌else◌}
 use Rattle.serde_json.specs.Data.{Data}
-use Rattle.serde_json.specs.Written.{has_float}
-use Rattle.lsp_rpc.specs.Message.{ErrorData, may_have_float}
 use Rattle.lsp_shape.specs.Write.{write}
 use Rattle.lsp_initialize.specs.Server.{server_capabilities_row, server_capabilities_fields, initialize_result_row}
 use Rattle.lsp_service.specs.Data.{mismatch, unless_float}

@@ -1,5 +1,5 @@
 -- What the sample does: its relations are a function of the calls, of what was asked and of the desk's replies.
-use Rattle.std.specs.Prelude.{◌≡◌, ℕ, zero, suc, pos, List, [], codes, Option, Some, None, Result, Ok, Err}
+use Rattle.std.specs.Prelude.{◌≡◌, ℕ, zero, suc, pos, List, [], codes, Option, Some, Result, Ok, Err}
 use Rattle.serde_json.specs.Data.{number, unsigned}
 use Rattle.lsp_rpc.specs.declared.code.ErrorCode.TheVariants.{InvalidParams, MethodNotFound}
 use Rattle.lsp_rpc.specs.Message.{ErrorData, error_with_code}

@@ -1,8 +1,7 @@
 -- What holds of each language server holds of the sample.
-use Rattle.std.specs.Prelude.{◌≡◌, ◌==◌, ◌-◌, ℕ, List, Bool, true, false, if◌then◌else◌, Option, Some, None, Result, Ok, Err}
-use Rattle.std.proofs.Common.{refl, sym, ap, ◌∙◌, subst}
+use Rattle.std.specs.Prelude.{◌≡◌, ◌==◌, ◌-◌, ℕ, List, Bool, true, false, if◌then◌else◌, Option, Some, Err}
+use Rattle.std.proofs.Common.{refl, sym, ap, subst}
 use Rattle.serde_json.specs.Data.{number, unsigned}
-use Rattle.lsp_rpc.specs.Message.{ErrorData}
 use Rattle.lsp_desk.specs.Trace.{DeskEntry}
 use Rattle.lsp_session.specs.Semantics.{Phase, Fresh, Held, AreClient}
 use Rattle.lsp_shape.specs.Plain.{Plain}
@@ -12,15 +11,15 @@ use Rattle.lsp_methods.specs.declared.method.LifeMethod.TheVariants as life
 use Rattle.lsp_methods.specs.declared.method.WorkMethod.{WorkMethod}
 use Rattle.lsp_methods.specs.declared.method.WorkMethod.TheVariants as work
 use Rattle.lsp_client.specs.Answers.{AskedData, ticket, refused, AnsweredData, value, error, pending}
-use Rattle.lsp_service.specs.Data.{MethodCall, typed, custom, MethodReply}
+use Rattle.lsp_service.specs.Data.{MethodCall, typed, MethodReply}
 use Rattle.lsp_service.specs.Server.{Start, Now, Later, ServerPolls, polled_call, IsLawfulServer}
 use Rattle.lsp_sample_server.specs.declared.command.Command.{Command}
 use Rattle.lsp_sample_server.specs.declared.command.Command.TheVariants.{Echo, Wait, Ask, Unknown}
 use Rattle.lsp_sample_server.specs.declared.sample.Sample.{Sample}
 use Rattle.lsp_sample_server.specs.Command.{command_in}
-use Rattle.lsp_sample_server.specs.Execute.{TaskData, command_reply, command_result, waits, Asks, asked_start, PollsAnswer, answered_start, Quietly, Executes, ResumesLeft, ResumesCommand}
+use Rattle.lsp_sample_server.specs.Execute.{TaskData, command_result, asked_start, answered_start, Quietly, Executes, ResumesLeft, ResumesCommand}
 use Rattle.lsp_sample_server.specs.Left.{LeftData, waiting, asking, command_left}
-use Rattle.lsp_sample_server.specs.Sample.{SampleTurn, replies, greets, executes, life_turn, work_turn, sample_turn, BeginsTurn, BeginsCall, ResumesTask, MayEnd, MayReply, task_call, sample_semantics}
+use Rattle.lsp_sample_server.specs.Sample.{SampleTurn, replies, greets, executes, life_turn, work_turn, sample_turn, BeginsTurn, MayEnd, MayReply, task_call, sample_semantics}
 
 -- ---- a poll makes no calls of the session
 

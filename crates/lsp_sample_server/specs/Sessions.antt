@@ -1,16 +1,13 @@
 -- The sample's sessions.
 use Rattle.std.specs.Prelude.{◌≡◌, ⊤, []}
-use Rattle.lsp_session.specs.State.{State}
 use Rattle.lsp_session.specs.Semantics.{Semantics}
-use Rattle.lsp_session.specs.Run.{Order, Picked, order_by}
+use Rattle.lsp_session.specs.Run.{Order, order_by}
 use Rattle.lsp_methods.specs.ServiceTable.{customs_of}
 use Rattle.lsp_service.specs.declared.incoming.Incoming.{Incoming}
 use Rattle.lsp_service.specs.declared.service.LspService.{LspService}
-use Rattle.lsp_service.specs.Data.{IncomingCall}
 use Rattle.lsp_service.specs.Service.{KeptTask, service_semantics}
 use Rattle.lsp_sample_server.specs.declared.task.SampleTask.{SampleTask}
 use Rattle.lsp_sample_server.specs.declared.sample.Sample.{Sample}
-use Rattle.lsp_sample_server.specs.Execute.{TaskData}
 use Rattle.lsp_sample_server.specs.Sample.{sample_semantics}
 
 abbrev pub sample : Sample
@@ -28,6 +25,3 @@ in_order = order_by (λ _ n. 0) (λ p n. p)
 -- the sample behind its methods, where a task in the code is no more than the server's, with its kind
 abbrev pub service_of_sample : Semantics (LspService Sample) Incoming (KeptTask SampleTask)
 service_of_sample = service_semantics sample_semantics (λ (t : KeptTask SampleTask). t.task) (λ (t : KeptTask SampleTask). t.kind)
-
-abbrev pub SampleState : Type 0
-SampleState = Picked (State (LspService Sample) IncomingCall (KeptTask TaskData)) ⊤

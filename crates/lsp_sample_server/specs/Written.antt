@@ -2,8 +2,7 @@
 use Rattle.std.specs.Prelude.{◌≡◌, codes, false, Ok, Err}
 use Rattle.serde_json.specs.Data.{Data, null, object, no_members, member}
 use Rattle.serde_json.specs.Written.{has_float}
-use Rattle.lsp_rpc.specs.Message.{ErrorData, error_with_code, may_have_float}
-use Rattle.lsp_methods.specs.declared.method.Method.{Method}
+use Rattle.lsp_rpc.specs.Message.{ErrorData, may_have_float}
 use Rattle.lsp_methods.specs.declared.method.Method.TheVariants as methods
 use Rattle.lsp_methods.specs.declared.method.LifeMethod.TheVariants as life
 use Rattle.lsp_methods.specs.declared.method.WorkMethod.TheVariants as work

@@ -8,7 +8,8 @@ use lsp_desk::{ClientSocket, Desk};
 use lsp_service::{LspService, Unmade};
 use std::alloc::Global;
 
-/// A service of the sample, without custom methods, and the socket over the desk.
+/// A service of the sample, without custom methods, and the socket over the desk. Out of memory the
+/// server and the desk are handed back.
 pub fn sample_service<D: Desk + Drop>(
     alloc: Global,
     desk: D,

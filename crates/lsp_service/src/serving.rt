@@ -90,8 +90,8 @@ pub fn pump<
         → IsFlushed (O.taken sink.old) (O.flushed sink.old)
         → IsFlushed (O.taken sink.new) (O.flushed sink.new) }
 
-    // Each failure has its cause, and is told, but for a read that failed when the session had
-    // ended.
+    // Each failure has its cause. A failed write is told; a failed read need not be at 0, 1, 4, 6
+    // and 7, where the session may have ended before.
     ensures read { result.1 ≡ 3 → CountRose (I.faults source) (I.faults result.0) }
     ensures write { result.1 ≡ 4 → CountRose (O.faults sink.old) (O.faults sink.new) }
     ensures counts { (I.faults source ≤ I.faults result.0) × (O.faults sink.old ≤ O.faults sink.new) }

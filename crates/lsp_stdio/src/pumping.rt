@@ -22,8 +22,9 @@ use std::sync::Wait;
 use std::thread::Threads;
 
 /// Serves a session of these handlers as [`serve`](crate::serve) does, while a thread of its own
-/// reads: where input waits ticks are made, so that what the desk holds goes out. The answer is the
-/// source and the program's exit status, one of [`Status`].
+/// reads: where input waits ticks are made, so that what the desk holds goes out. Each message and
+/// each tick gets so many rounds of polls. The answer is the source and the program's exit status,
+/// one of [`Status`].
 ///
 /// It may wait for the source: what is said of its answer holds if it returns.
 pub fn pump<
@@ -54,8 +55,8 @@ pub fn pump<
         → IsFlushed (O.taken sink.old) (O.flushed sink.old)
         → IsFlushed (O.taken sink.new) (O.flushed sink.new) }
 
-    // Each failure has its cause, and is told, but for a read that failed when the session had
-    // ended.
+    // Each failure has its cause. A failed write is told; a failed read need not be at 0, 1, 4, 6
+    // and 7, where the session may have ended before.
     ensures read { result.1 ≡ 3 → CountRose (I.faults source) (I.faults result.0) }
     ensures write { result.1 ≡ 4 → CountRose (O.faults sink.old) (O.faults sink.new) }
     ensures counts { (I.faults source ≤ I.faults result.0) × (O.faults sink.old ≤ O.faults sink.new) }

@@ -7,7 +7,7 @@ ghost use Rattle.lsp_server.specs.Written.{IsPrefixOf};
 use lsp_program::Status;
 use lsp_server::{Refused, Sink, write_all};
 
-/// Writes and flushes the line, and answers the exit status.
+/// Writes and flushes the line, and answers the exit status: 0, 4 where that failed, or 6.
 pub fn write_line<O: Sink>(sink: &mut O, line: &[u8]) -> u8
     ensures known { (result ≡ 0) ⊎ (result ≡ 4) ⊎ (result ≡ 6) }
     ensures done { result ≡ 0 → Appends (O.taken sink.old) (O.taken sink.new) line.now }

@@ -28,7 +28,8 @@ use std::thread::{Threads, join};
 /// Serves the sample over the frame of an `initialize`, in memory, over the owner's desk. Beside it
 /// so many clones each send so many messages, on threads of their own where these can be started.
 /// Then all seats are the owner's again, the rest is taken from the desk, and one line says how many
-/// messages were sent and how many the desk gave. Answers the exit status, and the owner.
+/// messages were sent and how many the desk gave. Answers the exit status, 0, 4, 6 or 7, and the
+/// owner.
 pub fn talk_with<'a, R: Threads + Wait + Sync, G: Gate + Sync, O: Sink>(
     rt: &'a R,
     alloc: Global,

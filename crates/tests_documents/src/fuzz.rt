@@ -1,10 +1,11 @@
 //! Random changes of random texts, made by the store and by a plain walk over a list of characters.
+use crate::events::URI;
 use lsp_base::{Position, Range, TextDocumentContentChangeEvent};
 use lsp_documents::{ChangeError, Documents};
 use lsp_rows::{RowError, Trial};
 use rand_core::utils::NextWord;
 use rand_pcg::Pcg32;
-use std::alloc::{AllocError, AllocFailed, Global};
+use std::alloc::{AllocError, Global};
 
 const PIECES: [&str; 12] = [
     "", "a", "bc", "é", "漢", "😀", "\r", "\n", "\r\n", "\u{ffff}", "𐀀\r", "x\ny",
@@ -84,7 +85,7 @@ fn plain_change(
     text: &[char],
     range: Option<Range>,
     new: &str,
-) -> Result<Option<Vec<char>>, AllocFailed<char>> {
+) -> Result<Option<Vec<char>>, AllocError> {
     let (start, end) = match range {
         None => (0, text.len()),
         Some(range) => (plain_place(text, range.start), plain_place(text, range.end)),
@@ -92,25 +93,21 @@ fn plain_change(
     if end < start {
         return Ok(None);
     }
-    let mut changed = Vec::new(alloc);
-    for c in text.iter().take(start) {
-        changed.push(*c)?;
-    }
+    let mut changed = Vec::from_slice(alloc, text.get(..start).unwrap_or(text))?;
     for c in new.chars() {
         changed.push(c)?;
     }
-    for c in text.iter().skip(end) {
-        changed.push(*c)?;
-    }
+    changed.extend_from_slice(text.get(end..).unwrap_or(text))?;
     Ok(Some(changed))
 }
 
-// The text of the characters.
-fn spelled(alloc: Global, text: &[char]) -> Result<String, AllocError> {
-    text.iter().copied().collect(alloc)
+// The document has the text of these characters.
+fn has_text(documents: &Documents, text: &[char]) -> bool {
+    match documents.get(URI) {
+        Some(document) => document.text().chars().eq(text.iter().copied()),
+        None => false,
+    }
 }
-
-const URI: &str = "file:///a";
 
 // One change both ways.
 fn step(
@@ -118,33 +115,39 @@ fn step(
     documents: &mut Documents,
     text: &mut Vec<char>,
     version: i32,
-    range: Option<Range>,
-    new: String,
+    change: TextDocumentContentChangeEvent,
     trial: &mut Trial,
-) -> Result<(), RowError> {
-    let expected = match plain_change(alloc, text.as_slice(), range, new.as_str()) {
-        Ok(expected) => expected,
-        Err(_) => return Err(RowError::NoMemory),
-    };
-    let change = [TextDocumentContentChangeEvent {
-        range,
-        range_length: None,
-        text: new,
-    }];
-    let found = documents.change(URI, version, &change);
-    match expected {
+) -> Result<(), AllocError> {
+    let changed = plain_change(alloc, text.as_slice(), change.range, change.text.as_str())?;
+    let found = documents.change(URI, version, &[change]);
+    match changed {
         None => trial.same(version, found, Err(ChangeError::StartBehindEnd)),
         Some(changed) => {
             trial.same(version, found, Ok(()));
             *text = changed;
         }
     }
-    let shown = spelled(alloc, text.as_slice())?;
-    match documents.get(URI) {
-        Some(document) => trial.is_true(version, document.text() == shown.as_str()),
-        None => trial.is_true(version, false),
-    }
+    trial.is_true(version, has_text(documents, text.as_slice()));
     Ok(())
+}
+
+// A change of a text of that many characters.
+fn some_change(
+    alloc: Global,
+    random: &mut Pcg32,
+    scale: Scale,
+    len: usize,
+) -> Result<TextDocumentContentChangeEvent, AllocError> {
+    let range = if len > scale.longest {
+        None
+    } else {
+        some_range(random, scale)
+    };
+    Ok(TextDocumentContentChangeEvent {
+        range,
+        range_length: None,
+        text: some_text(alloc, random, scale)?,
+    })
 }
 
 // So many changes both ways.
@@ -155,19 +158,13 @@ fn run(alloc: Global, seed: u64, changes: i32, scale: Scale) -> Result<(), RowEr
     let mut text = Vec::new(alloc);
     trial.same("opened", documents.open(URI, 0, String::new(alloc)), Ok(()));
     for version in 0..changes {
-        let range = if text.len() > scale.longest {
-            None
-        } else {
-            some_range(&mut random, scale)
-        };
-        let new = some_text(alloc, &mut random, scale)?;
+        let change = some_change(alloc, &mut random, scale, text.len())?;
         step(
             alloc,
             &mut documents,
             &mut text,
             version,
-            range,
-            new,
+            change,
             &mut trial,
         )?;
     }

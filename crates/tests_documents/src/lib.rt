@@ -5,6 +5,8 @@
 #[cfg(test)]
 mod changes;
 #[cfg(test)]
+mod events;
+#[cfg(test)]
 mod fuzz;
 #[cfg(test)]
 mod store;

@@ -1,8 +1,67 @@
 //! Which documents are open, and where positions are.
-use lsp_base::{Position, Range, TextDocumentContentChangeEvent};
-use lsp_documents::{ChangeError, Document, Documents, OpenError};
+use crate::events::{Change, events};
+use lsp_base::Position;
+use lsp_documents::{Document, Documents};
 use lsp_rows::{RowError, Trial};
 use std::alloc::{AllocError, Global};
+
+// What the editor tells, or what is asked, of the document of a URI.
+enum Call {
+    Open(&'static str, i32, &'static str),
+    // With that `rangeLength`.
+    Change(&'static str, i32, Option<u32>, &'static [Change]),
+    Close(&'static str),
+    Get(&'static str),
+}
+
+// Calls, and what they give: the version and the text of a document, or what `Debug` shows.
+const CALLS: &[(&str, Call, &str)] = &[
+    ("one is opened", Call::Open("file:///a", 5, "ab"), "Ok(())"),
+    (
+        "it is open",
+        Call::Open("file:///a", 6, "cd"),
+        "Err(AlreadyOpen)",
+    ),
+    ("the first stays", Call::Get("file:///a"), "5 ab"),
+    (
+        "another text of a URI",
+        Call::Open("file:///A", 1, "ef"),
+        "Ok(())",
+    ),
+    (
+        "a change",
+        Call::Change("file:///a", 4, None, &[(None, "gh")]),
+        "Ok(())",
+    ),
+    ("its version went back", Call::Get("file:///a"), "4 gh"),
+    (
+        "no change",
+        Call::Change("file:///a", 7, None, &[]),
+        "Ok(())",
+    ),
+    ("it has a version", Call::Get("file:///a"), "7 gh"),
+    (
+        "a bad range",
+        Call::Change("file:///a", 8, None, &[(Some((0, 2, 0, 1)), "x")]),
+        "Err(StartBehindEnd)",
+    ),
+    ("nothing changed", Call::Get("file:///a"), "7 gh"),
+    (
+        "a length that lies",
+        Call::Change("file:///a", 8, Some(99), &[(Some((0, 0, 0, 1)), "i")]),
+        "Ok(())",
+    ),
+    ("is ignored", Call::Get("file:///a"), "8 ih"),
+    ("the other stays", Call::Get("file:///A"), "1 ef"),
+    ("one is closed", Call::Close("file:///a"), "8 ih"),
+    ("it is not open", Call::Get("file:///a"), "none"),
+    ("nor is it closed again", Call::Close("file:///a"), "none"),
+    (
+        "nor changed",
+        Call::Change("file:///a", 9, None, &[(None, "gh")]),
+        "Err(NotOpen)",
+    ),
+];
 
 fn shown(alloc: Global, document: Option<&Document>) -> Result<String, AllocError> {
     match document {
@@ -15,144 +74,88 @@ fn shown(alloc: Global, document: Option<&Document>) -> Result<String, AllocErro
     }
 }
 
+fn try_call(
+    trial: &mut Trial,
+    alloc: Global,
+    documents: &mut Documents,
+    (what, call, gives): &(&str, Call, &str),
+) -> Result<(), AllocError> {
+    match call {
+        Call::Open(uri, version, text) => {
+            let text = String::from_str(alloc, text)?;
+            trial.shows(*what, documents.open(uri, *version, text), gives);
+        }
+        Call::Change(uri, version, range_length, changes) => {
+            let changes = events(alloc, changes, *range_length)?;
+            let changed = documents.change(uri, *version, changes.as_slice());
+            trial.shows(*what, changed, gives);
+        }
+        Call::Close(uri) => {
+            let closed = documents.close(uri);
+            trial.text(*what, shown(alloc, closed.as_ref()), gives);
+        }
+        Call::Get(uri) => trial.text(*what, shown(alloc, documents.get(uri)), gives),
+    }
+    Ok(())
+}
+
 #[test]
 fn documents_are_opened_changed_and_closed(rt: HostRuntime) -> Result<(), RowError> {
-    let alloc = rt.alloc();
-    let mut trial = Trial::new(alloc);
-    let mut documents = Documents::new(alloc);
-    let first = String::from_str(alloc, "ab")?;
-    let second = String::from_str(alloc, "cd")?;
-    let other = String::from_str(alloc, "ef")?;
-    let whole = [TextDocumentContentChangeEvent {
-        range: None,
-        range_length: None,
-        text: String::from_str(alloc, "gh")?,
-    }];
-    let behind = [TextDocumentContentChangeEvent {
-        range: Some(Range::new(Position::new(0, 2), Position::new(0, 1))),
-        range_length: None,
-        text: String::from_str(alloc, "x")?,
-    }];
-    let lies = [TextDocumentContentChangeEvent {
-        range: Some(Range::new(Position::new(0, 0), Position::new(0, 1))),
-        range_length: Some(99),
-        text: String::from_str(alloc, "i")?,
-    }];
-    trial.same(
-        "one is opened",
-        documents.open("file:///a", 5, first),
-        Ok(()),
-    );
-    trial.same(
-        "it is open",
-        documents.open("file:///a", 6, second),
-        Err(OpenError::AlreadyOpen),
-    );
-    trial.text(
-        "the first stays",
-        shown(alloc, documents.get("file:///a")),
-        "5 ab",
-    );
-    trial.same(
-        "another text of a URI",
-        documents.open("file:///A", 1, other),
-        Ok(()),
-    );
-    trial.same("a change", documents.change("file:///a", 4, &whole), Ok(()));
-    trial.text(
-        "its version went back",
-        shown(alloc, documents.get("file:///a")),
-        "4 gh",
-    );
-    trial.same("no change", documents.change("file:///a", 7, &[]), Ok(()));
-    trial.text(
-        "it has a version",
-        shown(alloc, documents.get("file:///a")),
-        "7 gh",
-    );
-    let refused = Err(ChangeError::StartBehindEnd);
-    trial.same(
-        "a bad range",
-        documents.change("file:///a", 8, &behind),
-        refused,
-    );
-    trial.text(
-        "nothing changed",
-        shown(alloc, documents.get("file:///a")),
-        "7 gh",
-    );
-    trial.same(
-        "a length that lies",
-        documents.change("file:///a", 8, &lies),
-        Ok(()),
-    );
-    trial.text(
-        "is ignored",
-        shown(alloc, documents.get("file:///a")),
-        "8 ih",
-    );
-    trial.text(
-        "the other stays",
-        shown(alloc, documents.get("file:///A")),
-        "1 ef",
-    );
-    trial.is_true("one is closed", documents.close("file:///a").is_some());
-    trial.text(
-        "it is not open",
-        shown(alloc, documents.get("file:///a")),
-        "none",
-    );
-    trial.is_true(
-        "nor is it closed again",
-        documents.close("file:///a").is_none(),
-    );
-    let unknown = Err(ChangeError::NotOpen);
-    trial.same(
-        "nor changed",
-        documents.change("file:///a", 9, &whole),
-        unknown,
-    );
+    let mut trial = Trial::new(rt.alloc());
+    let mut documents = Documents::new(rt.alloc());
+    for row in CALLS {
+        try_call(&mut trial, rt.alloc(), &mut documents, row)?;
+    }
     trial.end()
+}
+
+const TEXT: &str = "aé😀b\r\ncd\n";
+
+// Lines and characters, and the bytes at which they are.
+const OFFSETS: &[(&str, (u32, u32), usize)] = &[
+    ("behind two bytes", (0, 2), 3),
+    ("in a pair", (0, 3), 3),
+    ("behind a pair", (0, 4), 7),
+    ("past the line", (0, 9), 8),
+    ("the next line", (1, 1), 11),
+    ("the last line", (2, 0), 13),
+];
+
+// Bytes, and the lines and characters that begin there.
+const POSITIONS: &[(&str, usize, Option<(u32, u32)>)] = &[
+    ("the byte of a pair", 3, Some((0, 2))),
+    ("in a character", 4, None),
+    ("before CR LF", 8, Some((0, 5))),
+    ("between CR and LF", 9, Some((0, 6))),
+    ("behind CR LF", 10, Some((1, 0))),
+    ("the end", 13, Some((2, 0))),
+    ("past the end", 14, None),
+];
+
+fn numbers(position: Option<Position>) -> Option<(u32, u32)> {
+    let position = position?;
+    Some((position.line, position.character))
+}
+
+fn try_places(trial: &mut Trial, document: &Document) {
+    for (what, (line, character), offset) in OFFSETS {
+        let found = document.offset(Position::new(*line, *character));
+        trial.same(*what, found, *offset);
+    }
+    for (what, offset, expected) in POSITIONS {
+        trial.same(*what, numbers(document.position(*offset)), *expected);
+    }
 }
 
 #[test]
 fn positions_are_found(rt: HostRuntime) -> Result<(), RowError> {
-    let alloc = rt.alloc();
-    let mut trial = Trial::new(alloc);
-    let mut documents = Documents::new(alloc);
-    let text = String::from_str(alloc, "aé😀b\r\ncd\n")?;
+    let mut trial = Trial::new(rt.alloc());
+    let mut documents = Documents::new(rt.alloc());
+    let text = String::from_str(rt.alloc(), TEXT)?;
     trial.same("opened", documents.open("file:///a", 1, text), Ok(()));
-    let Some(document) = documents.get("file:///a") else {
-        return trial.end();
-    };
-    trial.same("behind two bytes", document.offset(Position::new(0, 2)), 3);
-    trial.same("in a pair", document.offset(Position::new(0, 3)), 3);
-    trial.same("behind a pair", document.offset(Position::new(0, 4)), 7);
-    trial.same("past the line", document.offset(Position::new(0, 9)), 8);
-    trial.same("the next line", document.offset(Position::new(1, 1)), 11);
-    trial.same("the last line", document.offset(Position::new(2, 0)), 13);
-    trial.same(
-        "the byte of a pair",
-        document.position(3),
-        Some(Position::new(0, 2)),
-    );
-    trial.same("in a character", document.position(4), None);
-    trial.same(
-        "before CR LF",
-        document.position(8),
-        Some(Position::new(0, 5)),
-    );
-    trial.same(
-        "between CR and LF",
-        document.position(9),
-        Some(Position::new(0, 6)),
-    );
-    trial.same(
-        "behind CR LF",
-        document.position(10),
-        Some(Position::new(1, 0)),
-    );
-    trial.same("the end", document.position(13), Some(Position::new(2, 0)));
-    trial.same("past the end", document.position(14), None);
+    match documents.get("file:///a") {
+        Some(document) => try_places(&mut trial, document),
+        None => trial.is_true("it is open", false),
+    }
     trial.end()
 }

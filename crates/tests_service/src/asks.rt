@@ -3,6 +3,7 @@ use crate::served::{frames, served};
 use lsp_asks::asks_service;
 use lsp_desk::PlainDesk;
 use lsp_rows::{RowError, Trial};
+use std::alloc::Global;
 
 const SENT: &[&str] = &[
     r#"{"jsonrpc":"2.0","method":"initialize","params":{"capabilities":{}},"id":1}"#,
@@ -49,13 +50,17 @@ const WRITTEN: &[(usize, &str)] = &[
     (38, r#"{"jsonrpc":"2.0","result":null,"id":4}"#),
 ];
 
+// What a session of that server writes.
+fn written(alloc: Global) -> Result<String, RowError> {
+    let (service, socket) = asks_service(alloc, PlainDesk::new(alloc))?;
+    served(alloc, service, socket, SENT)
+}
+
 #[test]
 fn each_of_its_calls(rt: HostRuntime) -> Result<(), RowError> {
     let alloc = rt.alloc();
-    let mut trial = Trial::new(alloc);
-    let (service, socket) = asks_service(alloc, PlainDesk::new(alloc))?;
     let expected = frames(alloc, WRITTEN)?;
-    let written = served(alloc, service, socket, SENT);
-    trial.text("a session", written, &expected);
+    let mut trial = Trial::new(alloc);
+    trial.text("a session", written(alloc), &expected);
     trial.end()
 }

@@ -1,16 +1,29 @@
-//! Tries servers of one's own, over a service, by the bytes that they write.
+//! Tries sessions of services, by the bytes that they write, and threads beside them.
 //!
-//! Only what no clause says: that `NoMemory` isn't answered where memory is ample, and rows that
-//! show that the definitions say what is meant.
+//! Only what no clause says: that memory and threads which are ample are used, that threads beside a
+//! session have their turns, that a client's message goes out while a read waits, and rows that show
+//! that the definitions say what is meant.
 #![tactic(auto)]
 
 #[cfg(test)]
 mod asks;
 #[cfg(test)]
+mod callers;
+#[cfg(test)]
+mod client;
+#[cfg(test)]
+mod folders;
+#[cfg(test)]
+mod idle;
+#[cfg(test)]
 mod made;
+#[cfg(test)]
+mod pump_rows;
 #[cfg(test)]
 mod replies;
 #[cfg(test)]
 mod served;
 #[cfg(test)]
 mod strange;
+#[cfg(test)]
+mod turns;

@@ -38,22 +38,30 @@ pub(crate) fn make_service(alloc: Global) -> Result<Made, RowError>
 
 #[test]
 fn custom_methods_are_numbered(rt: HostRuntime) -> Result<(), RowError> {
-    let mut trial = Trial::new(rt.alloc());
     let made = make_service(rt.alloc())?;
-    trial.same("their numbers", made.numbers, [0, 1]);
+    let numbers = made.numbers;
+    drop(made);
+    let mut trial = Trial::new(rt.alloc());
+    trial.same("their numbers", numbers, [0, 1]);
     trial.end()
+}
+
+// A socket whose session has ended.
+fn exited_socket(alloc: Global) -> ClientSocket<PlainDesk> {
+    let mut desk = PlainDesk::new(alloc);
+    let _ = desk.server(ServerCall::Rise(Life::Exited));
+    ClientSocket::new(desk)
 }
 
 #[test]
 fn a_service_is_ready_until_exit(rt: HostRuntime) -> Result<(), RowError> {
     let alloc = rt.alloc();
-    let mut trial = Trial::new(alloc);
     let mut made = make_service(alloc)?;
-    let ready = made.service.poll_ready(&mut made.socket);
-    trial.shows("at first", ready, "Ok(Ready(Ok(())))");
-    let mut desk = PlainDesk::new(alloc);
-    let _ = desk.server(ServerCall::Rise(Life::Exited));
-    let ready = made.service.poll_ready(&mut ClientSocket::new(desk));
-    trial.shows("after exit", ready, "Ok(Ready(Err(ExitedError)))");
+    let at_first = made.service.poll_ready(&mut made.socket);
+    let after_exit = made.service.poll_ready(&mut exited_socket(alloc));
+    drop(made);
+    let mut trial = Trial::new(alloc);
+    trial.shows("at first", at_first, "Ok(Ready(Ok(())))");
+    trial.shows("after exit", after_exit, "Ok(Ready(Err(ExitedError)))");
     trial.end()
 }

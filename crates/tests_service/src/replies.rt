@@ -2,6 +2,7 @@
 use crate::made::make_service;
 use crate::served::{frames, served};
 use lsp_rows::{RowError, Trial};
+use std::alloc::Global;
 
 const INITIALIZE: &str =
     r#"{"jsonrpc":"2.0","method":"initialize","params":{"capabilities":{}},"id":1}"#;
@@ -130,15 +131,19 @@ const ROWS: &[Row] = &[
     },
 ];
 
+// What a session of the strange server writes.
+fn written(alloc: Global, sent: &[&str]) -> Result<String, RowError> {
+    let made = make_service(alloc)?;
+    served(alloc, made.service, made.socket, sent)
+}
+
 #[test]
 fn replies(rt: HostRuntime) -> Result<(), RowError> {
     let alloc = rt.alloc();
     let mut trial = Trial::new(alloc);
     for row in ROWS {
-        let made = make_service(alloc)?;
         let expected = frames(alloc, row.written)?;
-        let written = served(alloc, made.service, made.socket, row.sent);
-        trial.text(row.name, written, &expected);
+        trial.text(row.name, written(alloc, row.sent), &expected);
     }
     trial.end()
 }

@@ -1,9 +1,12 @@
 // A session of a server, from the bodies that its editor sends to the bytes that it is sent.
+ghost use Rattle.std.specs.Prelude.{IfOk};
 ghost use Rattle.lsp_desk.specs.Meaning.{IsOpening};
 ghost use Rattle.lsp_desk.specs.Plain.{plain_meaning};
 
 use lsp_desk::{ClientSocket, PlainDesk};
 use lsp_rows::RowError;
+use lsp_rpc::NoMemory;
+use lsp_sample_server::{Sample, sample_service};
 use lsp_server::Server;
 use lsp_service::{LanguageServer, LspService, serve_stdio};
 use std::alloc::{AllocError, Global};
@@ -18,8 +21,8 @@ pub(crate) fn frames(alloc: Global, bodies: &[(usize, &str)]) -> Result<String, 
     Ok(frames)
 }
 
-// The same, of the lengths that they have.
-fn sent(alloc: Global, bodies: &[&str]) -> Result<Vec<u8>, AllocError> {
+/// The same, of the lengths that they have.
+pub(crate) fn framed(alloc: Global, bodies: &[&str]) -> Result<Vec<u8>, AllocError> {
     let mut bytes = Vec::new(alloc);
     for body in bodies {
         let head = format!(in alloc; "Content-Length: {}\r\n\r\n", body.len())?;
@@ -27,6 +30,18 @@ fn sent(alloc: Global, bodies: &[&str]) -> Result<Vec<u8>, AllocError> {
         bytes.extend_from_slice(body.as_bytes())?;
     }
     Ok(bytes)
+}
+
+/// A service of the sample over a desk of its own.
+pub(crate) fn new_sample(
+    alloc: Global,
+) -> Result<(LspService<Sample>, ClientSocket<PlainDesk>), NoMemory>
+    ensures { IfOk result (λ made. IsOpening plain_meaning made.1.desk) }
+{
+    match sample_service(alloc, PlainDesk::new(alloc)) {
+        Ok(made) => Ok(made),
+        Err(_) => Err(NoMemory),
+    }
 }
 
 /// What a session of the service writes, from its beginning to the end of these bodies.
@@ -38,7 +53,7 @@ pub(crate) fn served<S: LanguageServer<PlainDesk>>(
 ) -> Result<String, RowError>
     requires { IsOpening plain_meaning socket.desk }
 {
-    let bytes = sent(alloc, bodies)?;
+    let bytes = framed(alloc, bodies)?;
     let mut written = Vec::new(alloc);
     let _ = serve_stdio(
         alloc,

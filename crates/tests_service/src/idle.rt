@@ -1,35 +1,23 @@
-//! A client's message goes out while a read waits.
-ghost use Rattle.std.specs.Prelude.{◌≡◌, None, false, IfOk, take};
-ghost use Rattle.lsp_desk.specs.Call.{call_has_float};
+// A client's message goes out while a read waits.
+ghost use Rattle.std.specs.Prelude.{◌≡◌, None, false, take};
 ghost use Rattle.lsp_desk.specs.Meaning.{IsOpening};
-ghost use Rattle.lsp_desk.specs.Shown.{show_client_call};
 ghost use Rattle.lsp_shared.specs.Desks.{desk_id, rested_desk, rested_view};
 ghost use Rattle.lsp_shared.specs.Seats.{seat_meaning};
 
+use crate::client::{NOTE, OWN, comes_to, send_at};
 use lsp_callers::Plan;
-use lsp_desk::{Caller, ClientCall, ClientReply};
 use lsp_program::Status;
 use lsp_rows::{RowError, Trial};
 use lsp_rpc::NoMemory;
 use lsp_sample_server::sample_service;
 use lsp_server::{Failed, Refused, Server, Sink, Source};
 use lsp_service::pump;
-use lsp_shared::{DeskOwner, Rested, SharedClient, SharedDesk};
-use serde_json::Value;
+use lsp_shared::{DeskOwner, Rested, SharedDesk};
 use std::alloc::{AllocError, Global};
 use std::str;
 use std::sync::atomic::{AtomicU64, Ordering};
 use std::sync::{Arc, Wait};
-use std::thread::{Threads, join, yield_now};
-
-// How often one thread looks for what another does.
-const LOOKS: u64 = 100_000_000;
-
-const NOTE: &str =
-    "Content-Length: 52\r\n\r\n{\"jsonrpc\":\"2.0\",\"method\":\"initialized\",\"params\":{}}";
-
-// The method of the client's message.
-const OWN: &str = "window/own";
+use std::thread::{Threads, join};
 
 // What has come about: the second read has begun, the client's message is in the sink, and the second
 // read saw that.
@@ -39,25 +27,14 @@ const WRITTEN: u64 = 2;
 
 const SEEN: u64 = 3;
 
-// Whether it came to this within many looks.
-fn comes_to(stage: &AtomicU64, wanted: u64) -> bool {
-    for _ in 0..LOOKS {
-        if stage.load(Ordering::SeqCst) >= wanted {
-            return true;
-        }
-        yield_now();
-    }
-    false
-}
-
 /// Gives a message, and ends only when the client's message is in the sink.
 #[derive(Drop)]
-struct Patient {
+struct Silent {
     begun: bool,
     stage: Arc<AtomicU64, Global>,
 }
 
-impl Source for Patient {
+impl Source for Silent {
     ghost left = { λ _. None };
 
     ghost faults = { λ _. 0 };
@@ -104,38 +81,11 @@ impl<'a> Sink for Watched<'a> {
     }
 }
 
-fn own_message(alloc: Global) -> Result<ClientCall, NoMemory>
-    ensures { IfOk result (λ call. call_has_float (show_client_call call) ≡ false) }
-{
-    Ok(ClientCall::Tell {
-        method: String::from_str(alloc, OWN)?,
-        params: Value::Null,
-        gated: false,
-    })
-}
-
-// Sends one message once the second read has begun.
-fn send<R: Wait + Sync>(
-    rt: &R,
-    desk: &SharedDesk,
-    client: Rested,
-    plan: Plan,
-    stage: &AtomicU64,
-) -> bool
-    requires { (rested_desk client ≡ desk_id desk.now) × ((rested_view client).owner ≡ false) }
-{
-    let mut client = SharedClient::sit(rt, desk, client);
-    let Ok(call) = own_message(plan.alloc) else {
-        return false;
-    };
-    comes_to(stage, READING) && matches!(client.client(call), Ok(ClientReply::Sent))
-}
-
-fn serve<R: Threads + Wait + Sync>(
+fn pump_silent<R: Threads + Wait + Sync>(
     rt: &R,
     alloc: Global,
     owner: DeskOwner<'_, R>,
-    source: Patient,
+    source: Silent,
     stage: &AtomicU64,
 ) -> bool
     requires { IsOpening seat_meaning owner }
@@ -155,7 +105,7 @@ fn beside<R: Threads + Wait + Sync>(
     owner: DeskOwner<'_, R>,
     client: Rested,
     plan: Plan,
-    source: Patient,
+    source: Silent,
     stage: &AtomicU64,
 ) -> bool
     requires opening { IsOpening seat_meaning owner }
@@ -167,15 +117,16 @@ fn beside<R: Threads + Wait + Sync>(
         || -> bool
             requires { (rested_desk client ≡ desk_id desk.now)
                 × ((rested_view client).owner ≡ false) }
-        { send(rt, desk, client, plan, stage) },
+        { send_at(rt, desk, client, plan, stage, READING) },
         || -> bool
             requires { IsOpening seat_meaning owner }
-        { serve(rt, plan.alloc, owner, source, stage) },
+        { pump_silent(rt, plan.alloc, owner, source, stage) },
     );
     told && served
 }
 
-fn talk<R: Threads + Wait + Sync>(
+// Serves, and sends a message from another thread meanwhile.
+fn pump_beside<R: Threads + Wait + Sync>(
     rt: &R,
     alloc: Global,
     stage: &Arc<AtomicU64, Global>,
@@ -184,7 +135,7 @@ fn talk<R: Threads + Wait + Sync>(
     let mut owner = desk.owner(rt, seat);
     let client = owner.split()?.rest();
     let plan = Plan { alloc, messages: 1 };
-    let source = Patient {
+    let source = Silent {
         begun: false,
         stage: Arc::try_clone(stage)?,
     };
@@ -199,8 +150,9 @@ fn new_stage(alloc: Global) -> Result<Arc<AtomicU64, Global>, AllocError> {
 fn idle_output(rt: HostRuntime) -> Result<(), RowError> {
     let alloc = rt.alloc();
     let stage = new_stage(alloc)?;
+    let served = pump_beside(&rt, alloc, &stage)?;
     let mut trial = Trial::new(alloc);
-    trial.is_true("served", talk(&rt, alloc, &stage)?);
+    trial.is_true("served", served);
     trial.same(
         "written before the read returned",
         stage.load(Ordering::SeqCst),

@@ -1,12 +1,15 @@
-//! Callers that talk beside one another.
+// Callers that talk beside one another.
 use lsp_rows::{RowError, Trial};
+use lsp_rpc::NoMemory;
 use lsp_server::MemorySink;
 use lsp_shared::SharedDesk;
 use lsp_talk::{Gate, Open, talk_with};
 use std::alloc::Global;
 use std::hint::spin_loop;
 use std::str;
+use std::sync::Wait;
 use std::sync::atomic::{AtomicU64, Ordering};
+use std::thread::Threads;
 
 // How often the first caller looks whether the second has come.
 const LOOKS: u64 = 100_000_000;
@@ -69,24 +72,46 @@ fn callers_beside(rt: HostRuntime) -> Result<(), RowError> {
 }
 
 // Clones, messages, and the line.
-const TALKS: [(u64, u64, &str); 4] = [
+const TALKS: &[(u64, u64, &str)] = &[
     (1, 0, "sent 0 delivered 0\n"),
     (1, 1, "sent 1 delivered 1\n"),
     (3, 7, "sent 21 delivered 21\n"),
     (4, 1000, "sent 4000 delivered 4000\n"),
 ];
 
+// Tries that a talk of so many clones and messages, which are within its bounds, writes that line.
+fn try_talk<R: Threads + Wait + Sync>(
+    rt: &R,
+    trial: &mut Trial,
+    alloc: Global,
+    clones: u64,
+    messages: u64,
+    line: &str,
+) -> Result<(), NoMemory> {
+    let (desk, seat) = SharedDesk::new(alloc)?;
+    let mut sink = MemorySink::new(alloc, Vec::new(alloc));
+    let owner = desk.owner(rt, seat);
+    let (status, owner) = talk_with(
+        rt,
+        alloc,
+        clones.min(4),
+        messages.min(1000),
+        owner,
+        &Open,
+        &mut sink,
+    );
+    drop(owner);
+    trial.same(line, status, 0);
+    trial.same(line, str::from_utf8(sink.bytes()), Ok(line));
+    Ok(())
+}
+
 #[test]
 fn lines(rt: HostRuntime) -> Result<(), RowError> {
     let alloc = rt.alloc();
     let mut trial = Trial::new(alloc);
     for (clones, messages, line) in TALKS {
-        let (desk, seat) = SharedDesk::new(alloc)?;
-        let mut sink = MemorySink::new(alloc, Vec::new(alloc));
-        let owner = desk.owner(&rt, seat);
-        let (status, _) = talk_with(&rt, alloc, clones, messages, owner, &Open, &mut sink);
-        trial.same(line, status, 0);
-        trial.same(line, str::from_utf8(sink.bytes()), Ok(line));
+        try_talk(&rt, &mut trial, alloc, *clones, *messages, *line)?;
     }
     trial.end()
 }

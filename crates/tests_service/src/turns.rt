@@ -1,45 +1,34 @@
-//! A client's thread has its turn while the session serves.
-ghost use Rattle.std.specs.Prelude.{◌≡◌, None, false, IfOk};
-ghost use Rattle.lsp_desk.specs.Call.{call_has_float};
+// A client's thread has its turn while the session serves.
+ghost use Rattle.std.specs.Prelude.{◌≡◌, None, false};
 ghost use Rattle.lsp_desk.specs.Meaning.{IsOpening};
-ghost use Rattle.lsp_desk.specs.Shown.{show_client_call};
 ghost use Rattle.lsp_shared.specs.Desks.{desk_id, rested_desk, rested_view};
 ghost use Rattle.lsp_shared.specs.Seats.{seat_meaning};
 
+use crate::client::{NOTE, OWN, comes_to, send_at};
 use lsp_callers::Plan;
-use lsp_desk::{Caller, ClientCall, ClientReply};
+use lsp_program::Status;
 use lsp_rows::{RowError, Trial};
 use lsp_rpc::NoMemory;
 use lsp_sample_server::sample_service;
 use lsp_server::{Failed, MemorySink, Server, Source};
-use lsp_service::serve_session;
-use lsp_session::InOrder;
-use lsp_shared::{DeskOwner, Rested, SharedClient, SharedDesk};
-use serde_json::Value;
+use lsp_service::serve;
+use lsp_shared::{DeskOwner, Rested, SharedDesk};
 use std::alloc::Global;
 use std::str;
 use std::sync::Wait;
 use std::sync::atomic::{AtomicU64, Ordering};
-use std::thread::{Threads, join, yield_now};
+use std::thread::{Threads, join};
 
-// How many reads give a message, and how often one waits for the client's.
+// How many reads give a message.
 const READS: u64 = 200;
-
-const WAITS: u64 = 100_000;
-
-const NOTE: &str =
-    "Content-Length: 52\r\n\r\n{\"jsonrpc\":\"2.0\",\"method\":\"initialized\",\"params\":{}}";
 
 // What comes last is answered.
 const LAST: &str = "Content-Length: 41\r\n\r\n{\"jsonrpc\":\"2.0\",\"method\":\"last\",\"id\":70}";
 
 const LAST_ID: &str = "\"id\":70";
 
-// The method of the client's message.
-const OWN: &str = "window/own";
-
-// What is added to the steps when the session has served its first message, and when the client was
-// answered after that.
+// What is added to the stage when the session has served its first message, and when the client was
+// answered.
 const SERVED: u64 = 1;
 
 const SENT: u64 = 2;
@@ -49,7 +38,7 @@ const SENT: u64 = 2;
 #[derive(Drop)]
 struct Patient<'a> {
     left: u64,
-    steps: &'a AtomicU64,
+    stage: &'a AtomicU64,
 }
 
 impl<'a> Source for Patient<'a> {
@@ -63,36 +52,16 @@ impl<'a> Source for Patient<'a> {
         }
         self.left -= 1;
         if self.left == READS - 2 {
-            self.steps.fetch_add(SERVED, Ordering::SeqCst);
+            self.stage.fetch_add(SERVED, Ordering::SeqCst);
         }
         if self.left < READS - 1 {
-            await_step(self.steps, SENT);
+            comes_to(self.stage, SENT);
         }
         let frame = if self.left == 0 { LAST } else { NOTE };
         let n = frame.len().min(piece.len());
         piece[..n].copy_from_slice(&frame.as_bytes()[..n]);
         Ok(n)
     }
-}
-
-// Waits until the steps come to this one, or long enough.
-fn await_step(steps: &AtomicU64, step: u64) {
-    for _ in 0..WAITS {
-        if steps.load(Ordering::SeqCst) >= step {
-            return;
-        }
-        yield_now();
-    }
-}
-
-fn own_message(alloc: Global) -> Result<ClientCall, NoMemory>
-    ensures { IfOk result (λ call. call_has_float (show_client_call call) ≡ false) }
-{
-    Ok(ClientCall::Tell {
-        method: String::from_str(alloc, OWN)?,
-        params: Value::Null,
-        gated: false,
-    })
 }
 
 // Whether the client's message was written before the answer to what comes last.
@@ -112,40 +81,27 @@ fn send<R: Wait + Sync>(
     desk: &SharedDesk,
     client: Rested,
     plan: Plan,
-    steps: &AtomicU64,
+    stage: &AtomicU64,
 ) -> bool
     requires { (rested_desk client ≡ desk_id desk.now) × ((rested_view client).owner ≡ false) }
 {
-    let mut client = SharedClient::sit(rt, desk, client);
-    let Ok(call) = own_message(plan.alloc) else {
-        return false;
-    };
-    await_step(steps, SERVED);
-    let told = matches!(client.client(call), Ok(ClientReply::Sent));
-    steps.fetch_add(SENT, Ordering::SeqCst);
+    let told = send_at(rt, desk, client, plan, stage, SERVED);
+    stage.fetch_add(SENT, Ordering::SeqCst);
     told
 }
 
 // Serves, and says whether the client's message was written in time.
-fn serve<R: Wait + Sync>(alloc: Global, owner: DeskOwner<'_, R>, steps: &AtomicU64) -> bool
+fn serve_patient<R: Wait + Sync>(alloc: Global, owner: DeskOwner<'_, R>, stage: &AtomicU64) -> bool
     requires { IsOpening seat_meaning owner }
 {
     let Ok((service, socket)) = sample_service(alloc, owner) else {
         return false;
     };
-    let mut source = Patient { left: READS, steps };
+    let server = Server::new(socket);
+    let mut source = Patient { left: READS, stage };
     let mut sink = MemorySink::new(alloc, Vec::new(alloc));
-    let served = serve_session(
-        alloc,
-        &mut source,
-        &mut sink,
-        service,
-        Server::new(socket),
-        &mut InOrder,
-        u64::MAX,
-        8,
-    );
-    served.is_ok() && is_before_last(sink.bytes())
+    let status = serve(alloc, &mut source, &mut sink, service, server, 8);
+    status == Status::Unfinished as u8 && is_before_last(sink.bytes())
 }
 
 // Serves, and sends a message from another thread meanwhile.
@@ -153,9 +109,9 @@ fn serve_beside<R: Threads + Wait + Sync>(rt: &R, alloc: Global) -> Result<bool,
     let (desk, seat) = SharedDesk::new(alloc)?;
     let mut owner = desk.owner(rt, seat);
     let client = owner.split()?.rest();
-    let steps = AtomicU64::new(0);
+    let stage = AtomicU64::new(0);
     let plan = Plan { alloc, messages: 1 };
-    Ok(beside(rt, &desk, owner, client, plan, &steps))
+    Ok(beside(rt, &desk, owner, client, plan, &stage))
 }
 
 fn beside<R: Threads + Wait + Sync>(
@@ -164,7 +120,7 @@ fn beside<R: Threads + Wait + Sync>(
     owner: DeskOwner<'_, R>,
     client: Rested,
     plan: Plan,
-    steps: &AtomicU64,
+    stage: &AtomicU64,
 ) -> bool
     requires opening { IsOpening seat_meaning owner }
     requires seat { (rested_desk client ≡ desk_id desk.now)
@@ -175,10 +131,10 @@ fn beside<R: Threads + Wait + Sync>(
         || -> bool
             requires { (rested_desk client ≡ desk_id desk.now)
                 × ((rested_view client).owner ≡ false) }
-        { send(rt, desk, client, plan, steps) },
+        { send(rt, desk, client, plan, stage) },
         || -> bool
             requires { IsOpening seat_meaning owner }
-        { serve(plan.alloc, owner, steps) },
+        { serve_patient(plan.alloc, owner, stage) },
     );
     told && served
 }
@@ -186,7 +142,8 @@ fn beside<R: Threads + Wait + Sync>(
 #[test]
 fn turns_while_serving(rt: HostRuntime) -> Result<(), RowError> {
     let alloc = rt.alloc();
+    let is_in_time = serve_beside(&rt, alloc)?;
     let mut trial = Trial::new(alloc);
-    trial.is_true("written while it serves", serve_beside(&rt, alloc)?);
+    trial.is_true("written while it serves", is_in_time);
     trial.end()
 }

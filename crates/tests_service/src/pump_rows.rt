@@ -1,13 +1,13 @@
-//! Sessions with their bytes: what `pump` writes is what `serve` writes, where no call waits.
+// Sessions with their bytes: what `pump` writes is what `serve` writes, where no call waits.
 ghost use Rattle.lsp_desk.specs.Meaning.{IsOpening};
 ghost use Rattle.lsp_desk.specs.Plain.{plain_meaning};
 ghost use Rattle.lsp_server.specs.ServerView.{server_desk};
 
+use crate::served::{framed, new_sample};
 use lsp_desk::{ClientSocket, PlainDesk};
 use lsp_frame::{Floats, Limits};
 use lsp_rows::{RowError, Trial};
 use lsp_rpc::NoMemory;
-use lsp_sample_server::sample_service;
 use lsp_server::{NeverSink, NeverSource, Server};
 use lsp_service::{pump, serve};
 use std::alloc::Global;
@@ -97,17 +97,6 @@ const ROWS: &[Row] = &[
 // How many bytes a read gives.
 const CUTS: &[usize] = &[1, 2, 7, 100, 4096];
 
-fn framed(alloc: Global, bodies: &[&str]) -> Result<Vec<u8>, NoMemory> {
-    let mut frames = Vec::new(alloc);
-    for body in bodies {
-        let length = body.len();
-        let head = format!(in alloc; "Content-Length: {length}\r\n\r\n")?;
-        frames.extend_from_slice(head.as_str().as_bytes())?;
-        frames.extend_from_slice(body.as_bytes())?;
-    }
-    Ok(frames)
-}
-
 fn new_server(socket: ClientSocket<PlainDesk>, row: &Row) -> Server<PlainDesk>
     requires { IsOpening plain_meaning socket.desk }
     ensures { IsOpening plain_meaning (server_desk result) }
@@ -138,12 +127,10 @@ fn tell(alloc: Global, status: u8, sink: &NeverSink) -> Result<Told, NoMemory> {
 }
 
 fn serve_row(alloc: Global, row: &Row) -> Result<Told, NoMemory> {
-    let mut sink = NeverSink::new(alloc);
     let mut source = NeverSource::new(framed(alloc, row.sent)?, 4096);
-    let Ok((service, socket)) = sample_service(alloc, PlainDesk::new(alloc)) else {
-        return Err(NoMemory);
-    };
+    let (service, socket) = new_sample(alloc)?;
     let server = new_server(socket, row);
+    let mut sink = NeverSink::new(alloc);
     let status = serve(alloc, &mut source, &mut sink, service, server, 8);
     tell(alloc, status, &sink)
 }
@@ -154,12 +141,10 @@ fn pump_row<R: Threads + Wait>(
     row: &Row,
     cut: usize,
 ) -> Result<Told, NoMemory> {
-    let mut sink = NeverSink::new(alloc);
     let source = NeverSource::new(framed(alloc, row.sent)?, cut.max(1));
-    let Ok((service, socket)) = sample_service(alloc, PlainDesk::new(alloc)) else {
-        return Err(NoMemory);
-    };
+    let (service, socket) = new_sample(alloc)?;
     let server = new_server(socket, row);
+    let mut sink = NeverSink::new(alloc);
     let (source, status) = pump(rt, alloc, source, &mut sink, service, server, 8);
     drop(source);
     tell(alloc, status, &sink)
