@@ -3,7 +3,7 @@ use Rattle.std.proofs.Common.{◌≡◌, ◌==◌, ℕ, zero, suc, ◌+◌, ◌�
 use Rattle.std.specs.Prelude.{is_none}
 use Rattle.std.specs.List.{list_any, slice_split, onto_first}
 use Rattle.std.specs.Str.Lines.{lines, lines_of_parts, strip_carriage_return}
-use Rattle.std.proofs.lemmas.Bool.{eqb-true}
+use Rattle.std.proofs.lemmas.Bool.{eqb-true, eq-eqb}
 use Rattle.std.proofs.lemmas.List.{append-nil, map-append, take_all, take_more}
 use Rattle.std.proofs.lemmas.List.Elements.{filter-append}
 use Rattle.std.proofs.lemmas.List.Folds.{list_any-append}
@@ -70,6 +70,11 @@ no_end bs none = subst HasNoEnd (take_all (length bs) bs (omega arith)) (passed_
 
 pub first_end : (bs : List ℕ) (end : ℕ) → IsFirstByte (is_byte 10) bs (Some end) → HasNoEnd (take end bs)
 first_end bs end found = passed_over bs end (omega (arith, found.0.high)) found.0.before
+
+-- a line that is empty
+pub empty_end : (bs : List ℕ) → (length bs == 0) ≡ false → get_or bs 0 0 ≡ 10 → IsFirstByte (is_byte 10) bs (Some 0)
+empty_end [] some is = absurd (true≢false some)
+empty_end (b ∷ bs) some is = (record { low = omega arith; high = omega arith; before = λ k low high. absurd (omega (arith, high)) }, eq-eqb b 10 is)
 
 pub cut_at_end : (bs : List ℕ) (end : ℕ) → IsFirstByte (is_byte 10) bs (Some end) → (take end bs ++ 10 ∷ []) ++ drop (end + 1) bs ≡ bs
 cut_at_end bs end found =

@@ -45,27 +45,34 @@ module _ (q : QueryData) (before : List ℕ) (lines : Lines) (search : Search) (
       ∙ sym (graph_of-more (map (entry_data q.request) after.es) (map (entry_data q.request) t.es))
       ∙ ap graph_of (sym (map-append (entry_data q.request) after.es t.es))) took
 
-  -- the lines that end where an LF comes
-  ended_more : ended_lines [] (before ++ 10 ∷ []) ≡ ended_lines [] before ++ strip_carriage_return lines.part.items ∷ []
-  ended_more = ended-append [] before (10 ∷ []) ∙ ap (λ p. ended_lines [] before ++ strip_carriage_return p ∷ []) (sym after.part)
+  -- the last bytes of a line, and its LF
+  module _ (bytes : List ℕ) (none : HasNoEnd bytes) where
+    -- the lines that end where the LF comes
+    ended_more : ended_lines [] (before ++ (bytes ++ 10 ∷ [])) ≡ ended_lines [] before ++ strip_carriage_return (lines.part.items ++ bytes) ∷ []
+    ended_more =
+        ended-append [] before (bytes ++ 10 ∷ [])
+        ∙ ap (λ l. ended_lines [] before ++ l)
+        (ended-append (part_after [] before) bytes (10 ∷ [])
+        ∙ ap (λ l. l ++ ended_lines (part_after (part_after [] before) bytes) (10 ∷ [])) (ended_none (part_after [] before) bytes none)
+        ∙ ap (λ p. strip_carriage_return p ∷ []) (part_none (part_after [] before) bytes none ∙ ap (λ p. p ++ bytes) (sym after.part)))
 
-  -- the end of a line that is empty or an entry
-  pub took_line : (new : Search) → TookGood search (strip_carriage_return lines.part.items) new → (rest : Lines) → rest.part.items ≡ [] → IsAfter q (before ++ 10 ∷ []) (rest, new)
-  took_line new t rest empty = record {
-    query = ap show_query t.query ∙ after.query;
-    good = t.good ∙ after.good;
-    part = empty ∙ sym (part-append [] before (10 ∷ []));
-    es = after.es ++ t.es;
-    values = ap values_of ended_more ∙ values-append (ended_lines [] before) (strip_carriage_return lines.part.items ∷ [])
-        ∙ ap (λ l. l ++ values_of (strip_carriage_return lines.part.items ∷ [])) after.values ∙ ap (λ l. shown_all after.es ++ l) t.values ∙ sym (shown-append after.es t.es);
-    kept = kept_more (strip_carriage_return lines.part.items) new t;
-  }
+    -- of a line that is empty or an entry
+    pub took_line : (new : Search) → TookGood search (strip_carriage_return (lines.part.items ++ bytes)) new → (rest : Lines) → rest.part.items ≡ [] → IsAfter q (before ++ (bytes ++ 10 ∷ [])) (rest, new)
+    took_line new t rest empty = record {
+      query = ap show_query t.query ∙ after.query;
+      good = t.good ∙ after.good;
+      part = empty ∙ sym (part-append [] before (bytes ++ 10 ∷ []) ∙ part-append (part_after [] before) bytes (10 ∷ []));
+      es = after.es ++ t.es;
+      values = ap values_of ended_more ∙ values-append (ended_lines [] before) (strip_carriage_return (lines.part.items ++ bytes) ∷ [])
+          ∙ ap (λ l. l ++ values_of (strip_carriage_return (lines.part.items ++ bytes) ∷ [])) after.values ∙ ap (λ l. shown_all after.es ++ l) t.values ∙ sym (shown-append after.es t.es);
+      kept = kept_more (strip_carriage_return (lines.part.items ++ bytes)) new t;
+    }
 
-  -- the end of a bad line
-  pub took_bad : (new : Search) → TookBad search (strip_carriage_return lines.part.items) new → HasBadEnded (before ++ 10 ∷ [])
-  took_bad new t =
-      ap has_bad ended_more ∙ bad-append (ended_lines [] before) (strip_carriage_return lines.part.items ∷ [])
-      ∙ or_right (has_bad (ended_lines [] before)) (has_bad (strip_carriage_return lines.part.items ∷ [])) t.bad
+    -- of a bad line
+    pub took_bad : (new : Search) → TookBad search (strip_carriage_return (lines.part.items ++ bytes)) new → HasBadEnded (before ++ (bytes ++ 10 ∷ []))
+    took_bad new t =
+        ap has_bad ended_more ∙ bad-append (ended_lines [] before) (strip_carriage_return (lines.part.items ++ bytes) ∷ [])
+        ∙ or_right (has_bad (ended_lines [] before)) (has_bad (strip_carriage_return (lines.part.items ++ bytes) ∷ [])) t.bad
 
   -- ---- the last line, which has no end
 
@@ -107,17 +114,11 @@ took_then a b c xs ys false p r = (r.0, λ q before after. subst HasBadEnded (ap
 pub took_bad_then : (a b : Lines × Search) (xs ys : List ℕ) → TookBadIn a xs b → TookBadIn a (xs ++ ys) b
 took_bad_then a b xs ys t = (t.0, λ q before after. subst HasBadEnded (append_assoc before xs ys) (bad_stays (before ++ xs) ys (t.1 q before after)))
 
--- an LF, which ends a line that is good or isn't
-took_newline : (lines rest : Lines) (search new : Search) (good : Bool) → TookLine search (strip_carriage_return lines.part.items) good new → rest.part.items ≡ []
-    → TookBytes (lines, search) (10 ∷ []) good (rest, new)
-took_newline lines rest search new true t empty = λ q before after. took_line q before lines search after new t rest empty
-took_newline lines rest search new false t empty = (t.is_bad, λ q before after. took_bad q before lines search after new t)
-
--- the last bytes of a line, and its LF
-pub took_end : (lines grown rest : Lines) (search new : Search) (bytes : List ℕ) (good : Bool) → HasNoEnd bytes → grown.part.items ≡ lines.part.items ++ bytes
-    → TookLine search (strip_carriage_return grown.part.items) good new → rest.part.items ≡ [] → TookBytes (lines, search) (bytes ++ 10 ∷ []) good (rest, new)
-took_end lines grown rest search new bytes good none is t empty =
-    took_then (lines, search) (grown, search) (rest, new) bytes (10 ∷ []) good (λ q before after. took_part q before lines search after bytes none grown is) (took_newline grown rest search new good t empty)
+-- the last bytes of a line that is good or isn't, and its LF
+pub took_end : (lines rest : Lines) (search new : Search) (bytes : List ℕ) (good : Bool) → HasNoEnd bytes
+    → TookLine search (strip_carriage_return (lines.part.items ++ bytes)) good new → rest.part.items ≡ [] → TookBytes (lines, search) (bytes ++ 10 ∷ []) good (rest, new)
+took_end lines rest search new bytes true none t empty = λ q before after. took_line q before lines search after bytes none new t rest empty
+took_end lines rest search new bytes false none t empty = (t.is_bad, λ q before after. took_bad q before lines search after bytes none new t)
 
 -- what the bytes after a line come to is what these and the line come to
 pub took_rest : (a b last : Lines × Search) (bytes : List ℕ) (end : ℕ) (good : Bool) → IsFirstByte (is_byte 10) bytes (Some end) → TookMore a (take end bytes ++ 10 ∷ []) b

@@ -6,6 +6,7 @@ ghost use Rattle.std.specs.Str.Lines.{strip_carriage_return};
 ghost use Rattle.lsp_server.specs.Errors.{ComesOfSink};
 ghost use Rattle.lsp_server.specs.Leaves.{LeavesFaults};
 ghost use Rattle.lsp_server.specs.Written.{IsPrefixOf};
+ghost use Rattle.memchr.specs.Find.{IsFirstByte, is_byte};
 ghost use Rattle.lsp_index.specs.Graph.{Graph};
 ghost use Rattle.lsp_index.specs.Kept.{IsKept};
 ghost use Rattle.lsp_index.specs.Queries.{IsAnswer};
@@ -93,13 +94,27 @@ fn send<O: Sink>(sink: &mut O, bytes: &[u8]) -> Result<(), ServeError>
     }
 }
 
+// Where the first line ends. Where it is empty there is nothing to search.
+fn line_end(bytes: &[u8]) -> Option<usize>
+    ensures { IsFirstByte (is_byte 10) bytes.now result }
+{
+    if !bytes.is_empty() && bytes[0] == b'\n' {
+        return Some(0);
+    }
+    memchr(b'\n', bytes)
+}
+
 impl Lines {
-    // Takes what stands before an LF, with the LF, and says whether the line that it ends is good.
+    // Takes what stands before an LF, with the LF, and says whether the line that it ends is good. A line that
+    // a read holds whole isn't copied.
     fn take_end(&mut self, search: &mut Search, bytes: &[u8]) -> Result<bool, NoMemory>
         requires { HasNoEnd bytes.now }
         ensures { IfOk result (λ good. TookBytes (self.old, search.old) (bytes.now ++ 10 ∷ []) good
             (self.new, search.new)) }
     {
+        if self.part.is_empty() {
+            return search.take_line(without_cr(bytes));
+        }
         self.part.extend_from_slice(bytes)?;
         let good = search.take_line(without_cr(&self.part))?;
         self.part.clear();
@@ -112,7 +127,7 @@ impl Lines {
             (self.new, search.new)) }
     {
         let mut rest = bytes;
-        'lines: while let Some(end) = memchr(b'\n', rest) {
+        'lines: while let Some(end) = line_end(rest) {
             if !self.take_end(search, &rest[..end])? {
                 return Ok(false);
             }
