@@ -27,9 +27,7 @@ use Rattle.lsp_client.specs.Client.{IsTold}
 use Rattle.lsp_client.specs.Methods.{log_message_call}
 use Rattle.lsp_service.specs.declared.server.NoTask.{NoTask}
 use Rattle.lsp_service.specs.Data.{MethodCall, typed, custom, MethodReply, answer, custom_answer, refusal, noted, nil_row}
-use Rattle.lsp_service.specs.declared.reply.Reply.{Reply}
 use Rattle.lsp_service.specs.Open.{no_call}
-use Rattle.lsp_service.specs.Replies.{show_reply}
 use Rattle.lsp_service.specs.Server.{Start, Now, Later, ServerSemantics}
 use Rattle.lsp_docs.specs.declared.docs.DocsServer.{DocsServer}
 use Rattle.lsp_docs.specs.Params.{json_by, did_open, did_change, did_close}
@@ -124,11 +122,6 @@ TurnsTo (tells n) ds ds2 reply = (ds2 ≡ unwrap_or (accepted n ds) ds) × (repl
 abbrev pub is_refused : DocsTurn → DocumentMap → Bool
 is_refused (replies r) ds = false
 is_refused (tells n) ds = is_none (accepted n ds)
-
--- what the code has to reply; none, where the notification isn't accepted
-abbrev pub Turned : DocsTurn → DocumentMap → DocumentMap → Option Reply → Type 0
-Turned turn ds ds2 (Some reply) = (is_refused turn ds ≡ false) × TurnsTo turn ds ds2 (show_reply reply)
-Turned turn ds ds2 None = (is_refused turn ds ≡ true) × TurnsTo turn ds ds2 noted
 
 -- whether a notification was accepted, and the documents then
 abbrev pub Heeded : Notification → DocumentMap → DocumentMap → Bool → Type 0

@@ -1,13 +1,16 @@
 // The server.
-ghost use Rattle.std.specs.Prelude.{◌≡◌, IfOk, OnErr, Some, None, cond, option_map};
+ghost use Rattle.std.specs.Prelude.{◌≡◌, IfErr, IfOk, OnErr, OnOk, Some, not, option_map};
 ghost use Rattle.std.specs.FinMap as map;
 ghost use Rattle.std.specs.Str.{encode_utf8_all};
 ghost use Rattle.serde_json.specs.View.{view};
 ghost use Rattle.lsp_rpc.specs.Shown.{show_body};
-ghost use Rattle.lsp_docs.specs.Docs.{requested_uri as requested_uri_lem, text_answer, found_data, offered, Heeded, Turned};
-ghost use Rattle.lsp_docs.specs.Typed.{call_turn, opening_of, changes_of, closing_of};
+ghost use Rattle.lsp_desk.specs.Meaning.{PollsOn};
+ghost use Rattle.lsp_session.specs.Fails.{PollFails};
+ghost use Rattle.lsp_client.specs.Client.{IsTold};
+ghost use Rattle.lsp_docs.specs.Docs.{requested_uri as requested_uri_lem, text_answer, found_data, offered, refused_call, Heeded, LogsRefusal};
+ghost use Rattle.lsp_docs.specs.Typed.{opening_of, changes_of, closing_of};
 
-use lsp_client::Client;
+use lsp_client::{Client, Told};
 use lsp_desk::{Caller, DeskFault};
 use lsp_documents::{ChangeError, Document, Documents, OpenError};
 use lsp_initialize::ServerCapabilities;
@@ -49,25 +52,6 @@ impl DocsServer {
         match self.documents.get(uri) {
             Some(document) => Some(document.text()),
             None => None,
-        }
-    }
-
-    // What a call comes to: its reply; or none, where it is a notification that isn't accepted.
-    fn answer(&mut self, alloc: Global, call: Call) -> Result<Option<Reply>, NoMemory>
-        ensures turned { IfOk result (Turned (call_turn self.old.documents call)
-            self.old.documents self.new.documents) }
-        ensures err { OnErr result (self.new ≡ self.old) }
-    {
-        match call {
-            Call::Life(LifeCall::Initialize(params)) => {
-                Ok(Some(initialize_reply(alloc, params, capabilities())?))
-            }
-            Call::Life(LifeCall::Shutdown) => Ok(Some(Reply::Life(LifeReply::Shutdown(Ok(()))))),
-            Call::Sync(SyncCall::DidOpen(params)) => Ok(noted_if(self.open(params)?)),
-            Call::Sync(SyncCall::DidChange(params)) => Ok(noted_if(self.change(params)?)),
-            Call::Sync(SyncCall::DidClose(params)) => Ok(noted_if(self.close(params))),
-            Call::Custom(_, params) => Ok(Some(Reply::Custom(self.text_body(alloc, params)?))),
-            other => Ok(Some(not_found_for(alloc, other)?)),
         }
     }
 
@@ -151,12 +135,34 @@ impl<D: Caller> LanguageServer<D> for DocsServer {
         call: Call,
         client: &mut D,
     ) -> Result<Started<NoTask>, DeskFault> {
-        match self.answer(alloc, call)? {
-            Some(reply) => Ok(Started::Now(reply)),
-            None => {
-                client.log_message(alloc, MessageType::ERROR, "refused")?;
+        match call {
+            Call::Life(LifeCall::Initialize(params)) => {
+                let reply = initialize_reply(alloc, params, capabilities())?;
+                Ok(Started::Now(reply))
+            }
+            Call::Life(LifeCall::Shutdown) => {
+                Ok(Started::Now(Reply::Life(LifeReply::Shutdown(Ok(())))))
+            }
+            Call::Sync(SyncCall::DidOpen(params)) => {
+                let accepted = self.open(params)?;
+                tell(alloc, accepted, client)?;
                 Ok(Started::Now(Reply::Noted))
             }
+            Call::Sync(SyncCall::DidChange(params)) => {
+                let accepted = self.change(params)?;
+                tell(alloc, accepted, client)?;
+                Ok(Started::Now(Reply::Noted))
+            }
+            Call::Sync(SyncCall::DidClose(params)) => {
+                let accepted = self.close(params);
+                tell(alloc, accepted, client)?;
+                Ok(Started::Now(Reply::Noted))
+            }
+            Call::Custom(_, params) => {
+                let body = self.text_body(alloc, params)?;
+                Ok(Started::Now(Reply::Custom(body)))
+            }
+            other => Ok(Started::Now(not_found_for(alloc, other)?)),
         }
     }
 
@@ -170,11 +176,26 @@ impl<D: Caller> LanguageServer<D> for DocsServer {
     }
 }
 
-// A notification that was accepted is taken note of.
-fn noted_if(heeded: bool) -> Option<Reply>
-    ensures { result ≡ cond heeded (Some Reply.Noted) None }
+// Logs that a notification isn't accepted.
+fn refuse<D: Caller>(alloc: Global, client: &mut D) -> Result<Told, DeskFault>
+    ensures told { IfOk result (λ told. PollsOn D.meaning client.old client.new
+        (IsTold refused_call told)) }
+    ensures failed { IfErr result (λ fault. PollFails D.meaning client.old client.new fault) }
 {
-    if heeded { Some(Reply::Noted) } else { None }
+    client.log_message(alloc, MessageType::ERROR, "refused")
+}
+
+// The same where it isn't, and nothing where it is.
+fn tell<D: Caller>(alloc: Global, accepted: bool, client: &mut D) -> Result<(), DeskFault>
+    ensures told { OnOk result (PollsOn D.meaning client.old client.new
+        (LogsRefusal (not accepted))) }
+    ensures failed { IfErr result (λ fault. PollFails D.meaning client.old client.new fault) }
+{
+    if accepted {
+        return Ok(());
+    }
+    refuse(alloc, client)?;
+    Ok(())
 }
 
 // Documents are to be told when they are opened, changed and closed, and changes in ranges. Nothing
