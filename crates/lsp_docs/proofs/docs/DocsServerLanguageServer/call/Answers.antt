@@ -12,7 +12,7 @@ use Rattle.lsp_service.specs.declared.call.SyncCall.TheVariants as sync_calls
 use Rattle.lsp_service.specs.Data.{answer, custom_answer}
 use Rattle.lsp_docs.specs.Docs.{replies}
 use Rattle.lsp_docs.specs.Typed.{call_turn, opening_of, changes_of, closing_of}
-use Rattle.lsp_docs.proofs.TurnLemmas.{polls_replied, polls_told, turn_of}
+use Rattle.lsp_docs.proofs.TurnLemmas.{polls_replied, polls_told}
 use Rattle.lsp_docs.proofs.docs.DocsServerLanguageServer.call.Goals as goal
 
 pub returns-in_err-reply-in-Life-Initialize-clause-failed : goal.returns-in_err-reply-in-Life-Initialize-clause-failed
