@@ -1,7 +1,7 @@
 // A server that asks its editor, from the editor's side.
 use crate::served::{frames, served};
-use lsp_asks::asks_service;
 use lsp_desk::PlainDesk;
+use lsp_examples::asks_service;
 use lsp_rows::{RowError, Trial};
 use std::alloc::Global;
 

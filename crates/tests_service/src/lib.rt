@@ -12,6 +12,8 @@ mod callers;
 #[cfg(test)]
 mod client;
 #[cfg(test)]
+mod counts;
+#[cfg(test)]
 mod folders;
 #[cfg(test)]
 mod idle;

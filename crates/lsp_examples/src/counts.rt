@@ -1,5 +1,5 @@
-// The server: `workspace/executeCommand` with the command `primes` and a number counts the primes below
-// it.
+// A server with a command that a thread works on: `workspace/executeCommand` with the command `primes`
+// and a number counts the primes below it.
 use crate::worker::{Found, Jobs};
 use lsp_desk::{Caller, DeskFault};
 use lsp_rpc::{Error, ErrorCode};
@@ -29,11 +29,11 @@ pub(crate) struct Counting {
 }
 
 impl<D: Caller> Asking<D> for Counts {
-    ghost use Rattle.lsp_counts.specs.Task.{task_call};
+    ghost use Rattle.lsp_examples.specs.Task.{counting_call};
 
     type Task = Counting;
 
-    ghost call_of = { task_call };
+    ghost call_of = { counting_call };
 
     fn call(
         &mut self,
@@ -42,14 +42,18 @@ impl<D: Caller> Asking<D> for Counts {
         _client: &mut D,
     ) -> Result<Started<Counting>, DeskFault> {
         match call {
-            Call::Work(WorkCall::ExecuteCommand(params)) => match number_of(&params) {
-                Some(below) => match self.jobs.begin(alloc, below)? {
-                    Some(found) => Ok(Started::Later(Counting { params, found })),
-                    None => Ok(Started::Now(refused(alloc, ErrorCode::ServerError(-32803))?)),
-                },
-                None => Ok(Started::Now(refused(alloc, ErrorCode::InvalidParams)?)),
+            Call::Work(WorkCall::ExecuteCommand(params)) => match self.begin(alloc, &params)? {
+                Ok(found) => Ok(Started::Later(Counting { params, found })),
+                Err(error) => Ok(Started::Now(Reply::Error(error))),
             },
-            other => Ok(Started::Now(reply(alloc, other)?)),
+            Call::Life(LifeCall::Initialize(params)) => {
+                let capabilities = capabilities(alloc)?;
+                Ok(Started::Now(initialize_reply(alloc, params, capabilities)?))
+            }
+            Call::Life(LifeCall::Shutdown) => {
+                Ok(Started::Now(Reply::Life(LifeReply::Shutdown(Ok(())))))
+            }
+            other => Ok(Started::Now(not_found_for(alloc, other)?)),
         }
     }
 
@@ -61,7 +65,27 @@ impl<D: Caller> Asking<D> for Counts {
     ) -> Result<Started<Counting>, DeskFault> {
         match task.found.load(Ordering::SeqCst) {
             0 => Ok(Started::Later(task)),
-            found => Ok(Started::Now(counted(found - 1))),
+            found => {
+                let count = Value::from(found - 1);
+                Ok(Started::Now(Reply::Work(WorkReply::ExecuteCommand(Ok(Some(count))))))
+            }
+        }
+    }
+}
+
+impl Counts {
+    // Gives the thread the job that a command asks for, and tells where its result comes to stand.
+    fn begin(
+        &mut self,
+        alloc: Global,
+        params: &ExecuteCommandParams,
+    ) -> Result<Result<Found, Error>, NoMemory> {
+        match number_of(params) {
+            Some(below) => match self.jobs.begin(alloc, below)? {
+                Some(found) => Ok(Ok(found)),
+                None => Ok(Err(Error::new(alloc, ErrorCode::ServerError(-32803))?)),
+            },
+            None => Ok(Err(Error::new(alloc, ErrorCode::InvalidParams)?)),
         }
     }
 }
@@ -74,26 +98,6 @@ fn number_of(params: &ExecuteCommandParams) -> Option<u64> {
             _ => None,
         },
         _ => None,
-    }
-}
-
-fn counted(count: u64) -> Reply {
-    Reply::Work(WorkReply::ExecuteCommand(Ok(Some(Value::from(count)))))
-}
-
-fn refused(alloc: Global, code: ErrorCode) -> Result<Reply, NoMemory> {
-    Ok(Reply::Error(Error::new(alloc, code)?))
-}
-
-// The replies to calls that are answered at once.
-fn reply(alloc: Global, call: Call) -> Result<Reply, NoMemory> {
-    match call {
-        Call::Life(LifeCall::Initialize(params)) => {
-            let capabilities = capabilities(alloc)?;
-            initialize_reply(alloc, params, capabilities)
-        }
-        Call::Life(LifeCall::Shutdown) => Ok(Reply::Life(LifeReply::Shutdown(Ok(())))),
-        other => not_found_for(alloc, other),
     }
 }
 

@@ -26,7 +26,7 @@ pub enum Task {
 }
 
 impl<D: Caller> Asking<D> for Asks {
-    ghost use Rattle.lsp_asks.specs.Task.{task_call};
+    ghost use Rattle.lsp_examples.specs.Task.{task_call};
 
     type Task = Task;
 

@@ -1,11 +1,6 @@
-//! A server with a command that a thread works on: the session goes on meanwhile, and the answer goes
-//! out when the thread has it, also while the editor is silent.
-#![tactic(auto)]
-
-mod counts;
-mod worker;
-
-use counts::Counts;
+// The counting server as a program.
+use crate::counts::Counts;
+use crate::worker::{Jobs, jobs_and_worker, work};
 use lsp_desk::PlainDesk;
 use lsp_frame::Floats;
 use lsp_server::Server;
@@ -16,13 +11,12 @@ use std::io::{Read, Write};
 use std::process::ExitCode;
 use std::sync::Wait;
 use std::thread::{self, Threads};
-use worker::{Jobs, jobs_and_worker, work};
 
-fn serve<T: Threads + Wait, I: Read + Send + Drop + 'static, O: Write + Drop>(
+fn serve<T: Threads + Wait, R: Read + Send + Drop + 'static, W: Write + Drop>(
     rt: &T,
     alloc: Global,
-    input: I,
-    output: O,
+    input: R,
+    output: W,
     jobs: Jobs,
 ) -> ExitCode {
     let desk = PlainDesk::new(alloc);
@@ -36,15 +30,23 @@ fn serve<T: Threads + Wait, I: Read + Send + Drop + 'static, O: Write + Drop>(
     pump_stdio(rt, alloc, input, output, service, server)
 }
 
-fn main(rt: HostRuntime) -> ExitCode {
-    let Ok((jobs, worker)) = jobs_and_worker(rt.alloc()) else {
+/// Serves from `input` to `output`, with a thread beside that counts primes, and answers what `main`
+/// returns: `count_beside(&rt, rt.alloc(), rt.stdin(), rt.stdout())`.
+///
+/// It may wait for the input.
+pub fn count_beside<T: Threads + Wait + Sync, R: Read + Send + Drop + 'static, W: Write + Drop>(
+    rt: &T,
+    alloc: Global,
+    input: R,
+    output: W,
+) -> ExitCode {
+    let Ok((jobs, worker)) = jobs_and_worker(alloc) else {
         return ExitCode::from(Status::NoMemory as u8);
     };
-    let (alloc, input, output) = (rt.alloc(), rt.stdin(), rt.stdout());
     let ((), status) = thread::join(
-        &rt,
-        || work(&rt, worker),
-        || serve(&rt, alloc, input, output, jobs),
+        rt,
+        || work(rt, worker),
+        || serve(rt, alloc, input, output, jobs),
     );
     status
 }

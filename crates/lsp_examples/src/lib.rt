@@ -1,0 +1,13 @@
+//! Two language servers: one that asks its editor, and one whose command a thread works on.
+#![tactic(auto)]
+
+mod asks;
+mod beside;
+mod counts;
+mod params;
+mod service;
+mod worker;
+
+pub use asks::{Asks, Task};
+pub use beside::count_beside;
+pub use service::asks_service;
