@@ -9,9 +9,9 @@ use lsp_desk::{Caller, ClientCall, ClientReply};
 use lsp_rpc::NoMemory;
 use lsp_shared::{Rested, SharedClient, SharedDesk};
 use serde_json::Value;
-use std::alloc::Global;
-use std::sync::Wait;
+use std::alloc::{AllocError, Global};
 use std::sync::atomic::{AtomicU64, Ordering};
+use std::sync::{Arc, Wait};
 use std::thread::yield_now;
 
 /// A message of the editor.
@@ -23,6 +23,11 @@ pub(crate) const OWN: &str = "window/own";
 
 // How often one thread looks for what another does.
 const LOOKS: u64 = 100_000_000;
+
+/// A stage that threads share, at 0.
+pub(crate) fn new_stage(alloc: Global) -> Result<Arc<AtomicU64, Global>, AllocError> {
+    Ok(Arc::new(alloc, AtomicU64::new(0))?)
+}
 
 /// Whether it comes to this stage within many looks.
 pub(crate) fn comes_to(stage: &AtomicU64, wanted: u64) -> bool {

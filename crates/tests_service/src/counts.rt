@@ -1,5 +1,5 @@
 // A thread counts, and its answer goes out while a read waits.
-use crate::client::comes_to;
+use crate::client::{comes_to, new_stage};
 use crate::served::{framed, frames};
 use lsp_examples::count_beside;
 use lsp_rows::{RowError, Trial};
@@ -109,7 +109,7 @@ fn written<R: Threads + Wait + Sync>(
 #[test]
 fn counted_in_silence(rt: HostRuntime) -> Result<(), RowError> {
     let alloc = rt.alloc();
-    let stage = Arc::new(alloc, AtomicU64::new(0))?;
+    let stage = new_stage(alloc)?;
     let bytes = written(&rt, alloc, &stage)?;
     let mut trial = Trial::new(alloc);
     trial.same(

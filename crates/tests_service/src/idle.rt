@@ -4,7 +4,7 @@ ghost use Rattle.lsp_desk.specs.Meaning.{IsOpening};
 ghost use Rattle.lsp_shared.specs.Desks.{desk_id, rested_desk, rested_view};
 ghost use Rattle.lsp_shared.specs.Seats.{seat_meaning};
 
-use crate::client::{NOTE, OWN, comes_to, send_at};
+use crate::client::{NOTE, OWN, comes_to, new_stage, send_at};
 use lsp_callers::Plan;
 use lsp_program::Status;
 use lsp_rows::{RowError, Trial};
@@ -13,7 +13,7 @@ use lsp_sample_server::sample_service;
 use lsp_server::{Failed, Refused, Server, Sink, Source};
 use lsp_service::pump;
 use lsp_shared::{DeskOwner, Rested, SharedDesk};
-use std::alloc::{AllocError, Global};
+use std::alloc::Global;
 use std::str;
 use std::sync::atomic::{AtomicU64, Ordering};
 use std::sync::{Arc, Wait};
@@ -140,10 +140,6 @@ fn pump_beside<R: Threads + Wait + Sync>(
         stage: Arc::try_clone(stage)?,
     };
     Ok(beside(rt, &desk, owner, client, plan, source, stage))
-}
-
-fn new_stage(alloc: Global) -> Result<Arc<AtomicU64, Global>, AllocError> {
-    Ok(Arc::new(alloc, AtomicU64::new(0))?)
 }
 
 #[test]
