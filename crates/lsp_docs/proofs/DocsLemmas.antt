@@ -1,23 +1,39 @@
 -- What the server makes of a call.
-use Rattle.std.proofs.Common.{◌≡◌, ℕ, List, Bool, true, false, cond, Some, None, option_map, refl, sym, ap, ◌∙◌, nat_cmp}
-use Rattle.std.specs.Prelude.{ℤ, is_some, is_none, unwrap_or}
+use Rattle.std.proofs.Common.{◌≡◌, ℕ, List, [], Bool, true, false, cond, Some, None, option_map, refl, sym, ap, ◌∙◌, subst, nat_cmp}
+use Rattle.std.specs.Prelude.{ℤ, is_some, is_none, unwrap_or, Result, Ok, Err, OnOk}
 use Rattle.std.specs.Option.{option_and_then}
 use Rattle.std.specs.FinMap as fin
 use Rattle.std.specs.Ordering.{eq_by_cmp}
 use Rattle.std.specs.Cmp.Lexicographic.{slice_cmp, nat_list_cmp_total, texts_ties}
 use Rattle.std.proofs.lemmas.Slice.Eq.{bytes_eq-Decides}
+use Rattle.lsp_desk.specs.Meaning.{Meaning, PollsOn}
+use Rattle.lsp_desk.specs.Trace.{owns}
+use Rattle.lsp_desk.proofs.TraceLemmas.{grows_none}
 use Rattle.lsp_documents.specs.OpenDocument.{OpenDocument}
 use Rattle.lsp_documents.specs.Documents.{DocumentMap, Change, Notification, accepted, after_open, after_changes, after_close, changed_document}
-use Rattle.lsp_service.specs.Data.{noted}
-use Rattle.lsp_docs.specs.Docs.{tells, is_refused, TurnsTo}
+use Rattle.lsp_docs.specs.Docs.{LogsRefusal, Heeded}
 
 -- ---- a notification that is accepted, or isn't
 
-pub was_accepted : (n : Notification) (ds ds2 : DocumentMap) → accepted n ds ≡ Some ds2 → (is_refused (tells n) ds ≡ false) × TurnsTo (tells n) ds ds2 noted
-was_accepted n ds ds2 e = (ap is_none e, (sym (ap (λ o. unwrap_or o ds) e), refl))
+-- nothing is logged of one that is accepted
+pub heeds : {D : Type 0} (m : Meaning D) (d : D) (n : Notification) (ds ds2 : DocumentMap) → accepted n ds ≡ Some ds2 → PollsOn m d d (Heeded n ds ds2)
+heeds m d n ds ds2 e = record {
+  trace = [];
+  grows = grows_none m d;
+  holds = ((sym (ap (λ o. unwrap_or o ds) e), refl), subst (λ b. LogsRefusal b []) (sym (ap is_none e)) refl);
+}
 
-pub was_refused : (n : Notification) (ds ds2 : DocumentMap) → accepted n ds ≡ None → ds2 ≡ ds → (is_refused (tells n) ds ≡ true) × TurnsTo (tells n) ds ds2 noted
-was_refused n ds ds2 e same = (ap is_none e, (same ∙ sym (ap (λ o. unwrap_or o ds) e), refl))
+-- one that isn't is logged
+refused : {D : Type 0} (m : Meaning D) (old new : D) (n : Notification) (ds ds2 : DocumentMap) → accepted n ds ≡ None → ds2 ≡ ds → PollsOn m old new (LogsRefusal true) → PollsOn m old new (Heeded n ds ds2)
+refused m old new n ds ds2 none same p = record {
+  trace = p.trace;
+  grows = p.grows;
+  holds = ((same ∙ sym (ap (λ o. unwrap_or o ds) none), refl), subst (λ b. LogsRefusal b (owns p.trace)) (sym (ap is_none none)) p.holds);
+}
+
+pub refuses : {D A E : Type 0} (m : Meaning D) (old new : D) (n : Notification) (ds ds2 : DocumentMap) (r : Result A E) → accepted n ds ≡ None → ds2 ≡ ds → OnOk r (PollsOn m old new (LogsRefusal true)) → OnOk r (PollsOn m old new (Heeded n ds ds2))
+refuses m old new n ds ds2 (Ok x) none same p = refused m old new n ds ds2 none same p
+refuses m old new n ds ds2 (Err e) none same p = tt
 
 pub open_already : (ds : DocumentMap) (uri : List ℕ) (d : OpenDocument) → fin.contains_key ds uri ≡ true → after_open uri d ds ≡ None
 open_already ds uri d e = ap (λ b. cond b None (Some (fin.insert ds uri d))) e

@@ -5,3 +5,4 @@ pub mod NoticeLemmas
 pub mod ParamsLemmas
 pub mod SameRunLemmas
 pub mod ShownLemmas
+pub mod TurnLemmas

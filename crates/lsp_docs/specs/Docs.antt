@@ -1,5 +1,5 @@
 -- What a server that keeps its client's open documents does (LSP 3.17, "Text Document Synchronization").
-use Rattle.std.specs.Prelude.{◌≡◌, ℕ, pos, Bool, true, false, List, [], ◌∷◌, codes, Option, Some, None, unwrap_or, is_none, not, Result, Ok, Err}
+use Rattle.std.specs.Prelude.{◌≡◌, ℕ, pos, Bool, true, false, List, [], ◌∷◌, codes, Option, Some, None, unwrap_or, is_none, Result, Ok, Err}
 use Rattle.std.specs.Option.{option_and_then}
 use Rattle.std.specs.Str.{encode_utf8_all}
 use Rattle.std.specs.FinMap as map
@@ -27,9 +27,7 @@ use Rattle.lsp_client.specs.Client.{IsTold}
 use Rattle.lsp_client.specs.Methods.{log_message_call}
 use Rattle.lsp_service.specs.declared.server.NoTask.{NoTask}
 use Rattle.lsp_service.specs.Data.{MethodCall, typed, custom, MethodReply, answer, custom_answer, refusal, noted, nil_row}
-use Rattle.lsp_service.specs.declared.reply.Reply.{Reply}
 use Rattle.lsp_service.specs.Open.{no_call}
-use Rattle.lsp_service.specs.Replies.{show_reply}
 use Rattle.lsp_service.specs.Server.{Start, Now, Later, ServerSemantics}
 use Rattle.lsp_docs.specs.declared.docs.DocsServer.{DocsServer}
 use Rattle.lsp_docs.specs.Params.{json_by, did_open, did_change, did_close}
@@ -125,15 +123,6 @@ abbrev pub is_refused : DocsTurn → DocumentMap → Bool
 is_refused (replies r) ds = false
 is_refused (tells n) ds = is_none (accepted n ds)
 
--- what the code has to reply; none, where the notification isn't accepted
-abbrev pub Turned : DocsTurn → DocumentMap → DocumentMap → Option Reply → Type 0
-Turned turn ds ds2 (Some reply) = (is_refused turn ds ≡ false) × TurnsTo turn ds ds2 (show_reply reply)
-Turned turn ds ds2 None = (is_refused turn ds ≡ true) × TurnsTo turn ds ds2 noted
-
--- whether a notification was accepted, and the documents then
-abbrev pub Heeded : Notification → DocumentMap → DocumentMap → Bool → Type 0
-Heeded n ds ds2 heeded = (is_refused (tells n) ds ≡ not heeded) × TurnsTo (tells n) ds ds2 noted
-
 -- that is logged, once, as an error; nothing else is asked of the client
 abbrev pub refused_call : DeskCall
 refused_call = log_message_call (pos 1) (codes "refused")
@@ -141,6 +130,10 @@ refused_call = log_message_call (pos 1) (codes "refused")
 abbrev pub LogsRefusal : Bool → List DeskEntry → Type 0
 LogsRefusal true asked = (told : Told) × IsTold refused_call told asked
 LogsRefusal false asked = asked ≡ []
+
+-- a notification was taken note of: the documents then, and what was logged
+abbrev pub Heeded : Notification → DocumentMap → DocumentMap → List DeskEntry → Type 0
+Heeded n ds ds2 asked = TurnsTo (tells n) ds ds2 noted × LogsRefusal (is_refused (tells n) ds) asked
 
 -- ---- the server
 

@@ -1,11 +1,13 @@
 // The server.
-ghost use Rattle.std.specs.Prelude.{◌≡◌, IfOk, OnErr, Some, None, cond, option_map};
+ghost use Rattle.std.specs.Prelude.{◌≡◌, IfErr, IfOk, OnErr, OnOk, Some, option_map, true};
 ghost use Rattle.std.specs.FinMap as map;
 ghost use Rattle.std.specs.Str.{encode_utf8_all};
 ghost use Rattle.serde_json.specs.View.{view};
 ghost use Rattle.lsp_rpc.specs.Shown.{show_body};
-ghost use Rattle.lsp_docs.specs.Docs.{requested_uri as requested_uri_lem, text_answer, found_data, offered, Heeded, Turned};
-ghost use Rattle.lsp_docs.specs.Typed.{call_turn, opening_of, changes_of, closing_of};
+ghost use Rattle.lsp_desk.specs.Meaning.{PollsOn};
+ghost use Rattle.lsp_session.specs.Fails.{PollFails};
+ghost use Rattle.lsp_docs.specs.Docs.{requested_uri as requested_uri_lem, text_answer, found_data, offered, Heeded, LogsRefusal};
+ghost use Rattle.lsp_docs.specs.Typed.{opening_of, changes_of, closing_of};
 
 use lsp_client::Client;
 use lsp_desk::{Caller, DeskFault};
@@ -52,29 +54,16 @@ impl DocsServer {
         }
     }
 
-    // What a call comes to: its reply; or none, where it is a notification that isn't accepted.
-    fn answer(&mut self, alloc: Global, call: Call) -> Result<Option<Reply>, NoMemory>
-        ensures turned { IfOk result (Turned (call_turn self.old.documents call)
-            self.old.documents self.new.documents) }
-        ensures err { OnErr result (self.new ≡ self.old) }
-    {
-        match call {
-            Call::Life(LifeCall::Initialize(params)) => {
-                Ok(Some(initialize_reply(alloc, params, capabilities())?))
-            }
-            Call::Life(LifeCall::Shutdown) => Ok(Some(Reply::Life(LifeReply::Shutdown(Ok(()))))),
-            Call::Sync(SyncCall::DidOpen(params)) => Ok(noted_if(self.open(params)?)),
-            Call::Sync(SyncCall::DidChange(params)) => Ok(noted_if(self.change(params)?)),
-            Call::Sync(SyncCall::DidClose(params)) => Ok(noted_if(self.close(params))),
-            Call::Custom(_, params) => Ok(Some(Reply::Custom(self.text_body(alloc, params)?))),
-            other => Ok(Some(not_found_for(alloc, other)?)),
-        }
-    }
-
-    // Whether it was accepted, as of the next two.
-    fn open(&mut self, params: DidOpenTextDocumentParams) -> Result<bool, NoMemory>
-        ensures heeded { IfOk result (Heeded (opening_of params) self.old.documents
-            self.new.documents) }
+    // Takes note of a notification. One that isn't accepted is logged, here and in the next two.
+    fn open<D: Caller>(
+        &mut self,
+        alloc: Global,
+        params: DidOpenTextDocumentParams,
+        client: &mut D,
+    ) -> Result<(), DeskFault>
+        ensures heeded { OnOk result (PollsOn D.meaning client.old client.new
+            (Heeded (opening_of params) self.old.documents self.new.documents)) }
+        ensures failed { IfErr result (λ fault. PollFails D.meaning client.old client.new fault) }
         ensures err { OnErr result (self.new ≡ self.old) }
     {
         let document = params.text_document;
@@ -83,15 +72,21 @@ impl DocsServer {
             .documents
             .open(document.uri.as_str(), document.version, text)
         {
-            Ok(()) => Ok(true),
-            Err(OpenError::AlreadyOpen) => Ok(false),
-            Err(OpenError::NoMemory) => Err(NoMemory),
+            Ok(()) => Ok(()),
+            Err(OpenError::AlreadyOpen) => refuse(alloc, client),
+            Err(OpenError::NoMemory) => Err(DeskFault::NoMemory),
         }
     }
 
-    fn change(&mut self, params: DidChangeTextDocumentParams) -> Result<bool, NoMemory>
-        ensures heeded { IfOk result (Heeded (changes_of params) self.old.documents
-            self.new.documents) }
+    fn change<D: Caller>(
+        &mut self,
+        alloc: Global,
+        params: DidChangeTextDocumentParams,
+        client: &mut D,
+    ) -> Result<(), DeskFault>
+        ensures heeded { OnOk result (PollsOn D.meaning client.old client.new
+            (Heeded (changes_of params) self.old.documents self.new.documents)) }
+        ensures failed { IfErr result (λ fault. PollFails D.meaning client.old client.new fault) }
         ensures err { OnErr result (self.new ≡ self.old) }
     {
         let document = &params.text_document;
@@ -100,18 +95,25 @@ impl DocsServer {
             document.version,
             params.content_changes.as_slice(),
         ) {
-            Ok(()) => Ok(true),
-            Err(ChangeError::NotOpen | ChangeError::StartBehindEnd) => Ok(false),
-            Err(ChangeError::NoMemory) => Err(NoMemory),
+            Ok(()) => Ok(()),
+            Err(ChangeError::NotOpen | ChangeError::StartBehindEnd) => refuse(alloc, client),
+            Err(ChangeError::NoMemory) => Err(DeskFault::NoMemory),
         }
     }
 
-    fn close(&mut self, params: DidCloseTextDocumentParams) -> bool
-        ensures { Heeded (closing_of params) self.old.documents self.new.documents result }
+    fn close<D: Caller>(
+        &mut self,
+        alloc: Global,
+        params: DidCloseTextDocumentParams,
+        client: &mut D,
+    ) -> Result<(), DeskFault>
+        ensures heeded { OnOk result (PollsOn D.meaning client.old client.new
+            (Heeded (closing_of params) self.old.documents self.new.documents)) }
+        ensures failed { IfErr result (λ fault. PollFails D.meaning client.old client.new fault) }
     {
         match self.documents.close(params.text_document.uri.as_str()) {
-            Some(_) => true,
-            None => false,
+            Some(_) => Ok(()),
+            None => refuse(alloc, client),
         }
     }
 
@@ -151,11 +153,33 @@ impl<D: Caller> LanguageServer<D> for DocsServer {
         call: Call,
         client: &mut D,
     ) -> Result<Started<NoTask>, DeskFault> {
-        match self.answer(alloc, call)? {
-            Some(reply) => Ok(Started::Now(reply)),
-            None => {
-                client.log_message(alloc, MessageType::ERROR, "refused")?;
+        match call {
+            Call::Life(LifeCall::Initialize(params)) => {
+                let reply = initialize_reply(alloc, params, capabilities())?;
+                Ok(Started::Now(reply))
+            }
+            Call::Life(LifeCall::Shutdown) => {
+                Ok(Started::Now(Reply::Life(LifeReply::Shutdown(Ok(())))))
+            }
+            Call::Sync(SyncCall::DidOpen(params)) => {
+                self.open(alloc, params, client)?;
                 Ok(Started::Now(Reply::Noted))
+            }
+            Call::Sync(SyncCall::DidChange(params)) => {
+                self.change(alloc, params, client)?;
+                Ok(Started::Now(Reply::Noted))
+            }
+            Call::Sync(SyncCall::DidClose(params)) => {
+                self.close(alloc, params, client)?;
+                Ok(Started::Now(Reply::Noted))
+            }
+            Call::Custom(_, params) => {
+                let body = self.text_body(alloc, params)?;
+                Ok(Started::Now(Reply::Custom(body)))
+            }
+            other => {
+                let reply = not_found_for(alloc, other)?;
+                Ok(Started::Now(reply))
             }
         }
     }
@@ -170,11 +194,13 @@ impl<D: Caller> LanguageServer<D> for DocsServer {
     }
 }
 
-// A notification that was accepted is taken note of.
-fn noted_if(heeded: bool) -> Option<Reply>
-    ensures { result ≡ cond heeded (Some Reply.Noted) None }
+// Logs that a notification isn't accepted.
+fn refuse<D: Caller>(alloc: Global, client: &mut D) -> Result<(), DeskFault>
+    ensures logs { OnOk result (PollsOn D.meaning client.old client.new (LogsRefusal true)) }
+    ensures failed { IfErr result (λ fault. PollFails D.meaning client.old client.new fault) }
 {
-    if heeded { Some(Reply::Noted) } else { None }
+    client.log_message(alloc, MessageType::ERROR, "refused")?;
+    Ok(())
 }
 
 // Documents are to be told when they are opened, changed and closed, and changes in ranges. Nothing

@@ -1,18 +1,21 @@
 // What holds of each poll and each session of the server: functions whose contracts are laws.
+ghost use Rattle.lsp_session.specs.declared.table.Kind.{Kind};
 ghost use Rattle.lsp_session.specs.Run.{order_by};
+ghost use Rattle.lsp_service.specs.declared.server.NoTask.{NoTask};
+ghost use Rattle.lsp_service.specs.Service.{service_semantics};
 ghost use Rattle.lsp_docs.specs.Determined.{PollsAreAFunction, SessionsAreAFunction};
+ghost use Rattle.lsp_docs.specs.Docs.{docs_semantics};
 ghost use Rattle.lsp_docs.specs.Notices.{HoldsDocuments};
 
-use crate::docs::DocsServer;
 use lsp_desk::Caller;
-use lsp_service::LspService;
-use lsp_session::{Handlers, Pick};
+use lsp_session::Pick;
 
 /// After a run the documents are those that the notifications leave which were begun in it, in
-/// order of admission.
-pub fn documents_are_those_told<D: Caller, P: Pick>()
-    ensures { HoldsDocuments ⟦<LspService<DocsServer> as Handlers<D>>⟧.semantics (λ c. c.call)
-        (order_by P.gives P.later) }
+/// order of admission. The run is of the handlers that a service of this server is, whatever its
+/// tasks are kept in.
+pub fn documents_are_those_told<T, P: Pick>()
+    ensures { (task : T → NoTask) → (kind : T → Kind) → HoldsDocuments
+        (service_semantics docs_semantics task kind) (λ c. c.call) (order_by P.gives P.later) }
 {}
 
 /// A poll of a call has one reply, leaves one table of documents, and makes the same calls on the
@@ -22,8 +25,9 @@ pub fn docs_polls_are_a_function()
 {}
 
 /// What a session over a desk of its own has written at its end, and the documents then, are a
-/// function of its setting and of the bytes of its source.
-pub fn docs_sessions_are_a_function<D: Caller, P: Pick>()
-    ensures { SessionsAreAFunction ⟦<LspService<DocsServer> as Handlers<D>>⟧.semantics D.meaning
-        (order_by P.gives P.later) }
+/// function of its setting and of the bytes of its source. The session is of the handlers that a
+/// service of this server is, whatever its tasks are kept in.
+pub fn docs_sessions_are_a_function<T, D: Caller, P: Pick>()
+    ensures { (task : T → NoTask) → (kind : T → Kind) → SessionsAreAFunction
+        (service_semantics docs_semantics task kind) D.meaning (order_by P.gives P.later) }
 {}

@@ -1,12 +1,12 @@
 // The server behind its methods.
-ghost use Rattle.std.specs.Prelude.{◌≡◌, [], IfOk};
+ghost use Rattle.std.specs.Prelude.{◌≡◌, IfOk};
 ghost use Rattle.std.specs.FinMap as map;
 ghost use Rattle.lsp_methods.specs.ServiceTable.{customs_of};
 ghost use Rattle.lsp_docs.specs.Docs.{docs_methods};
 
 use crate::docs::DocsServer;
 use lsp_desk::{ClientSocket, Desk};
-use lsp_service::{LspService, LspServiceBuilder, NoMemory};
+use lsp_service::{LspService, NoMemory};
 use lsp_session::Kind;
 use std::alloc::Global;
 
@@ -20,20 +20,9 @@ pub fn docs_service<D: Desk + Drop>(
     ensures desk { IfOk result (λ made. made.1.desk ≡ desk) }
     ensures methods { IfOk result (λ made. customs_of made.0.table ≡ docs_methods) }
 {
-    match LspService::build(alloc, DocsServer::new(alloc), desk) {
-        Ok(builder) => with_text_method(builder),
-        Err(_) => Err(NoMemory),
-    }
-}
-
-fn with_text_method<D: Desk + Drop>(
-    mut builder: LspServiceBuilder<DocsServer, D>,
-) -> Result<(LspService<DocsServer>, ClientSocket<D>), NoMemory>
-    requires { customs_of builder.service.table ≡ [] }
-    ensures server { IfOk result (λ made. made.0.server ≡ builder.service.server) }
-    ensures desk { IfOk result (λ made. made.1.desk ≡ builder.socket.desk) }
-    ensures methods { IfOk result (λ made. customs_of made.0.table ≡ docs_methods) }
-{
+    let Ok(mut builder) = LspService::build(alloc, DocsServer::new(alloc), desk) else {
+        return Err(NoMemory);
+    };
     builder.custom_method("docs/text", Kind::Request)?;
     Ok(builder.finish())
 }

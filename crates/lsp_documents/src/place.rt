@@ -113,6 +113,24 @@ pub fn offset(text: &str, line: u32, character: u32) -> usize
     }
 }
 
+// The bytes at which two positions are, the second so many lines below the first. Its line is sought
+// from that of the first on.
+fn offsets_below(text: &str, start: (u32, u32), below: (u32, u32)) -> (usize, usize)
+    ensures start { let cs = chars text.now in
+        result.0 ≡ length (encode_utf8_all (take (place_of start.0 start.1 cs) cs)) }
+    ensures end { let cs = chars text.now in let line = start.0 + below.0 in
+        result.1 ≡ length (encode_utf8_all (take (place_of line below.1 cs) cs)) }
+{
+    match line_start(text.as_bytes(), start.0) {
+        Some(begin) => {
+            let rest = &text[begin..];
+            let first = begin + fitting_len(rest, start.1);
+            (first, begin + offset(rest, below.0, below.1))
+        }
+        None => (text.len(), text.len()),
+    }
+}
+
 /// The bytes at which two positions are. The line of the second is sought from that of the first
 /// on, where it is not before.
 pub fn offsets(text: &str, start: (u32, u32), end: (u32, u32)) -> (usize, usize)
@@ -128,14 +146,7 @@ pub fn offsets(text: &str, start: (u32, u32), end: (u32, u32)) -> (usize, usize)
     if end.0 < start.0 {
         return (offset(text, start.0, start.1), offset(text, end.0, end.1));
     }
-    match line_start(text.as_bytes(), start.0) {
-        Some(begin) => {
-            let rest = &text[begin..];
-            let first = begin + fitting_len(rest, start.1);
-            (first, begin + offset(rest, end.0 - start.0, end.1))
-        }
-        None => (text.len(), text.len()),
-    }
+    offsets_below(text, start, (end.0 - start.0, end.1))
 }
 
 // How many UTF-16 code units a text is.

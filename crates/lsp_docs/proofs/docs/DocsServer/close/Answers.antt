@@ -1,13 +1,22 @@
-use Rattle.std.proofs.Common.{◌≡◌, None, sym, ap, ◌∙◌}
+use Rattle.std.proofs.Common.{◌≡◌, Some, None, sym, ap, ◌∙◌}
 use Rattle.std.specs.FinMap as fin
 use Rattle.lsp_uri.specs.Uri.{uri_text}
 use Rattle.lsp_documents.specs.Documents.{Closed}
-use Rattle.lsp_docs.proofs.DocsLemmas.{was_refused, closes_none, removed_none}
+use Rattle.lsp_docs.proofs.DocsLemmas.{heeds, refuses, closes, closes_none, removed_none}
 use Rattle.lsp_docs.proofs.docs.DocsServer.close.Goals as goal
 
-pub returns : goal.returns
-returns c =
+pub returns-in-Some-clause-heeded : goal.returns-in-Some-clause-heeded
+returns-in-Some-clause-heeded g c =
+    let ds = c.args.self.now.documents in
+    let uri = uri_text c.args.params.text_document.uri in
+    let some = ap (fin.get ds) (sym c.as_str.ensures.text) ∙ sym c.close.ensures.document ∙ c.in-Some.is in
+    let leaves = c.close.ensures.others ∙ ap (fin.remove ds) c.as_str.ensures.text in
+    heeds g.D.Caller.meaning c.args.client.now (Closed uri) ds c.close.new.self (closes ds uri _ some ∙ ap Some (sym leaves))
+
+pub returns-clause-heeded : goal.returns-clause-heeded
+returns-clause-heeded g c =
     let ds = c.args.self.now.documents in
     let uri = uri_text c.args.params.text_document.uri in
     let none : fin.get ds uri ≡ None = ap (fin.get ds) (sym c.as_str.ensures.text) ∙ sym c.close.ensures.document ∙ c.in-None.is in
-    was_refused (Closed uri) ds _ (closes_none ds uri none) (c.close.ensures.others ∙ ap (fin.remove ds) c.as_str.ensures.text ∙ removed_none ds uri none)
+    let same = c.close.ensures.others ∙ ap (fin.remove ds) c.as_str.ensures.text ∙ removed_none ds uri none in
+    refuses g.D.Caller.meaning c.args.client.now c.refuse.new.client (Closed uri) ds c.close.new.self _ (closes_none ds uri none) same c.refuse.ensures.logs
