@@ -20,7 +20,7 @@ use Rattle.lsp_index.specs.Entries.{HasBadLine}
 use Rattle.lsp_index.specs.Shown.{show_query}
 use Rattle.lsp_index.specs.Kept.{IsKept}
 use Rattle.lsp_index.specs.Answered.{IsAnswerLine, IsQueryAnswered, IsRefused, WroteBegun, WroteNone}
-use Rattle.lsp_index.specs.Reading.{IsAfter, TookMore, TookEnd, TookEndPart, TookGood, TookBad, TookBytes, Reads, dump_reading}
+use Rattle.lsp_index.specs.Reading.{IsAfter, TookEnd, TookEndPart, TookGood, TookBad, TookBytes, Reads, dump_reading}
 use Rattle.lsp_index.proofs.LineLemmas.{bad_stays, bad_ended, entries_good}
 use Rattle.lsp_index.proofs.ReadingLemmas.{took_both, took_last_bad, answer_line}
 

@@ -85,6 +85,12 @@ first_kept {V} {W} show id v es new shown is put =
         map-append (λ (e : Id × V). (show_id e.0, show e.1)) es ((id, v) ∷ []) ∙ ap (λ l. l ++ (show_id id, show v) ∷ []) is
         ∙ sym (ap (λ t. cond t shown (shown ++ (show_id id, show v) ∷ [])) e)
 
+-- of an id and a value that show this
+pub first_kept_as : {V W : Type 0} (show : V → W) (id : Id) (v : V) (i : IdData) (w : W) → show_id id ≡ i → show v ≡ w → (es new : List (Id × V)) (shown : List (IdData × W))
+    → map (λ (e : Id × V). (show_id e.0, show e.1)) es ≡ shown → new ≡ cond (is_some (lookup (same_key id) es)) es (es ++ (id, v) ∷ [])
+    → map (λ (e : Id × V). (show_id e.0, show e.1)) new ≡ with_first shown (i, w)
+first_kept_as show id v i w same_id same es new shown is put = first_kept show id v es new shown is put ∙ (λ j. with_first shown (same_id j, same j))
+
 -- ---- items
 
 -- the items of a result, with one more of any result
@@ -113,6 +119,12 @@ item_kept g id item old new kept put k =
     at false h =
         kept k ∙ sym (append-nil (items_from g (show_id k)))
         ∙ sym (ap (λ b. items_from g (show_id k) ++ cond b (show_item_edge item ∷ []) []) (same_id_equiv.symm (show_id k) (show_id id) ∙ h))
+
+-- of an id and an item that show this
+pub item_kept_as : (g : Graph) (id : Id) (item : Item) (i : IdData) (x : ItemEdge) → show_id id ≡ i → show_item_edge item ≡ x → (old new : Id → List Item)
+    → ((k : Id) → map show_item_edge (old k) ≡ items_from g (show_id k)) → ((q : Id) → new q ≡ cond (same_key id q) (old id ++ item ∷ []) (old q))
+    → (k : Id) → map show_item_edge (new k) ≡ items_from (with_entry g (item_edge i x)) (show_id k)
+item_kept_as g id item i x same_id same old new kept put k = item_kept g id item old new kept put k ∙ (λ j. items_from (with_entry g (item_edge (same_id j) (same j))) (show_id k))
 
 -- ---- what stands under an id
 

@@ -7,3 +7,4 @@ pub mod HoverLemmas
 pub mod LineLemmas
 pub mod ReadingLemmas
 pub mod AnsweredLemmas
+pub mod EndedLemmas

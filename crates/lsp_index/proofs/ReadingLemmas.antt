@@ -1,5 +1,5 @@
 -- A dump, line by line.
-use Rattle.std.proofs.Common.{◌≡◌, ◌==◌, ℕ, ◌+◌, ◌-◌, length, take, drop, List, [], ◌∷◌, ◌++◌, Bool, true, false, cond, ◌||◌, not, Option, Some, None, option_map, map, fold, refl, sym, ◌∙◌, ap, subst, append_assoc}
+use Rattle.std.proofs.Common.{◌≡◌, ◌==◌, ℕ, ◌+◌, ◌-◌, length, take, drop, List, [], ◌∷◌, ◌++◌, Bool, true, false, cond, ◌||◌, not, Some, None, map, fold, refl, sym, ◌∙◌, ap, subst, append_assoc}
 use Rattle.std.specs.Prelude.{is_none}
 use Rattle.std.specs.List.{list_any}
 use Rattle.std.specs.Str.Lines.{strip_carriage_return}
@@ -9,13 +9,12 @@ use Rattle.lsp_lsif.specs.Entry.{entry_row}
 use Rattle.lsp_lsif.specs.declared.entry.Entry.{Entry}
 use Rattle.lsp_index.specs.declared.lines.Lines.{Lines}
 use Rattle.lsp_index.specs.declared.lines.Search.{Search}
-use Rattle.lsp_index.specs.Graph.{Graph, EntryData, graph_of}
+use Rattle.lsp_index.specs.Graph.{Graph, graph_of}
 use Rattle.lsp_index.specs.Queries.{QueryData, IsAnswer}
 use Rattle.lsp_index.specs.Entries.{value_of_line, AreEntries, HasBadLine, entry_data}
-use Rattle.lsp_index.specs.declared.graph.Seen.{Seen}
-use Rattle.lsp_index.specs.Shown.{show_query, show_seen}
+use Rattle.lsp_index.specs.Shown.{show_query}
 use Rattle.lsp_index.specs.Kept.{IsKept, with_entry}
-use Rattle.lsp_index.specs.Reading.{ended_lines, part_after, HasNoEnd, values_of, shown_all, IsSeenOf, has_bad, HasBadEnded, TookGood, TookBad, TookLine, TookMore, TookBadIn, TookBytes, IsAfter}
+use Rattle.lsp_index.specs.Reading.{ended_lines, part_after, HasNoEnd, values_of, shown_all, has_bad, HasBadEnded, TookGood, TookBad, TookLine, TookMore, TookBadIn, TookBytes, IsAfter}
 use Rattle.lsp_index.specs.Answered.{IsAnswerLine}
 use Rattle.lsp_index.proofs.KeptLemmas.{graph_of-more}
 use Rattle.lsp_index.proofs.LineLemmas.{ended-append, part-append, ended_none, part_none, no_end, cut_at_end, values-append, bad-append, or_right, all_values, bad_end, bad_stays}
@@ -147,32 +146,18 @@ took_empty search line empty = record {
   kept = λ g kept. kept;
 }
 
-pub took_seen : (search new : Search) (line : List ℕ) (part : Seen) → (length line == 0) ≡ false → IsSeenOf search.query.request (value_of_line line) (Some part)
-    → ((g : Graph) → IsKept g search.index → IsKept (with_entry g (show_seen part)) new.index) → new.query ≡ search.query → new.is_bad ≡ search.is_bad → TookGood search line new
-took_seen search new line part filled is kept query good = by is.told is.value_is is.seen_is
-  where
-    by : (told : Option Entry) → value_of_line line ≡ option_map (λ (e : Entry). entry_row.shown e) told → Some (show_seen part) ≡ option_map (entry_data search.query.request) told → TookGood search line new
-    by None value told = absurd (cc)
-    by (Some entry) value told = record {
-      query = query;
-      good = good;
-      es = entry ∷ [];
-      values = ap (λ b. map value_of_line (cond (not b) (line ∷ []) [])) filled ∙ ap (λ v. v ∷ []) value;
-      kept = λ g old. subst (λ e. IsKept (with_entry g e) new.index) (same (show_seen part) (entry_data search.query.request entry) told) (kept g old);
-    }
-      where
-        same : (a b : EntryData) → Some a ≡ Some b → a ≡ b
-        same a b e = cc
+pub took_entry : (search new : Search) (line : List ℕ) (entry : Entry) → (length line == 0) ≡ false → value_of_line line ≡ Some (entry_row.shown entry)
+    → ((g : Graph) → IsKept g search.index → IsKept (with_entry g (entry_data search.query.request entry)) new.index) → new.query ≡ search.query → new.is_bad ≡ search.is_bad → TookGood search line new
+took_entry search new line entry filled is kept query good = record {
+  query = query;
+  good = good;
+  es = entry ∷ [];
+  values = ap (λ b. map value_of_line (cond (not b) (line ∷ []) [])) filled ∙ ap (λ v. v ∷ []) is;
+  kept = kept;
+}
 
-pub took_none : (search new : Search) (line : List ℕ) → (length line == 0) ≡ false → IsSeenOf search.query.request (value_of_line line) None → new.is_bad ≡ true → TookBad search line new
+pub took_none : (search new : Search) (line : List ℕ) → (length line == 0) ≡ false → value_of_line line ≡ None → new.is_bad ≡ true → TookBad search line new
 took_none search new line filled is bad = record {
   is_bad = bad;
-  bad = ap (λ b. list_any (λ l. is_none (value_of_line l)) (cond (not b) (line ∷ []) [])) filled ∙ ap (λ v. is_none v || false) (by is.told is.value_is is.seen_is);
+  bad = ap (λ b. list_any (λ l. is_none (value_of_line l)) (cond (not b) (line ∷ []) [])) filled ∙ ap (λ v. is_none v || false) is;
 }
-  where
-    by : (told : Option Entry) → value_of_line line ≡ option_map (λ (e : Entry). entry_row.shown e) told → None ≡ option_map (entry_data search.query.request) told → value_of_line line ≡ None
-    by None value told = value
-    by (Some entry) value told = absurd (differ (entry_data search.query.request entry) (sym told))
-      where
-        differ : (a : EntryData) → Some a ≡ None → ⊥
-        differ a e = cc

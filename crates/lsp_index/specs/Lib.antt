@@ -6,3 +6,4 @@ pub mod Shown
 pub mod Kept
 pub mod Reading
 pub mod Answered
+pub mod Ended

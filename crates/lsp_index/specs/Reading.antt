@@ -1,5 +1,5 @@
 -- For private clauses: how a dump is read, line by line.
-use Rattle.std.specs.Prelude.{◌≡◌, ◌⊎◌, ◌==◌, ⊤, ℕ, List, [], ◌∷◌, ◌++◌, length, Bool, true, false, not, Option, Some, option_map, is_none, map, filter, fold, if◌then◌else◌}
+use Rattle.std.specs.Prelude.{◌≡◌, ◌⊎◌, ◌==◌, ⊤, ℕ, List, [], ◌∷◌, ◌++◌, length, Bool, true, false, not, Option, Some, is_none, map, filter, fold, if◌then◌else◌}
 use Rattle.std.specs.Bool.{MatchBool}
 use Rattle.std.specs.List.{list_any}
 use Rattle.std.specs.Str.Lines.{strip_carriage_return}
@@ -9,14 +9,12 @@ use Rattle.lsp_server.specs.Errors.{ComesOfSink}
 use Rattle.lsp_server.specs.Written.{IsPrefixOf}
 use Rattle.lsp_lsif.specs.Entry.{entry_row}
 use Rattle.lsp_lsif.specs.declared.entry.Entry.{Entry}
-use Rattle.lsp_index.specs.declared.graph.Seen.{Seen}
 use Rattle.lsp_index.specs.declared.lines.Lines.{Lines}
 use Rattle.lsp_index.specs.declared.lines.Search.{Search}
-use Rattle.lsp_index.specs.declared.query.Request.{Request}
 use Rattle.lsp_index.specs.Graph.{Graph, graph_of}
 use Rattle.lsp_index.specs.Queries.{QueryData}
 use Rattle.lsp_index.specs.Entries.{value_of_line, HasBadLine, entry_data}
-use Rattle.lsp_index.specs.Shown.{show_query, show_seen}
+use Rattle.lsp_index.specs.Shown.{show_query}
 use Rattle.lsp_index.specs.Kept.{IsKept, with_entry}
 use Rattle.lsp_index.specs.Answered.{IsAnswerLine}
 
@@ -42,12 +40,6 @@ values_of ls = map value_of_line (filled ls)
 
 abbrev pub shown_all : List Entry → List (Option Plain)
 shown_all es = map (λ e. Some (entry_row.shown e)) es
-
--- this is seen of the entry with that value; nothing where there is none
-pub record IsSeenOf (r : Request) (value : Option Plain) (part : Option Seen) : Type 0 where
-  pub told : Option Entry
-  pub value_is : value ≡ option_map (λ e. entry_row.shown e) told
-  pub seen_is : option_map show_seen part ≡ option_map (entry_data r) told
 
 abbrev pub has_bad : List (List ℕ) → Bool
 has_bad ls = list_any (λ l. is_none (value_of_line l)) (filled ls)

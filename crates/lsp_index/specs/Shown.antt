@@ -10,11 +10,10 @@ use Rattle.lsp_base.specs.declared.position.Range.{Range}
 use Rattle.lsp_index.specs.declared.graph.Node.{Node}
 use Rattle.lsp_index.specs.declared.graph.Node.TheVariants as nodes
 use Rattle.lsp_index.specs.declared.graph.Item.{Item}
-use Rattle.lsp_index.specs.declared.graph.Seen.{Seen}
-use Rattle.lsp_index.specs.declared.graph.Seen.TheVariants as seen
 use Rattle.lsp_index.specs.declared.graph.Outgoing.{Outgoing}
 use Rattle.lsp_index.specs.declared.query.Query.{Query}
-use Rattle.lsp_index.specs.Graph.{VertexData, document_vertex, range_vertex, hover_vertex, other_vertex, ItemEdge, EntryData, vertex_entry, contains_edge, next_edge, result_edge, item_edge, unseen_edge}
+use Rattle.lsp_index.specs.Entries.{entry_ids}
+use Rattle.lsp_index.specs.Graph.{VertexData, document_vertex, range_vertex, hover_vertex, other_vertex, ItemEdge}
 use Rattle.lsp_index.specs.Queries.{LocationData, QueryData}
 
 abbrev pub show_ids : List Id → List IdData
@@ -27,15 +26,7 @@ show_node (nodes.Hover text) = hover_vertex (string_bytes text)
 show_node nodes.Other = other_vertex
 
 abbrev pub show_item_edge : Item → ItemEdge
-show_item_edge i = record { targets = show_ids i.targets.items; document = show_id i.document; role = i.role }
-
-abbrev pub show_seen : Seen → EntryData
-show_seen (seen.Vertex id node) = vertex_entry (show_id id) (show_node node)
-show_seen (seen.Contains out) = contains_edge (show_id out.from) (show_ids out.targets.items)
-show_seen (seen.Next id target) = next_edge (show_id id) (show_id target)
-show_seen (seen.Result id target) = result_edge (show_id id) (show_id target)
-show_seen (seen.Item id item) = item_edge (show_id id) (show_item_edge item)
-show_seen seen.Unseen = unseen_edge
+show_item_edge i = record { targets = entry_ids i.targets.items; document = show_id i.document; role = i.role }
 
 -- ---- entries of tables
 
@@ -43,7 +34,7 @@ abbrev pub show_vertex_of : Id × Node → IdData × VertexData
 show_vertex_of e = (show_id e.0, show_node e.1)
 
 abbrev pub show_outgoing : Outgoing → IdData × List IdData
-show_outgoing e = (show_id e.from, show_ids e.targets.items)
+show_outgoing e = (show_id e.from, entry_ids e.targets.items)
 
 abbrev pub show_link : Id × Id → IdData × IdData
 show_link e = (show_id e.0, show_id e.1)

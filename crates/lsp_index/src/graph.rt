@@ -1,15 +1,20 @@
 // A dump as a graph, as far as a query looks at it.
-ghost use Rattle.std.specs.Prelude.{◌≡◌, OnOk, [], map, option_map, string_bytes};
+ghost use Rattle.std.specs.Prelude.{◌≡◌, OnOk, [], map, option_map, string_bytes, if◌then◌else◌};
+ghost use Rattle.lsp_base.specs.Position.{id_of};
 ghost use Rattle.lsp_rpc.specs.Shown.{show_id};
 ghost use Rattle.lsp_uri.specs.Uri.{uri_text};
-ghost use Rattle.lsp_index.specs.Graph.{Graph, graph_of};
+ghost use Rattle.lsp_index.specs.Entries.{entry_data, vertex_data, edge_data, result_data, item_data};
+ghost use Rattle.lsp_index.specs.Graph.{Graph, graph_of, vertex_entry, unseen_edge};
 ghost use Rattle.lsp_index.specs.Kept.{IsKept, with_entry};
 ghost use Rattle.lsp_index.specs.Queries.{document_in, range_in, hover_in, document_at, range_at, hover_at, items_from};
-ghost use Rattle.lsp_index.specs.Shown.{show_node, show_item_edge, show_seen};
+ghost use Rattle.lsp_index.specs.Shown.{show_node, show_item_edge};
 
+use crate::Request;
+use crate::entry::{node, role_of};
 use crate::table::{put_first, put_item};
 use indexmap::IndexMap;
-use lsp_base::Range;
+use lsp_base::{NumberOrString, Range};
+use lsp_lsif::{Edge, EdgeData, EdgeDataMultiIn, Element, Entry, Vertex};
 use lsp_rpc::{Id, NoMemory};
 use lsp_uri::Uri;
 use std::alloc::Global;
@@ -62,7 +67,7 @@ impl Node {
 }
 
 /// What the vertices that an edge `item` leads to are to the result.
-#[derive(Clone, Copy, Debug, PartialEq, Eq)]
+#[derive(Clone, Copy)]
 pub(crate) enum Role {
     /// Where the symbol is declared, defined or used.
     Place,
@@ -75,7 +80,7 @@ pub(crate) enum Role {
 /// An edge `item`, from its result on.
 #[derive(Drop)]
 pub(crate) struct Item {
-    pub(crate) targets: Vec<Id>,
+    pub(crate) targets: Vec<NumberOrString>,
     pub(crate) document: Id,
     pub(crate) role: Role,
 }
@@ -84,20 +89,7 @@ pub(crate) struct Item {
 #[derive(Drop)]
 pub(crate) struct Outgoing {
     pub(crate) from: Id,
-    pub(crate) targets: Vec<Id>,
-}
-
-/// An entry.
-#[derive(Drop)]
-pub(crate) enum Seen {
-    Vertex(Id, Node),
-    Contains(Outgoing),
-    Next(Id, Id),
-    /// An edge of the label that the query asks for.
-    Result(Id, Id),
-    Item(Id, Item),
-    /// An edge that the query never looks at.
-    Unseen,
+    pub(crate) targets: Vec<NumberOrString>,
 }
 
 /// What is kept of a dump.
@@ -173,19 +165,94 @@ impl Index {
         }
     }
 
-    /// Keeps one more entry.
-    pub(crate) fn keep(&mut self, entry: Seen) -> Result<(), NoMemory>
+    /// Keeps one more entry, as far as a query that asks for this looks at it.
+    pub(crate) fn keep(&mut self, request: Request, entry: Entry) -> Result<(), NoMemory>
         ensures { OnOk result ((g : Graph) → IsKept g self.old
-            → IsKept (with_entry g (show_seen entry)) self.new) }
+            → IsKept (with_entry g (entry_data request entry)) self.new) }
     {
-        match entry {
-            Seen::Vertex(id, node) => put_first(&mut self.vertices, id, node)?,
-            Seen::Contains(outgoing) => self.contained.push(outgoing)?,
-            Seen::Next(from, to) => put_first(&mut self.nexts, from, to)?,
-            Seen::Result(from, to) => put_first(&mut self.results, from, to)?,
-            Seen::Item(from, item) => put_item(self.alloc, &mut self.items, from, item)?,
-            Seen::Unseen => {}
+        let Entry { id, payload } = entry;
+        match payload {
+            Element::Vertex(vertex) => self.keep_vertex(request, id, vertex),
+            Element::Edge(edge) => self.keep_edge(request, edge),
         }
-        Ok(())
+    }
+
+    fn keep_vertex(
+        &mut self,
+        request: Request,
+        id: NumberOrString,
+        vertex: Vertex,
+    ) -> Result<(), NoMemory>
+        ensures { OnOk result ((g : Graph) → IsKept g self.old → IsKept
+            (with_entry g (vertex_entry (id_of id) (vertex_data request vertex))) self.new) }
+    {
+        let seen = node(self.alloc, request, &vertex);
+        drop(vertex);
+        match seen {
+            Ok(node) => put_first(&mut self.vertices, Id::from(id), node),
+            Err(error) => Err(error),
+        }
+    }
+
+    fn keep_edge(&mut self, request: Request, edge: Edge) -> Result<(), NoMemory>
+        ensures { OnOk result ((g : Graph) → IsKept g self.old
+            → IsKept (with_entry g (edge_data request edge)) self.new) }
+    {
+        match edge {
+            Edge::Contains(edge) => {
+                self.contained.push(Outgoing {
+                    from: Id::from(edge.out_v),
+                    targets: edge.in_vs,
+                })?;
+                Ok(())
+            }
+            Edge::Next(edge) => put_first(
+                &mut self.nexts,
+                Id::from(edge.out_v),
+                Id::from(edge.in_v),
+            ),
+            Edge::Definition(edge) => self.keep_result(request.is_definition(), edge),
+            Edge::References(edge) => self.keep_result(request.is_references(), edge),
+            Edge::Hover(edge) => self.keep_result(request.is_hover(), edge),
+            Edge::Item(item) => self.keep_item(request.is_hover(), item),
+            other => {
+                drop(other);
+                Ok(())
+            }
+        }
+    }
+
+    // Keeps an edge to a result, if its label is the one that is asked for.
+    fn keep_result(&mut self, is_asked: bool, edge: EdgeData) -> Result<(), NoMemory>
+        ensures { OnOk result ((g : Graph) → IsKept g self.old
+            → IsKept (with_entry g (result_data is_asked edge)) self.new) }
+    {
+        if is_asked {
+            put_first(&mut self.results, Id::from(edge.out_v), Id::from(edge.in_v))
+        } else {
+            Ok(())
+        }
+    }
+
+    // Hovers look at no items.
+    fn keep_item(&mut self, is_hover: bool, item: lsp_lsif::Item) -> Result<(), NoMemory>
+        ensures { OnOk result ((g : Graph) → IsKept g self.old
+            → IsKept (with_entry g (if is_hover then unseen_edge else item_data item)) self.new) }
+    {
+        if is_hover {
+            return Ok(());
+        }
+        let lsp_lsif::Item {
+            document,
+            property,
+            edge_data,
+        } = item;
+        let EdgeDataMultiIn { in_vs, out_v } = edge_data;
+        let kept = Item {
+            targets: in_vs,
+            document: Id::from(document),
+            role: role_of(property),
+        };
+        put_item(self.alloc, &mut self.items, Id::from(out_v), kept)
     }
 }

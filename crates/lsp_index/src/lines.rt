@@ -43,9 +43,9 @@ impl Search {
         if line.is_empty() {
             return Ok(true);
         }
-        match read_line(self.index.alloc, self.query.request, line)? {
-            Some(part) => {
-                self.index.keep(part)?;
+        match read_line(self.index.alloc, line)? {
+            Some(entry) => {
+                self.index.keep(self.query.request, entry)?;
                 Ok(true)
             }
             None => {

@@ -6,7 +6,7 @@ use lsp_base::Position;
 use lsp_uri::Uri;
 
 /// What a query asks for (LSP 3.17, "Language Features").
-#[derive(Clone, Copy, Debug, PartialEq, Eq)]
+#[derive(Clone, Copy)]
 pub enum Request {
     /// Where the symbol at a position is defined.
     Definition,
@@ -49,7 +49,7 @@ impl Request {
 }
 
 /// A request for a position of a document.
-#[derive(Debug, Drop)]
+#[derive(Drop)]
 pub struct Query {
     pub request: Request,
     /// The document.

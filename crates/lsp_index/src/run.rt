@@ -7,6 +7,7 @@ ghost use Rattle.lsp_server.specs.Leaves.{StaysFlushed, TellsFaults, WithinReads
 ghost use Rattle.lsp_server.specs.SourceSink.{CountRose, IsFlushed};
 ghost use Rattle.lsp_server.specs.Served.{call_bytes};
 ghost use Rattle.lsp_index.specs.Answered.{IsQueryAnswered, IsRefused, WroteBegun, WroteNone, WhereAsked};
+ghost use Rattle.lsp_index.specs.Ended.{AnswerEnded, status_from};
 ghost use Rattle.lsp_index.specs.Shown.{show_query};
 ghost use Rattle.lsp_index.specs.Words.{query_asked};
 
@@ -79,7 +80,6 @@ pub fn answer<I: Source, O: Sink>(
 }
 
 // Answers a query, with all the reads that can be counted. No desk could be spent.
-#[tactic(auto, using(lsp_program::proofs::StatusLemmas::status_known))]
 fn answer_query<I: Source, O: Sink>(alloc: Global, query: Query, source: &mut I, sink: &mut O) -> u8
     ensures known { (result ≤ 8) × (result ≢ 1) × (result ≢ 2) × (result ≢ 7) }
     ensures done { result ≡ 0 → IfSome (I.left source.old) (λ bytes. IsQueryAnswered (show_query query)
@@ -106,7 +106,13 @@ fn answer_query<I: Source, O: Sink>(alloc: Global, query: Query, source: &mut I,
         → IfSome (I.left source.old) (λ bytes. WroteBegun (show_query query)
         (call_bytes bytes (I.left source.new) (O.taken sink.old) (O.taken sink.new))) }
 {
-    match answer_ends(alloc, query, source, sink, u64::MAX) {
+    status_from(answer_ends(alloc, query, source, sink, u64::MAX))
+}
+
+fn status_from(ended: Result<bool, ServeError>) -> u8
+    ensures { result ≡ status_from ended }
+{
+    match ended {
         Ok(true) => Status::Done as u8,
         Ok(false) => Status::BadInput as u8,
         Err(error) => status_of(error),
@@ -121,26 +127,19 @@ fn answer_ends<I: Source, O: Sink>(
     sink: &mut O,
     reads: u64,
 ) -> Result<bool, ServeError>
-    ensures done { IfOk result (λ good. IfSome (I.left source.old) (λ bytes. MatchBool good
-        (IsQueryAnswered (show_query query)
-        (call_bytes bytes (I.left source.new) (O.taken sink.old) (O.taken sink.new)))
-        (IsRefused
-        (call_bytes bytes (I.left source.new) (O.taken sink.old) (O.taken sink.new))))) }
-    ensures flushed { StaysFlushed (O.taken sink.old) (O.flushed sink.old)
-        (O.taken sink.new) (O.flushed sink.new) (result_err result) }
-    ensures faults { TellsFaults (I.faults source.old) (I.faults source.new)
-        (O.faults sink.old) (O.faults sink.new) (result_err result) }
-    ensures within { WithinReads reads 4096 (I.left source.old) (I.left source.new) None None
-        (result_err result) }
-    ensures no_desk { IfErr result (λ e. (n : ℕ) → e ≢ ServeError.DeskSpent n) }
-    ensures complete { IfErr result (λ e. IfSome (I.left source.old) (λ bytes.
-        length bytes < reads
-        → ¬ CountRose (I.faults source.old) (I.faults source.new)
-        → ¬ CountRose (O.faults sink.old) (O.faults sink.new) → e ≡ ServeError.NoMemory)) }
-    ensures between { IfErr result (λ e. IsBetweenReads e → IfSome (I.left source.old) (λ bytes.
-        WroteNone (call_bytes bytes (I.left source.new) (O.taken sink.old) (O.taken sink.new)))) }
-    ensures part { OnErr result (IfSome (I.left source.old) (λ bytes. WroteBegun (show_query query)
-        (call_bytes bytes (I.left source.new) (O.taken sink.old) (O.taken sink.new)))) }
+    ensures { AnswerEnded (show_query query) reads
+        (record {
+          left = I.left source.old;
+          left_after = I.left source.new;
+          reads_failed = I.faults source.old;
+          reads_failed_after = I.faults source.new;
+          taken = O.taken sink.old;
+          taken_after = O.taken sink.new;
+          flushed = O.flushed sink.old;
+          flushed_after = O.flushed sink.new;
+          writes_failed = O.faults sink.old;
+          writes_failed_after = O.faults sink.new;
+        }) result }
 {
     let mut ends = Ends { source, sink };
     answer_over(alloc, query, &mut ends, reads)

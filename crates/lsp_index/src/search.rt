@@ -6,17 +6,20 @@ ghost use Rattle.serde_json.specs.Written.{comma_if, compact_text};
 ghost use Rattle.lsp_rpc.specs.Message.{IdData};
 ghost use Rattle.lsp_rpc.specs.Ids.{same_id};
 ghost use Rattle.lsp_rpc.specs.Shown.{show_id};
+ghost use Rattle.lsp_base.specs.Position.{id_of};
 ghost use Rattle.lsp_uri.specs.Uri.{uri_text};
 ghost use Rattle.lsp_shape.specs.Read.{text_is};
+ghost use Rattle.lsp_index.specs.Entries.{entry_ids};
 ghost use Rattle.lsp_index.specs.Graph.{Graph, at_id};
 ghost use Rattle.lsp_index.specs.Kept.{IsKept};
 ghost use Rattle.lsp_index.specs.Shown.{show_ids, show_item_edge, show_location, show_query, show_named, show_link, show_outgoing, show_vertex_of};
 ghost use Rattle.lsp_index.specs.Queries.{is_before, holds_position, is_closer, closest_of, range_holding, candidate_in, with_candidate, chosen_at, with_new_id, with_contained, named_in, document_at, hover_at, IsReached, IsReachedFrom, with_location, with_range, with_ranges, with_item_ranges, with_items, with_linked, with_place, with_places, with_results, AreResults, location_value, locations_text as locations_text_lem, null_text as null_text_lem, IsDefinition, IsReferences, IsAnswerFrom, IsAnswer};
 
+use crate::entry::key_of;
 use crate::graph::{Index, Item, Outgoing, Role};
 use crate::{Query, Request};
 use indexmap::{IndexMap, IndexSet};
-use lsp_base::{Location, Position, Range};
+use lsp_base::{Location, NumberOrString, Position, Range};
 use lsp_rpc::{Id, NoMemory};
 use lsp_shape::write_text;
 use lsp_uri::Uri;
@@ -71,11 +74,11 @@ fn add_range(
 }
 
 // Puts an id after those of the set, where it is new.
-fn add_id(alloc: Global, id: &Id, set: &mut IndexSet<Id>) -> Result<(), NoMemory>
+fn add_id(alloc: Global, id: &NumberOrString, set: &mut IndexSet<Id>) -> Result<(), NoMemory>
     ensures { OnOk result (show_ids set.new.keys
-        ≡ with_new_id (show_ids set.old.keys) (show_id id.now)) }
+        ≡ with_new_id (show_ids set.old.keys) (id_of id.now)) }
 {
-    set.insert(id.clone(alloc)?)?;
+    set.insert(key_of(alloc, id)?)?;
     Ok(())
 }
 
@@ -89,9 +92,9 @@ fn is_new(alloc: Global, id: &Id, set: &mut IndexSet<Id>) -> Result<bool, NoMemo
 }
 
 // Puts ids after those of the set, where they are new.
-fn add_ids(alloc: Global, ids: &Vec<Id>, set: &mut IndexSet<Id>) -> Result<(), NoMemory>
+fn add_ids(alloc: Global, ids: &Vec<NumberOrString>, set: &mut IndexSet<Id>) -> Result<(), NoMemory>
     ensures { OnOk result (show_ids set.new.keys
-        ≡ fold with_new_id (show_ids set.old.keys) (show_ids ids.now.items)) }
+        ≡ fold with_new_id (show_ids set.old.keys) (entry_ids ids.now.items)) }
 {
     for id in ids {
         add_id(alloc, id, set)?;
@@ -102,7 +105,7 @@ fn add_ids(alloc: Global, ids: &Vec<Id>, set: &mut IndexSet<Id>) -> Result<(), N
 // Puts the further results of an item after those of the set, where they are new.
 fn add_linked(alloc: Global, item: &Item, results: &mut IndexSet<Id>) -> Result<(), NoMemory>
     ensures { OnOk result (show_ids results.new.keys
-        ≡ with_linked (show_ids results.old.keys) item.now.role (show_ids item.now.targets.items)) }
+        ≡ with_linked (show_ids results.old.keys) item.now.role (entry_ids item.now.targets.items)) }
 {
     match item.role {
         Role::Linked => add_ids(alloc, &item.targets, results),
@@ -291,15 +294,16 @@ impl Index {
     fn add_ranges(
         &self,
         uri: &Uri,
-        ids: &Vec<Id>,
+        ids: &Vec<NumberOrString>,
         found: &mut IndexSet<Location>,
     ) -> Result<(), NoMemory>
         ensures { OnOk result ((g : Graph) → IsKept g self.now → map show_location found.new.keys
-            ≡ with_ranges g (show_ids ids.now.items) (map show_location found.old.keys)
+            ≡ with_ranges g (entry_ids ids.now.items) (map show_location found.old.keys)
             (Some (uri_text uri.now))) }
     {
         for id in ids {
-            add_range(uri, self.range(id), found)?;
+            let key = key_of(self.alloc, id)?;
+            add_range(uri, self.range(&key), found)?;
         }
         Ok(())
     }

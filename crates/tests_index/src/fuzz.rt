@@ -1,7 +1,7 @@
 //! Random dumps, on which queries are answered as by plain walks.
-use crate::plain::{Entry, Item, Label, Name, Place, Property, Span, Vertex, plain_answer};
+use crate::plain::{Entry, Item, Name, Names, Place, Span, Vertex, plain_answer};
 use crate::rows::run;
-use lsp_index::Request;
+use crate::text::Text;
 use lsp_rows::{RowError, Trial};
 use rand_core::utils::NextWord;
 use rand_pcg::Pcg32;
@@ -80,28 +80,29 @@ fn some_id(random: &mut Pcg32, size: &Size, kind: Kind) -> Name {
     let number = below(random, size.ids)
         .saturating_mul(4)
         .saturating_add(kind);
-    if below(random, 10) == 0 {
-        Name::Text(number)
-    } else {
-        Name::Number(number)
+    Name {
+        number,
+        is_text: below(random, 10) == 0,
     }
 }
 
-fn some_ids(
-    alloc: Global,
-    random: &mut Pcg32,
-    size: &Size,
-    kind: Kind,
-) -> Result<Vec<Name>, AllocError> {
-    let mut ids = Vec::new(alloc);
-    for _ in 0..below(random, 6) {
-        ids.push(some_id(random, size, kind))?;
+fn some_ids(random: &mut Pcg32, size: &Size, kind: Kind) -> Names {
+    let none = Name {
+        number: 0,
+        is_text: false,
+    };
+    let count = below(random, 6) as usize;
+    let mut all = [none; 5];
+    for i in 0..5 {
+        if i < count {
+            all[i] = some_id(random, size, kind);
+        }
     }
-    Ok(ids)
+    Names { all, count }
 }
 
-fn some_uri(random: &mut Pcg32) -> char {
-    if below(random, 4) == 0 { 'b' } else { 'a' }
+fn some_uri(random: &mut Pcg32) -> &'static str {
+    if below(random, 4) == 0 { "b" } else { "a" }
 }
 
 fn some_place(random: &mut Pcg32, size: &Size) -> Place {
@@ -123,19 +124,13 @@ fn some_span(random: &mut Pcg32, size: &Size) -> Span {
     Span { start, end }
 }
 
-fn some_result(random: &mut Pcg32) -> Vertex {
-    match below(random, 3) {
-        0 => Vertex::Other("definitionResult"),
-        1 => Vertex::Other("referenceResult"),
-        _ => Vertex::Hover(below(random, 1000)),
-    }
-}
-
 fn some_vertex(random: &mut Pcg32, size: &Size) -> Entry {
-    let (kind, vertex) = match below(random, 6) {
-        0 => (Kind::Document, Vertex::Document(some_uri(random))),
-        1 => (Kind::Set, Vertex::Other("resultSet")),
-        2 => (Kind::Result, some_result(random)),
+    let (kind, vertex) = match below(random, 18) {
+        0..=2 => (Kind::Document, Vertex::Document(some_uri(random))),
+        3..=5 => (Kind::Set, Vertex::Other("resultSet")),
+        6 => (Kind::Result, Vertex::Other("definitionResult")),
+        7 => (Kind::Result, Vertex::Other("referenceResult")),
+        8 => (Kind::Result, Vertex::Hover(below(random, 1000))),
         _ => (Kind::Range, Vertex::Range(some_span(random, size))),
     };
     Entry::Vertex(some_id(random, size, kind), vertex)
@@ -144,11 +139,11 @@ fn some_vertex(random: &mut Pcg32, size: &Size) -> Entry {
 // An edge from a range or a set to another set, or to a result.
 fn some_link(random: &mut Pcg32, size: &Size) -> Entry {
     let (label, kind) = match below(random, 8) {
-        0 => (Label::Moniker, Kind::Set),
-        1 | 2 => (Label::Definition, Kind::Result),
-        3 | 4 => (Label::References, Kind::Result),
-        5 => (Label::Hover, Kind::Result),
-        _ => (Label::Next, Kind::Set),
+        0 => ("moniker", Kind::Set),
+        1 | 2 => (DEFINITION, Kind::Result),
+        3 | 4 => (REFERENCES, Kind::Result),
+        5 => (HOVER, Kind::Result),
+        _ => ("next", Kind::Set),
     };
     let from = if below(random, 2) == 0 {
         Kind::Range
@@ -159,201 +154,210 @@ fn some_link(random: &mut Pcg32, size: &Size) -> Entry {
     Entry::Link(label, from, some_id(random, size, kind))
 }
 
-fn some_property(random: &mut Pcg32) -> Property {
-    match below(random, 8) {
-        0 => Property::None,
-        1 => Property::Place("declarations"),
-        2 => Property::Place("definitions"),
-        3 | 4 => Property::Place("references"),
-        5 | 6 => Property::ReferenceResults,
-        _ => Property::ImplementationResults,
-    }
-}
-
-fn some_item(alloc: Global, random: &mut Pcg32, size: &Size) -> Result<Entry, AllocError> {
-    let property = some_property(random);
-    let kind = match property {
-        Property::ReferenceResults => Kind::Result,
-        _ => Kind::Range,
+fn some_item(random: &mut Pcg32, size: &Size) -> Entry {
+    let (property, kind) = match below(random, 8) {
+        0 => ("", Kind::Range),
+        1 => ("declarations", Kind::Range),
+        2 => ("definitions", Kind::Range),
+        3 | 4 => ("references", Kind::Range),
+        5 | 6 => ("referenceResults", Kind::Result),
+        _ => ("implementationResults", Kind::Range),
     };
-    Ok(Entry::Item(Item {
+    Entry::Item(Item {
         from: some_id(random, size, Kind::Result),
-        targets: some_ids(alloc, random, size, kind)?,
+        targets: some_ids(random, size, kind),
         document: some_id(random, size, Kind::Document),
         property,
-    }))
+    })
 }
 
-fn some_entry(alloc: Global, random: &mut Pcg32, size: &Size) -> Result<Entry, AllocError> {
+fn some_entry(random: &mut Pcg32, size: &Size) -> Entry {
     match below(random, 10) {
-        0..=4 => Ok(some_vertex(random, size)),
-        5 | 6 => Ok(some_link(random, size)),
-        7 | 8 => some_item(alloc, random, size),
+        0..=4 => some_vertex(random, size),
+        5 | 6 => some_link(random, size),
+        7 | 8 => some_item(random, size),
         _ => {
             let from = some_id(random, size, Kind::Document);
-            Ok(Entry::Contains(from, some_ids(alloc, random, size, Kind::Range)?))
+            Entry::Contains(from, some_ids(random, size, Kind::Range))
         }
     }
 }
 
 // ---- The text of a dump.
 
-fn push_ids(text: &mut String, ids: &[Name]) -> Result<(), AllocError> {
-    text.push_str(",\"inVs\":[")?;
-    for (i, id) in ids.iter().enumerate() {
-        let comma = if i == 0 { "" } else { "," };
-        write!(text, "{comma}{id}")?;
+fn put_id(text: &mut Text, id: Name) {
+    let quote = if id.is_text { "\"" } else { "" };
+    text.put(quote);
+    text.number(id.number);
+    text.put(quote);
+}
+
+fn put_ids(text: &mut Text, ids: &Names) {
+    text.put(",\"inVs\":[");
+    let mut comma = "";
+    for id in ids.as_slice() {
+        text.put(comma);
+        put_id(text, *id);
+        comma = ",";
     }
-    text.push_str("]")?;
-    Ok(())
+    text.put("]");
 }
 
-fn push_place(text: &mut String, name: &str, place: Place) -> Result<(), AllocError> {
-    let (line, character) = (place.line, place.character);
-    write!(
-        text,
-        ",\"{name}\":{{\"line\":{line},\"character\":{character}}}"
-    )
+fn put_place(text: &mut Text, name: &str, place: Place) {
+    text.put(name);
+    text.put("{\"line\":");
+    text.number(place.line);
+    text.put(",\"character\":");
+    text.number(place.character);
+    text.put("}");
 }
 
-fn push_vertex(text: &mut String, id: Name, vertex: Vertex) -> Result<(), AllocError> {
-    write!(text, "{{\"id\":{id},\"type\":\"vertex\"")?;
+fn put_vertex(text: &mut Text, vertex: Vertex) {
     match vertex {
-        Vertex::Document(uri) => write!(
-            text,
-            ",\"label\":\"document\",\"uri\":\"file:///{uri}\",\"languageId\":\"x\""
-        ),
-        Vertex::Range(span) => {
-            text.push_str(",\"label\":\"range\"")?;
-            push_place(text, "start", span.start)?;
-            push_place(text, "end", span.end)
+        Vertex::Document(uri) => {
+            text.put("document\",\"languageId\":\"x\",\"uri\":\"file:///");
+            text.put(uri);
+            text.put("\"");
         }
-        Vertex::Hover(number) => write!(
-            text,
-            ",\"label\":\"hoverResult\",\"result\":{{\"contents\":\"h{number}\"}}"
-        ),
-        Vertex::Other(label) => write!(text, ",\"label\":\"{label}\""),
+        Vertex::Range(span) => {
+            put_place(text, "range\",\"start\":", span.start);
+            put_place(text, ",\"end\":", span.end);
+        }
+        Vertex::Hover(number) => {
+            text.put("hoverResult\",\"result\":{\"contents\":\"h");
+            text.number(number);
+            text.put("\"}");
+        }
+        Vertex::Other(label) => {
+            text.put(label);
+            text.put("\"");
+        }
     }
 }
 
-fn text_of(label: Label) -> &'static str {
-    match label {
-        Label::Next => "next",
-        Label::Definition => "textDocument/definition",
-        Label::References => "textDocument/references",
-        Label::Hover => "textDocument/hover",
-        Label::Moniker => "moniker",
-    }
+// An edge begins so.
+fn put_edge(text: &mut Text, label: &str, from: Name) {
+    text.put("\"edge\",\"label\":\"");
+    text.put(label);
+    text.put("\",\"outV\":");
+    put_id(text, from);
 }
 
-fn property_of(property: Property) -> &'static str {
-    match property {
-        Property::None => "",
-        Property::Place("declarations") => ",\"property\":\"declarations\"",
-        Property::Place("definitions") => ",\"property\":\"definitions\"",
-        Property::Place(_) => ",\"property\":\"references\"",
-        Property::ReferenceResults => ",\"property\":\"referenceResults\"",
-        Property::ImplementationResults => ",\"property\":\"implementationResults\"",
-    }
-}
-
-// An edge begins so, with its place in the dump as its id.
-fn push_edge(text: &mut String, at: usize, label: &str, from: Name) -> Result<(), AllocError> {
-    write!(
-        text,
-        "{{\"id\":{at},\"type\":\"edge\",\"label\":\"{label}\",\"outV\":{from}"
-    )
-}
-
-fn push_entry(text: &mut String, at: usize, entry: &Entry) -> Result<(), AllocError> {
+// An edge has its place in the dump as its id.
+fn put_entry(text: &mut Text, at: u32, entry: &Entry) {
+    let id = match entry {
+        Entry::Vertex(id, _) => *id,
+        _ => Name {
+            number: at,
+            is_text: false,
+        },
+    };
+    text.put("{\"id\":");
+    put_id(text, id);
+    text.put(",\"type\":");
     match entry {
-        Entry::Vertex(id, vertex) => push_vertex(text, *id, *vertex),
+        Entry::Vertex(_, vertex) => {
+            text.put("\"vertex\",\"label\":\"");
+            put_vertex(text, *vertex);
+        }
         Entry::Contains(from, targets) => {
-            push_edge(text, at, "contains", *from)?;
-            push_ids(text, targets.as_slice())
+            put_edge(text, "contains", *from);
+            put_ids(text, targets);
         }
         Entry::Link(label, from, to) => {
-            push_edge(text, at, text_of(*label), *from)?;
-            write!(text, ",\"inV\":{to}")
+            put_edge(text, label, *from);
+            text.put(",\"inV\":");
+            put_id(text, *to);
         }
-        Entry::Item(item) => {
-            push_edge(text, at, "item", item.from)?;
-            push_ids(text, item.targets.as_slice())?;
-            let property = property_of(item.property);
-            write!(text, ",\"document\":{}{property}", item.document)
-        }
+        Entry::Item(item) => put_item(text, item),
+    }
+}
+
+fn put_item(text: &mut Text, item: &Item) {
+    put_edge(text, "item", item.from);
+    put_ids(text, &item.targets);
+    text.put(",\"document\":");
+    put_id(text, item.document);
+    if !item.property.is_empty() {
+        text.put(",\"property\":\"");
+        text.put(item.property);
+        text.put("\"");
     }
 }
 
 // The text of the dump, whose lines end in all ways.
 fn dump_text(alloc: Global, random: &mut Pcg32, dump: &[Entry]) -> Result<String, AllocError> {
-    let mut text = String::new(alloc);
-    for (at, entry) in dump.iter().enumerate() {
-        push_entry(&mut text, at, entry)?;
+    let mut text = Text::new(alloc);
+    let mut at: u32 = 0;
+    for entry in dump {
+        put_entry(&mut text, at, entry);
         let end = match below(random, 8) {
             0 => "}\r\n",
             1 => "}\n\r\n\n",
             _ => "}\n",
         };
-        text.push_str(end)?;
+        text.put(end);
+        at = at.saturating_add(1);
     }
-    Ok(text)
+    text.end()
 }
 
 // ---- The queries.
 
-const REQUESTS: [(Request, &str); 3] = [
-    (Request::Definition, "definition"),
-    (Request::References, "references"),
-    (Request::Hover, "hover"),
+const DEFINITION: &str = "textDocument/definition";
+
+const REFERENCES: &str = "textDocument/references";
+
+const HOVER: &str = "textDocument/hover";
+
+// The word of a query, and the label of the edges to its results.
+const QUERIES: [[&str; 2]; 3] = [
+    ["definition", DEFINITION],
+    ["references", REFERENCES],
+    ["hover", HOVER],
 ];
 
-// A dump, and its text.
-#[derive(Drop)]
-struct Dump {
-    entries: Vec<Entry>,
-    text: String,
-}
-
-fn some_dump(alloc: Global, random: &mut Pcg32, size: &Size) -> Result<Dump, AllocError> {
+fn some_dump(alloc: Global, random: &mut Pcg32, size: &Size) -> Result<Vec<Entry>, AllocError> {
     let mut entries = Vec::new(alloc);
     for _ in 0..size.entries {
-        entries.push(some_entry(alloc, random, size)?)?;
+        entries.push(some_entry(random, size))?;
     }
-    let text = dump_text(alloc, random, entries.as_slice())?;
-    Ok(Dump { entries, text })
+    Ok(entries)
 }
 
-fn words_of(alloc: Global, word: &str, uri: char, position: Place) -> Result<String, AllocError> {
-    let (line, character) = (position.line, position.character);
-    format!(in alloc; "{word} file:///{uri} {line} {character}")
-}
-
-// What the program gives.
+// What the program gives for the word, over a dump of that text.
 fn answered(
     alloc: Global,
-    dump: &Dump,
+    text: &str,
     word: &str,
-    uri: char,
+    uri: &str,
     position: Place,
 ) -> Result<String, AllocError> {
-    let words = words_of(alloc, word, uri, position)?;
-    run(alloc, words.as_str(), dump.text.as_bytes(), 4096)
+    let mut words = Text::new(alloc);
+    words.put(word);
+    words.put(" file:///");
+    words.put(uri);
+    words.put(" ");
+    words.number(position.line);
+    words.put(" ");
+    words.number(position.character);
+    run(alloc, words.end()?.as_str(), text.as_bytes(), 4096)
 }
 
-// One query both ways. It says whether something was found.
+// One query of a dump, both ways. It says whether something was found.
 fn try_query(
     alloc: Global,
     random: &mut Pcg32,
     size: &Size,
-    dump: &Dump,
+    dump: &[Entry],
+    text: &str,
     trial: &mut Trial,
 ) -> Result<bool, AllocError> {
-    let (request, word) = REQUESTS[below(random, 3) as usize % 3];
+    let query = QUERIES[below(random, 3) as usize % 3];
     let (uri, position) = (some_uri(random), some_place(random, size));
-    let found = answered(alloc, dump, word, uri, position);
-    let line = plain_answer(alloc, dump.entries.as_slice(), request, uri, position)?;
-    trial.text(word, found, line.as_str());
+    let found = answered(alloc, text, query[0], uri, position);
+    let line = plain_answer(alloc, dump, query, uri, position)?;
+    trial.text(query[0], found, line.as_str());
     Ok(line.len() > 7)
 }
 
@@ -365,9 +369,10 @@ fn try_dump(
     trial: &mut Trial,
 ) -> Result<u32, AllocError> {
     let dump = some_dump(alloc, random, size)?;
+    let text = dump_text(alloc, random, dump.as_slice())?;
     let mut found: u32 = 0;
     for _ in 0..size.queries {
-        if try_query(alloc, random, size, &dump, trial)? {
+        if try_query(alloc, random, size, dump.as_slice(), text.as_str(), trial)? {
             found = found.saturating_add(1);
         }
     }
@@ -384,10 +389,7 @@ fn walks(alloc: Global, sizes: &[Size], least: u32) -> Result<(), RowError> {
             found = found.saturating_add(try_dump(alloc, &mut random, size, &mut trial)?);
         }
     }
-    trial.is_true(
-        format_args!("{found} queries find something"),
-        found >= least,
-    );
+    trial.is_true(found, found >= least);
     trial.end()
 }
 

@@ -10,3 +10,5 @@ mod plain;
 mod rows;
 #[cfg(test)]
 mod standard;
+#[cfg(test)]
+mod text;

@@ -1,26 +1,33 @@
 //! A dump as a list of entries, and what a query answers of it by plain walks over that list.
-use lsp_index::Request;
+use crate::text::Text;
 use std::alloc::{AllocError, Global};
-use std::fmt;
 
 /// An id. A number and a text are different ids.
-#[derive(Clone, Copy, PartialEq, Eq)]
-pub(crate) enum Name {
-    Number(u32),
-    Text(u32),
+#[derive(Clone, Copy, PartialEq)]
+pub(crate) struct Name {
+    pub(crate) number: u32,
+    pub(crate) is_text: bool,
 }
 
-impl fmt::Display for Name {
-    fn fmt<W: fmt::Write>(&self, f: &mut fmt::Formatter<W>) -> fmt::Result {
-        match self {
-            Name::Number(number) => write!(f, "{number}"),
-            Name::Text(number) => write!(f, "\"{number}\""),
+/// Up to five ids.
+#[derive(Clone, Copy)]
+pub(crate) struct Names {
+    pub(crate) all: [Name; 5],
+    pub(crate) count: usize,
+}
+
+impl Names {
+    pub(crate) fn as_slice(&self) -> &[Name] {
+        if self.count <= 5 {
+            &self.all[..self.count]
+        } else {
+            &self.all
         }
     }
 }
 
 /// A position: a line, and a character in it.
-#[derive(Clone, Copy, PartialEq, Eq)]
+#[derive(Clone, Copy, PartialEq)]
 pub(crate) struct Place {
     pub(crate) line: u32,
     pub(crate) character: u32,
@@ -32,7 +39,7 @@ impl Place {
     }
 }
 
-#[derive(Clone, Copy, PartialEq, Eq)]
+#[derive(Clone, Copy, PartialEq)]
 pub(crate) struct Span {
     pub(crate) start: Place,
     pub(crate) end: Place,
@@ -40,8 +47,8 @@ pub(crate) struct Span {
 
 #[derive(Clone, Copy)]
 pub(crate) enum Vertex {
-    /// Of the URI that ends with that letter.
-    Document(char),
+    /// Of the URI that ends so.
+    Document(&'static str),
     Range(Span),
     /// A hover that shows this number.
     Hover(u32),
@@ -49,39 +56,22 @@ pub(crate) enum Vertex {
     Other(&'static str),
 }
 
-/// The label of an edge that leads to one vertex.
-#[derive(Clone, Copy, PartialEq, Eq)]
-pub(crate) enum Label {
-    Next,
-    Definition,
-    References,
-    Hover,
-    Moniker,
-}
-
-/// What an edge `item` says of where it leads.
-#[derive(Clone, Copy, PartialEq, Eq)]
-pub(crate) enum Property {
-    None,
-    Place(&'static str),
-    ReferenceResults,
-    ImplementationResults,
-}
-
-#[derive(Drop)]
+#[derive(Clone, Copy)]
 pub(crate) enum Entry {
     Vertex(Name, Vertex),
-    Contains(Name, Vec<Name>),
-    Link(Label, Name, Name),
+    Contains(Name, Names),
+    /// An edge of that label.
+    Link(&'static str, Name, Name),
     Item(Item),
 }
 
-#[derive(Drop)]
+#[derive(Clone, Copy)]
 pub(crate) struct Item {
     pub(crate) from: Name,
-    pub(crate) targets: Vec<Name>,
+    pub(crate) targets: Names,
     pub(crate) document: Name,
-    pub(crate) property: Property,
+    /// None where it is empty.
+    pub(crate) property: &'static str,
 }
 
 // A range of a document: its place in the dump, its id, and where it is.
@@ -101,10 +91,10 @@ impl Candidate {
     }
 }
 
-/// Where something is: in the document whose URI ends with that letter.
-#[derive(Clone, Copy, PartialEq, Eq)]
+/// Where something is: in the document whose URI ends so.
+#[derive(Clone, Copy, PartialEq)]
 struct Location {
-    uri: char,
+    uri: &'static str,
     span: Span,
 }
 
@@ -120,7 +110,7 @@ fn first(dump: &[Entry], id: Name) -> Option<(usize, Vertex)> {
     None
 }
 
-fn document(dump: &[Entry], id: Name) -> Option<char> {
+fn document(dump: &[Entry], id: Name) -> Option<&'static str> {
     match first(dump, id) {
         Some((_, Vertex::Document(uri))) => Some(uri),
         _ => None,
@@ -135,10 +125,10 @@ fn range(dump: &[Entry], id: Name) -> Option<(usize, Span)> {
 }
 
 // Where the first edge of the label leads from a vertex.
-fn link(dump: &[Entry], label: Label, from: Name) -> Option<Name> {
+fn link(dump: &[Entry], label: &str, from: Name) -> Option<Name> {
     for entry in dump {
         if let Entry::Link(own, out, to) = entry {
-            if *own == label && *out == from {
+            if *out == from && *own == label {
                 return Some(*to);
             }
         }
@@ -162,12 +152,12 @@ fn closer(dump: &[Entry], best: Option<Candidate>, id: Name, position: Place) ->
 }
 
 // The range at the position.
-fn chosen(dump: &[Entry], uri: char, position: Place) -> Option<Name> {
+fn chosen(dump: &[Entry], uri: &str, position: Place) -> Option<Name> {
     let mut best = None;
     for entry in dump {
         if let Entry::Contains(from, targets) = entry {
-            if document(dump, *from) == Some(uri) {
-                for id in targets {
+            if document(dump, *from).unwrap_or("") == uri {
+                for id in targets.as_slice() {
                     best = closer(dump, best, *id, position);
                 }
             }
@@ -180,13 +170,13 @@ fn chosen(dump: &[Entry], uri: char, position: Place) -> Option<Name> {
 }
 
 // The result of that label that a vertex leads to. A walk over more edges than there are goes round.
-fn reached(dump: &[Entry], label: Label, from: Name) -> Option<Name> {
+fn reached(dump: &[Entry], label: &str, from: Name) -> Option<Name> {
     let mut vertex = from;
     for _ in 0..=dump.len() {
         if let Some(result) = link(dump, label, vertex) {
             return Some(result);
         }
-        match link(dump, Label::Next, vertex) {
+        match link(dump, "next", vertex) {
             Some(next) => vertex = next,
             None => return None,
         }
@@ -199,7 +189,7 @@ fn add_locations(dump: &[Entry], item: &Item, found: &mut Vec<Location>) -> Resu
     let Some(uri) = document(dump, item.document) else {
         return Ok(());
     };
-    for id in &item.targets {
+    for id in item.targets.as_slice() {
         if let Some((_, span)) = range(dump, *id) {
             let location = Location { uri, span };
             if !found.contains(&location) {
@@ -212,8 +202,8 @@ fn add_locations(dump: &[Entry], item: &Item, found: &mut Vec<Location>) -> Resu
 
 // Puts the further results of an item after those that were found, where they are new.
 fn add_results(item: &Item, results: &mut Vec<Name>) -> Result<(), AllocError> {
-    if item.property == Property::ReferenceResults {
-        for id in &item.targets {
+    if item.property == "referenceResults" {
+        for id in item.targets.as_slice() {
             if !results.contains(id) {
                 results.push(*id)?;
             }
@@ -242,6 +232,11 @@ fn results_with(alloc: Global, dump: &[Entry], first: Name) -> Result<Vec<Name>,
     Ok(results)
 }
 
+// Whether the targets of an edge `item` of that property are places.
+fn is_place(property: &str) -> bool {
+    property == "declarations" || property == "definitions" || property == "references"
+}
+
 // The locations of the items of the results: of all, or of places alone.
 fn locations(
     alloc: Global,
@@ -253,8 +248,7 @@ fn locations(
     for result in results {
         for entry in dump {
             if let Entry::Item(item) = entry {
-                let counts = of_all || matches!(item.property, Property::Place(_));
-                if item.from == *result && counts {
+                if item.from == *result && (of_all || is_place(item.property)) {
                     add_locations(dump, item, &mut found)?;
                 }
             }
@@ -263,20 +257,31 @@ fn locations(
     Ok(found)
 }
 
+fn put_place(line: &mut Text, place: Place) {
+    line.put("{\"character\":");
+    line.number(place.character);
+    line.put(",\"line\":");
+    line.number(place.line);
+}
+
 // The status and the line of an answer of these locations.
 fn line_of(alloc: Global, found: &[Location]) -> Result<String, AllocError> {
-    let mut line = String::from_str(alloc, "0 [")?;
-    for (i, location) in found.iter().enumerate() {
-        let comma = if i == 0 { "" } else { "," };
-        let (start, end) = (location.span.start, location.span.end);
-        write!(
-            line,
-            "{comma}{{\"range\":{{\"end\":{{\"character\":{},\"line\":{}}},\"start\":{{\"character\":{},\"line\":{}}}}},\"uri\":\"file:///{}\"}}",
-            end.character, end.line, start.character, start.line, location.uri
-        )?;
+    let mut line = Text::new(alloc);
+    line.put("0 [");
+    let mut comma = "";
+    for location in found {
+        line.put(comma);
+        line.put("{\"range\":{\"end\":");
+        put_place(&mut line, location.span.end);
+        line.put("},\"start\":");
+        put_place(&mut line, location.span.start);
+        line.put("}},\"uri\":\"file:///");
+        line.put(location.uri);
+        line.put("\"}");
+        comma = ",";
     }
-    line.push_str("]\n")?;
-    Ok(line)
+    line.put("]\n");
+    line.end()
 }
 
 // The status and the line of an answer to a query for a hover.
@@ -289,37 +294,32 @@ fn hover_line(alloc: Global, dump: &[Entry], of: Option<Name>) -> Result<String,
     String::from_str(alloc, "0 null\n")
 }
 
-fn label_of(request: Request) -> Label {
-    match request {
-        Request::Definition => Label::Definition,
-        Request::References => Label::References,
-        Request::Hover => Label::Hover,
-    }
-}
-
-/// The status of a query, which is 0, and the line of its answer.
+/// The status of a query, which is 0, and the line of its answer. The query is what the word and
+/// the label of an edge to a result say.
 pub(crate) fn plain_answer(
     alloc: Global,
     dump: &[Entry],
-    request: Request,
-    uri: char,
+    query: [&str; 2],
+    uri: &str,
     position: Place,
 ) -> Result<String, AllocError> {
+    let [word, label] = query;
     let result = match chosen(dump, uri, position) {
-        Some(range) => reached(dump, label_of(request), range),
+        Some(range) => reached(dump, label, range),
         None => None,
     };
-    match (request, result) {
-        (Request::Hover, _) => hover_line(alloc, dump, result),
-        (_, None) => line_of(alloc, &[]),
-        (Request::Definition, Some(result)) => {
-            let found = locations(alloc, dump, &[result], true)?;
-            line_of(alloc, found.as_slice())
-        }
-        (Request::References, Some(result)) => {
-            let results = results_with(alloc, dump, result)?;
-            let found = locations(alloc, dump, results.as_slice(), false)?;
-            line_of(alloc, found.as_slice())
-        }
+    if word == "hover" {
+        return hover_line(alloc, dump, result);
     }
+    let Some(result) = result else {
+        return line_of(alloc, &[]);
+    };
+    let is_definition = word == "definition";
+    let results = if is_definition {
+        vec![in alloc; result]?
+    } else {
+        results_with(alloc, dump, result)?
+    };
+    let found = locations(alloc, dump, results.as_slice(), is_definition)?;
+    line_of(alloc, found.as_slice())
 }

@@ -265,40 +265,44 @@ fn run_cut(alloc: Global) -> Result<String, AllocError> {
     }
 }
 
-// Of these many calls one fails, from the first to the last: the status, and what is written.
+// A read or a call of the sink fails, in turn those of these numbers: the status, and what is
+// written.
 struct Failing {
+    is_read: bool,
     first: u64,
     last: u64,
     expected: &'static str,
 }
 
-// The dump comes in seven pieces of 100 bytes, and the eighth read tells its end.
-const READS: &[Failing] = &[
+// The dump comes in seven pieces of 100 bytes, and the eighth read tells its end. Each piece is
+// followed by a flush, and the end by the write of the line and a flush.
+const FAILING: &[Failing] = &[
     Failing {
+        is_read: true,
         first: 1,
         last: 8,
         expected: "3 ",
     },
     Failing {
+        is_read: true,
         first: 9,
         last: 9,
         expected: "0 [{\"range\":{\"end\":{\"character\":3,\"line\":0},\"start\":{\"character\":0,\"line\":0}},\"uri\":\"file:///a\"}]\n",
     },
-];
-
-// Each piece is followed by a flush, and the end by the write of the line and a flush.
-const CALLS: &[Failing] = &[
     Failing {
+        is_read: false,
         first: 1,
         last: 8,
         expected: "4 ",
     },
     Failing {
+        is_read: false,
         first: 9,
         last: 9,
         expected: "4 [{\"range\":{\"end\":{\"character\":3,\"line\":0},\"start\":{\"character\":0,\"line\":0}},\"uri\":\"file:///a\"}]\n",
     },
     Failing {
+        is_read: false,
         first: 10,
         last: 10,
         expected: "0 [{\"range\":{\"end\":{\"character\":3,\"line\":0},\"start\":{\"character\":0,\"line\":0}},\"uri\":\"file:///a\"}]\n",
@@ -322,16 +326,15 @@ fn run_failing(alloc: Global, read: u64, call: u64) -> Result<String, AllocError
 // Want of memory, status 6, is tried by `.ci/hostile`; no run reaches the last of all reads, status 5.
 #[test]
 fn each_read_write_and_flush_fails(rt: HostRuntime) -> Result<(), RowError> {
-    let alloc = rt.alloc();
-    let mut trial = Trial::new(alloc);
-    for row in READS {
-        for read in row.first..=row.last {
-            trial.text(read, run_failing(alloc, read, 0), row.expected);
-        }
-    }
-    for row in CALLS {
-        for call in row.first..=row.last {
-            trial.text(call, run_failing(alloc, 0, call), row.expected);
+    let mut trial = Trial::new(rt.alloc());
+    for row in FAILING {
+        for number in row.first..=row.last {
+            let (read, call) = if row.is_read {
+                (number, 0)
+            } else {
+                (0, number)
+            };
+            trial.text(number, run_failing(rt.alloc(), read, call), row.expected);
         }
     }
     trial.end()
