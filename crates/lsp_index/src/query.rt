@@ -6,7 +6,7 @@ use lsp_base::Position;
 use lsp_uri::Uri;
 
 /// What a query asks for (LSP 3.17, "Language Features").
-#[derive(Clone, Copy)]
+#[derive(Clone, Copy, Debug, PartialEq, Eq)]
 pub enum Request {
     /// Where the symbol at a position is defined.
     Definition,
@@ -49,7 +49,7 @@ impl Request {
 }
 
 /// A request for a position of a document.
-#[derive(Drop)]
+#[derive(Debug, Drop)]
 pub struct Query {
     pub request: Request,
     /// The document.
