@@ -227,25 +227,34 @@ fn flood_of(alloc: Global, row: &Flood) -> Result<Vec<u8>, AllocError> {
     Ok(sent)
 }
 
+fn flood_answers(alloc: Global, row: &Flood) -> Result<Vec<u8>, AllocError> {
+    let mut answers = framed(alloc, &[INITIALIZED])?;
+    let answer = framed(alloc, &[row.answer])?;
+    for _ in 0..row.answers {
+        answers.extend_from_slice(answer.as_slice())?;
+    }
+    Ok(answers)
+}
+
+fn try_flood(trial: &mut Trial, alloc: Global, row: &Flood) -> Result<(), Fail> {
+    let sent = flood_of(alloc, row)?;
+    let answers = flood_answers(alloc, row)?;
+    try_session(
+        trial,
+        alloc,
+        row.name,
+        4096,
+        sent,
+        answers.as_slice(),
+        row.left,
+    )
+}
+
 #[test]
 fn floods(rt: HostRuntime) -> Result<(), Fail> {
-    let alloc = rt.alloc();
-    let mut trial = Trial::new(alloc);
+    let mut trial = Trial::new(rt.alloc());
     for row in FLOODS {
-        let mut answers = framed(alloc, &[INITIALIZED])?;
-        for _ in 0..row.answers {
-            answers.extend_from_slice(framed(alloc, &[row.answer])?.as_slice())?;
-        }
-        let sent = flood_of(alloc, row)?;
-        try_session(
-            &mut trial,
-            alloc,
-            row.name,
-            4096,
-            sent,
-            answers.as_slice(),
-            row.left,
-        )?;
+        try_flood(&mut trial, rt.alloc(), row)?;
     }
     Ok(trial.end()?)
 }
