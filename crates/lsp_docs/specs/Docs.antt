@@ -13,7 +13,6 @@ use Rattle.lsp_session.specs.Table.{MethodData}
 use Rattle.lsp_desk.specs.Call.{Call as DeskCall}
 use Rattle.lsp_desk.specs.Trace.{DeskEntry}
 use Rattle.lsp_initialize.specs.declared.server.ServerCapabilities.{ServerCapabilities}
-use Rattle.lsp_initialize.specs.Server.{initialize_result_row}
 use Rattle.lsp_offer_text.specs.declared.sync.TextDocumentSyncCapability.TheVariants as sync_capability
 use Rattle.lsp_offer_text.specs.declared.sync.TextDocumentSyncOptions.{TextDocumentSyncOptions}
 use Rattle.lsp_work.specs.Document.{did_open_text_document_params_row, did_change_text_document_params_row, did_close_text_document_params_row}
@@ -26,7 +25,8 @@ use Rattle.lsp_client.specs.declared.answers.Told.{Told}
 use Rattle.lsp_client.specs.Client.{IsTold}
 use Rattle.lsp_client.specs.Methods.{log_message_call}
 use Rattle.lsp_service.specs.declared.server.NoTask.{NoTask}
-use Rattle.lsp_service.specs.Data.{MethodCall, typed, custom, MethodReply, answer, custom_answer, refusal, noted, nil_row}
+use Rattle.lsp_service.specs.Replies.{initialize_data}
+use Rattle.lsp_service.specs.Data.{MethodCall, typed, custom, MethodReply, answer, written, custom_answer, refusal, noted, nil_row}
 use Rattle.lsp_service.specs.Open.{no_call}
 use Rattle.lsp_service.specs.Server.{Start, Now, Later, ServerSemantics}
 use Rattle.lsp_docs.specs.declared.docs.DocsServer.{DocsServer}
@@ -96,7 +96,7 @@ offered = record {
 }
 
 abbrev pub initialize_answer : MethodReply
-initialize_answer = answer (methods.Life life.Initialize) (Ok (initialize_result_row.shown (record { capabilities = offered; server_info = None })))
+initialize_answer = written (methods.Life life.Initialize) (Ok (initialize_data (record { capabilities = offered; server_info = None })))
 
 -- a reply, or a notification of a document
 pub data DocsTurn : Type 0 where

@@ -1,11 +1,12 @@
 // The server.
-ghost use Rattle.std.specs.Prelude.{◌≡◌, IfErr, IfOk, OnErr, OnOk, Some, option_map, true};
+ghost use Rattle.std.specs.Prelude.{◌≡◌, IfErr, IfOk, None, OnErr, OnOk, Some, option_map, true};
 ghost use Rattle.std.specs.FinMap as map;
 ghost use Rattle.std.specs.Str.{encode_utf8_all};
 ghost use Rattle.serde_json.specs.View.{view};
 ghost use Rattle.lsp_rpc.specs.Shown.{show_body};
 ghost use Rattle.lsp_desk.specs.Meaning.{PollsOn};
 ghost use Rattle.lsp_session.specs.Fails.{PollFails};
+ghost use Rattle.lsp_service.specs.Replies.{initialize_data, show_offer};
 ghost use Rattle.lsp_docs.specs.Docs.{requested_uri as requested_uri_lem, text_answer, found_data, offered, Heeded, LogsRefusal};
 ghost use Rattle.lsp_docs.specs.Typed.{opening_of, changes_of, closing_of};
 
@@ -17,8 +18,8 @@ use lsp_kinds::{MessageType, TextDocumentSyncKind};
 use lsp_offer_text::TextDocumentSyncOptions;
 use lsp_rpc::{Error, ErrorCode};
 use lsp_service::{
-    Call, LanguageServer, LifeCall, LifeReply, NoMemory, NoTask, Reply, Started, SyncCall,
-    initialize_reply, not_found_for,
+    Call, InitializeReply, LanguageServer, LifeCall, LifeReply, NoMemory, NoTask, Reply, Started,
+    SyncCall, initialize_reply, not_found_for,
 };
 use lsp_work::{
     DidChangeTextDocumentParams, DidCloseTextDocumentParams, DidOpenTextDocumentParams,
@@ -155,8 +156,8 @@ impl<D: Caller> LanguageServer<D> for DocsServer {
     ) -> Result<Started<NoTask>, DeskFault> {
         match call {
             Call::Life(LifeCall::Initialize(params)) => {
-                let reply = initialize_reply(alloc, params, capabilities())?;
-                Ok(Started::Now(reply))
+                let offered = offers(alloc)?;
+                Ok(Started::Now(initialize_reply(params, offered)))
             }
             Call::Life(LifeCall::Shutdown) => {
                 Ok(Started::Now(Reply::Life(LifeReply::Shutdown(Ok(())))))
@@ -201,6 +202,13 @@ fn refuse<D: Caller>(alloc: Global, client: &mut D) -> Result<(), DeskFault>
 {
     client.log_message(alloc, MessageType::ERROR, "refused")?;
     Ok(())
+}
+
+fn offers(alloc: Global) -> Result<InitializeReply, NoMemory>
+    ensures { IfOk result (λ reply. show_offer reply ≡ initialize_data
+        (record { capabilities = offered; server_info = None })) }
+{
+    InitializeReply::offering(alloc, capabilities())
 }
 
 // Documents are to be told when they are opened, changed and closed, and changes in ranges. Nothing

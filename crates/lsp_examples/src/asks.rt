@@ -4,7 +4,7 @@ use crate::params::{begun, ended, folders_line, greeting, offers};
 use lsp_client::{Answered, Asked, Client, Ticket};
 use lsp_desk::{Caller, DeskFault};
 use lsp_service::{
-    Asking, Call, LifeCall, LifeReply, NoMemory, Reply, Started, SyncCall, WorkCall, WorkReply,
+    Asking, Call, LifeCall, LifeReply, Reply, Started, SyncCall, WorkCall, WorkReply,
     initialize_reply, let_go, not_found_for,
 };
 use lsp_types::notification::Progress;
@@ -60,7 +60,17 @@ impl<D: Caller> Asking<D> for Asks {
                 }
                 None => Ok(Started::Later(Task::Command(params))),
             },
-            other => Ok(Started::Now(reply(alloc, other)?)),
+            Call::Life(LifeCall::Initialize(params)) => {
+                Ok(Started::Now(initialize_reply(params, offers(alloc)?)))
+            }
+            Call::Life(LifeCall::Shutdown) => {
+                Ok(Started::Now(Reply::Life(LifeReply::Shutdown(Ok(())))))
+            }
+            Call::Custom(_, params) => {
+                let params = params.unwrap_or(Value::Null);
+                Ok(Started::Now(Reply::Custom(Ok(params))))
+            }
+            other => Ok(Started::Now(not_found_for(alloc, other)?)),
         }
     }
 
@@ -88,16 +98,5 @@ impl<D: Caller> Asking<D> for Asks {
                 None => Ok(Started::Now(Reply::Work(WorkReply::ExecuteCommand(Ok(None))))),
             },
         }
-    }
-}
-
-// The replies to calls that need no client.
-fn reply(alloc: Global, call: Call) -> Result<Reply, NoMemory> {
-    match call {
-        Call::Life(LifeCall::Initialize(params)) => initialize_reply(alloc, params, offers()),
-        Call::Life(LifeCall::Shutdown) => Ok(Reply::Life(LifeReply::Shutdown(Ok(())))),
-        Call::Custom(_, Some(params)) => Ok(Reply::Custom(Ok(params))),
-        Call::Custom(_, None) => Ok(Reply::Custom(Ok(Value::Null))),
-        other => not_found_for(alloc, other),
     }
 }

@@ -4,8 +4,8 @@ use crate::worker::{Found, Jobs};
 use lsp_desk::{Caller, DeskFault};
 use lsp_rpc::{Error, ErrorCode};
 use lsp_service::{
-    Asking, Call, LifeCall, LifeReply, NoMemory, Reply, Started, WorkCall, WorkReply,
-    initialize_reply, not_found_for,
+    Asking, Call, InitializeReply, LifeCall, LifeReply, NoMemory, Reply, Started, WorkCall,
+    WorkReply, initialize_reply, not_found_for,
 };
 use lsp_types::{ExecuteCommandOptions, ExecuteCommandParams, ServerCapabilities};
 use serde_json::Value;
@@ -47,8 +47,7 @@ impl<D: Caller> Asking<D> for Counts {
                 Err(error) => Ok(Started::Now(Reply::Error(error))),
             },
             Call::Life(LifeCall::Initialize(params)) => {
-                let capabilities = capabilities(alloc)?;
-                Ok(Started::Now(initialize_reply(alloc, params, capabilities)?))
+                Ok(Started::Now(initialize_reply(params, offers(alloc)?)))
             }
             Call::Life(LifeCall::Shutdown) => {
                 Ok(Started::Now(Reply::Life(LifeReply::Shutdown(Ok(())))))
@@ -102,10 +101,10 @@ fn number_of(params: &ExecuteCommandParams) -> Option<u64> {
 }
 
 // The command is offered, so that an editor asks for it.
-fn capabilities(alloc: Global) -> Result<ServerCapabilities, NoMemory> {
+fn offers(alloc: Global) -> Result<InitializeReply, NoMemory> {
     let mut offered = ExecuteCommandOptions::default(alloc);
     offered.commands.push(String::from_str(alloc, "primes")?)?;
     let mut capabilities = ServerCapabilities::default();
     capabilities.execute_command_provider = Some(offered);
-    Ok(capabilities)
+    InitializeReply::offering(alloc, capabilities)
 }

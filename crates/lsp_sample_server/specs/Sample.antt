@@ -1,6 +1,6 @@
 -- What the sample does: its relations are a function of the calls, of what was asked and of the desk's replies.
 use Rattle.std.specs.Prelude.{◌≡◌, ℕ, zero, suc, pos, List, [], codes, Option, Some, Result, Ok, Err}
-use Rattle.serde_json.specs.Data.{number, unsigned}
+use Rattle.serde_json.specs.Data.{Data, number, unsigned}
 use Rattle.lsp_rpc.specs.declared.code.ErrorCode.TheVariants.{InvalidParams, MethodNotFound}
 use Rattle.lsp_rpc.specs.Message.{ErrorData, error_with_code}
 use Rattle.lsp_desk.specs.Call.{Call as DeskCall}
@@ -8,6 +8,8 @@ use Rattle.lsp_desk.specs.Trace.{DeskEntry}
 use Rattle.lsp_session.specs.declared.table.Kind.{Kind}
 use Rattle.lsp_session.specs.declared.table.Kind.TheVariants.{Request, Notification}
 use Rattle.lsp_shape.specs.Plain.{Plain, absent, parts, Parts, no_parts, part}
+use Rattle.lsp_shape.specs.Write.{write}
+use Rattle.lsp_initialize.specs.Server.{initialize_result_row}
 use Rattle.lsp_methods.specs.declared.method.Method.{Method}
 use Rattle.lsp_methods.specs.declared.method.Method.TheVariants as methods
 use Rattle.lsp_methods.specs.declared.method.LifeMethod.{LifeMethod}
@@ -20,7 +22,7 @@ use Rattle.lsp_client.specs.Client.{IsTold}
 use Rattle.lsp_client.specs.Methods.{log_message_call}
 use Rattle.lsp_service.specs.declared.call.Target.{Target}
 use Rattle.lsp_service.specs.declared.call.Target.TheVariants as targets
-use Rattle.lsp_service.specs.Data.{MethodCall, typed, custom, MethodReply, answer, refusal, noted, nil_row}
+use Rattle.lsp_service.specs.Data.{MethodCall, typed, custom, MethodReply, answer, written, refusal, noted, nil_row}
 use Rattle.lsp_service.specs.Server.{Start, Now, ServerSemantics}
 use Rattle.lsp_sample_server.specs.declared.command.Command.{Command}
 use Rattle.lsp_sample_server.specs.declared.command.Command.TheVariants.{Echo, Wait, Ask, Unknown}
@@ -45,6 +47,9 @@ no_capabilities_shown = parts (absents 34)
 abbrev pub bare_result : Plain
 bare_result = parts (part no_capabilities_shown (part absent no_parts))
 
+abbrev pub bare_data : Data
+bare_data = write initialize_result_row.shape bare_result
+
 -- what the first poll of a call does: it has this reply; it greets the client; or it executes a command with these params
 pub data SampleTurn : Type 0 where
   replies : MethodReply → SampleTurn
@@ -61,7 +66,7 @@ other_reply (targets.Typed m) = reply_by_kind (method_row m).kind
 other_reply (targets.Custom kind) = reply_by_kind kind
 
 abbrev pub life_turn : LifeMethod → SampleTurn
-life_turn life.Initialize = replies (answer (methods.Life life.Initialize) (Ok bare_result))
+life_turn life.Initialize = replies (written (methods.Life life.Initialize) (Ok bare_data))
 life_turn life.Initialized = greets
 life_turn life.Shutdown = replies (answer (methods.Life life.Shutdown) (Ok (nil_row.shown tt)))
 

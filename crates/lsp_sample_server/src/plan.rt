@@ -2,14 +2,15 @@
 ghost use Rattle.std.specs.Prelude.{◌≡◌, IfOk};
 ghost use Rattle.lsp_initialize.specs.Server.{server_capabilities_row};
 ghost use Rattle.lsp_service.specs.Calls.{show_call, target_of};
-ghost use Rattle.lsp_service.specs.Replies.{show_reply};
+ghost use Rattle.lsp_service.specs.Replies.{show_offer, show_reply};
 ghost use Rattle.lsp_sample_server.specs.Plan.{show_plan};
-ghost use Rattle.lsp_sample_server.specs.Sample.{no_capabilities_shown, sample_turn, other_reply as other_reply_lem};
+ghost use Rattle.lsp_sample_server.specs.Sample.{bare_data, no_capabilities_shown, sample_turn, other_reply as other_reply_lem};
 
 use lsp_initialize::ServerCapabilities;
 use lsp_rpc::NoMemory;
 use lsp_service::{
-    Call, LifeCall, LifeReply, Reply, Target, WorkCall, initialize_reply, let_go, not_found,
+    Call, InitializeReply, LifeCall, LifeReply, Reply, Target, WorkCall, initialize_reply, let_go,
+    not_found,
 };
 use lsp_session::Kind;
 use lsp_work::ExecuteCommandParams;
@@ -32,8 +33,8 @@ pub(crate) fn plan_of(alloc: Global, call: Call) -> Result<Plan, NoMemory>
     match call {
         Call::Life(call) => match call {
             LifeCall::Initialize(params) => {
-                let reply = initialize_reply(alloc, params, no_capabilities())?;
-                Ok(Plan::Reply(reply))
+                let offered = nothing_offered(alloc)?;
+                Ok(Plan::Reply(initialize_reply(params, offered)))
             }
             LifeCall::Initialized(params) => {
                 drop(params);
@@ -50,6 +51,13 @@ pub(crate) fn plan_of(alloc: Global, call: Call) -> Result<Plan, NoMemory>
 }
 
 // Nothing is offered.
+#[tactic(auto, unfolding(lsp_service::specs::Replies::initialize_data))]
+fn nothing_offered(alloc: Global) -> Result<InitializeReply, NoMemory>
+    ensures { IfOk result (λ offered. show_offer offered ≡ bare_data) }
+{
+    InitializeReply::offering(alloc, no_capabilities())
+}
+
 #[tactic(auto, unfolding(lsp_initialize::specs::Server::server_capabilities_row, lsp_initialize::specs::Server::server_capabilities_fields))]
 fn no_capabilities() -> ServerCapabilities
     ensures { server_capabilities_row.shown result ≡ no_capabilities_shown }

@@ -1,7 +1,8 @@
 -- What the code's calls show.
 use Rattle.std.specs.Prelude.{Option, Some, None, option_map}
+use Rattle.lsp_shape.specs.Plain.{Plain}
 use Rattle.serde_json.specs.View.{view}
-use Rattle.lsp_service.specs.Data.{MethodCall, typed, custom}
+use Rattle.lsp_service.specs.Data.{MethodCall, typed, custom, read_plain}
 use Rattle.lsp_service.specs.declared.call.Call.{Call}
 use Rattle.lsp_service.specs.declared.call.Call.TheVariants as calls
 use Rattle.lsp_service.specs.declared.call.Target.{Target}
@@ -36,6 +37,7 @@ use Rattle.lsp_tokens.specs.SignatureHelp.{signature_help_params_row}
 use Rattle.lsp_work.specs.Document.{did_change_text_document_params_row, did_close_text_document_params_row, did_open_text_document_params_row, did_save_text_document_params_row, will_save_text_document_params_row}
 use Rattle.lsp_work.specs.Files.{create_files_params_row, delete_files_params_row, rename_files_params_row}
 use Rattle.lsp_work.specs.Workspace.{did_change_configuration_params_row, did_change_watched_files_params_row, did_change_workspace_folders_params_row, execute_command_params_row}
+use Rattle.lsp_service.specs.declared.initialize.InitializeCall.{InitializeCall}
 use Rattle.lsp_service.specs.declared.call.LifeCall.{LifeCall}
 use Rattle.lsp_service.specs.declared.call.LifeCall.TheVariants as life_calls
 use Rattle.lsp_methods.specs.declared.method.LifeMethod.{LifeMethod}
@@ -69,8 +71,12 @@ use Rattle.lsp_service.specs.declared.call.WorkCall.TheVariants as work_calls
 use Rattle.lsp_methods.specs.declared.method.WorkMethod.{WorkMethod}
 use Rattle.lsp_methods.specs.declared.method.WorkMethod.TheVariants as work
 
+-- what the params of `initialize` are read as
+abbrev pub show_initialize : InitializeCall → Plain
+show_initialize c = read_plain initialize_params_row.shape (view c.params)
+
 abbrev pub show_life : LifeCall → MethodCall
-show_life (life_calls.Initialize p) = typed (methods.Life life.Initialize) (Some (initialize_params_row.shown p.value))
+show_life (life_calls.Initialize c) = typed (methods.Life life.Initialize) (Some (show_initialize c))
 show_life (life_calls.Initialized p) = typed (methods.Life life.Initialized) (Some (initialized_params_row.shown p))
 show_life life_calls.Shutdown = typed (methods.Life life.Shutdown) None
 

@@ -1,12 +1,18 @@
 -- What the code's replies show.
+use Rattle.std.specs.Prelude.{Result, Ok, Err}
+use Rattle.serde_json.specs.Data.{Data}
+use Rattle.serde_json.specs.View.{view}
+use Rattle.lsp_rpc.specs.declared.error.Error.{Error}
+use Rattle.lsp_rpc.specs.Message.{ErrorData}
 use Rattle.lsp_rpc.specs.Shown.{show_body, show_error}
-use Rattle.lsp_service.specs.Data.{MethodReply, answer, custom_answer, refusal, noted, nil_row, result_shown}
+use Rattle.lsp_service.specs.Data.{MethodReply, answer, written, custom_answer, refusal, noted, nil_row, result_shown}
 use Rattle.lsp_service.specs.declared.reply.Reply.{Reply}
 use Rattle.lsp_service.specs.declared.reply.Reply.TheVariants as replies
 use Rattle.lsp_methods.specs.declared.method.Method.TheVariants as methods
 use Rattle.lsp_base.specs.Edit.{text_edit_row}
 use Rattle.lsp_base.specs.Position.{location_row}
 use Rattle.lsp_base.specs.WorkspaceEdit.{workspace_edit_row}
+use Rattle.lsp_initialize.specs.declared.server.InitializeResult.{InitializeResult}
 use Rattle.lsp_initialize.specs.Server.{initialize_result_row}
 use Rattle.lsp_lang_goto.specs.Calls.{call_hierarchy_incoming_call_row, call_hierarchy_item_row, call_hierarchy_outgoing_call_row}
 use Rattle.lsp_lang_goto.specs.CodeLens.{code_lens_row}
@@ -30,6 +36,8 @@ use Rattle.lsp_tokens.specs.Results.{semantic_tokens_full_delta_result_row, sema
 use Rattle.lsp_tokens.specs.Selection.{linked_editing_ranges_row}
 use Rattle.lsp_tokens.specs.SelectionRange.{selection_range_shape, show_selection_range}
 use Rattle.lsp_tokens.specs.SignatureHelp.{signature_help_row}
+use Rattle.lsp_shape.specs.Write.{write}
+use Rattle.lsp_service.specs.declared.initialize.InitializeReply.{InitializeReply}
 use Rattle.lsp_service.specs.declared.reply.LifeReply.{LifeReply}
 use Rattle.lsp_service.specs.declared.reply.LifeReply.TheVariants as life_replies
 use Rattle.lsp_methods.specs.declared.method.LifeMethod.TheVariants as life
@@ -55,8 +63,20 @@ use Rattle.lsp_service.specs.declared.reply.WorkReply.{WorkReply}
 use Rattle.lsp_service.specs.declared.reply.WorkReply.TheVariants as work_replies
 use Rattle.lsp_methods.specs.declared.method.WorkMethod.TheVariants as work
 
+-- what is written for a result of `initialize`
+pub initialize_data : InitializeResult → Data
+initialize_data x = write initialize_result_row.shape (initialize_result_row.shown x)
+
+-- what was written
+abbrev pub show_offer : InitializeReply → Data
+show_offer r = view r.result
+
+abbrev pub show_offered : Result InitializeReply Error → Result Data ErrorData
+show_offered (Ok r) = Ok (show_offer r)
+show_offered (Err e) = Err (show_error e)
+
 abbrev pub show_life_reply : LifeReply → MethodReply
-show_life_reply (life_replies.Initialize r) = answer (methods.Life life.Initialize) (result_shown (λ b. initialize_result_row.shown b.value) r)
+show_life_reply (life_replies.Initialize r) = written (methods.Life life.Initialize) (show_offered r)
 show_life_reply (life_replies.Shutdown r) = answer (methods.Life life.Shutdown) (result_shown nil_row.shown r)
 
 abbrev pub show_sync_reply : SyncReply → MethodReply

@@ -2,10 +2,12 @@
 ghost use Rattle.std.specs.Prelude.{◌≡◌, IfOk};
 ghost use Rattle.lsp_rpc.specs.Shown.{show_body};
 ghost use Rattle.lsp_methods.specs.Shapes.{result_shape};
-ghost use Rattle.lsp_service.specs.Data.{answer, custom_answer as custom_answer_of, noted as noted_lem, outcome_by, result_shown, write_body, mismatch as mismatch_lem, unless_float as unless_float_lem};
+ghost use Rattle.lsp_service.specs.Data.{answer, written as written_lem, custom_answer as custom_answer_of, noted as noted_lem, outcome_by, result_shown, write_body, mismatch as mismatch_lem, unless_float as unless_float_lem};
+ghost use Rattle.lsp_service.specs.Replies.{show_offered};
 
 use crate::call::Target;
-use lsp_methods::Method;
+use crate::initialize::InitializeReply;
+use lsp_methods::{LifeMethod, Method};
 use lsp_rpc::{Error, NoMemory, is_float_free};
 use lsp_session::Kind;
 use lsp_shape::Wire;
@@ -51,6 +53,38 @@ fn written<T: Wire>(
     match body {
         Ok(value) => Ok(Ok(value.to_value(alloc)?)),
         Err(error) => Ok(Err(error)),
+    }
+}
+
+// What an answer to a request of `method` that was written before comes to.
+fn written_answered(
+    alloc: Global,
+    target: Target,
+    method: Method,
+    body: Result<Value, Error>,
+) -> Result<Result<Value, Error>, NoMemory>
+    ensures { IfOk result (λ sent. show_body sent
+        ≡ outcome_by target (written_lem method (show_body body))) }
+{
+    match target {
+        Target::Typed(called) if called.place() == method.place() => unless_float(alloc, body),
+        _ => mismatch(alloc),
+    }
+}
+
+/// What the answer to `initialize` comes to, where `target` was called.
+pub(crate) fn initialize_answered(
+    alloc: Global,
+    target: Target,
+    body: Result<InitializeReply, Error>,
+) -> Result<Result<Value, Error>, NoMemory>
+    ensures { IfOk result (λ sent. show_body sent
+        ≡ outcome_by target (written_lem (Method.Life LifeMethod.Initialize) (show_offered body))) }
+{
+    let method = Method::Life(LifeMethod::Initialize);
+    match body {
+        Ok(reply) => written_answered(alloc, target, method, Ok(reply.result)),
+        Err(error) => written_answered(alloc, target, method, Err(error)),
     }
 }
 

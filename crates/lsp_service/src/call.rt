@@ -2,9 +2,9 @@
 ghost use Rattle.std.specs.Prelude.{◌≡◌};
 ghost use Rattle.lsp_service.specs.Calls.{show_call, target_of, life_method, sync_method, goto_method, hierarchy_method, show_method, token_method, edit_method, work_method};
 
+use crate::initialize::InitializeCall;
 use lsp_base::TextDocumentPositionParams;
 use lsp_caps_work::InitializedParams;
-use lsp_initialize::InitializeParams;
 use lsp_lang_goto::{
     CallHierarchyIncomingCallsParams, CallHierarchyOutgoingCallsParams, CallHierarchyPrepareParams,
     CodeLens, CodeLensParams, DocumentHighlightParams, DocumentLink, DocumentLinkParams,
@@ -39,11 +39,11 @@ use serde_json::Value;
 
 /// The calls of the life of a session.
 ///
-/// The widest params are in a box, here and in [`EditCall`], so that no other call is as wide.
+/// The params of `initialize` are held as they came, and read where they are wanted.
 #[derive(Drop)]
 pub enum LifeCall {
     /// `initialize`.
-    Initialize(Box<InitializeParams>),
+    Initialize(InitializeCall),
     /// `initialized`.
     Initialized(InitializedParams),
     /// `shutdown`.
@@ -142,6 +142,8 @@ pub enum TokenCall {
 }
 
 /// The calls of completion, edits and diagnostics.
+///
+/// The widest params are in a box, so that no other call is as wide.
 #[derive(Drop)]
 pub enum EditCall {
     /// `textDocument/completion`.

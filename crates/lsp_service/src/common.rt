@@ -1,15 +1,14 @@
 // Replies that servers have in common. They let calls and params go, so that an author's crate
 // needn't.
-ghost use Rattle.std.specs.Prelude.{◌≡◌, IfOk, None, Ok};
-ghost use Rattle.lsp_initialize.specs.Server.{initialize_result_row};
+ghost use Rattle.std.specs.Prelude.{◌≡◌, IfOk, Ok};
 ghost use Rattle.lsp_rpc.specs.Message.{error_with_code};
 ghost use Rattle.lsp_rpc.specs.declared.code.ErrorCode.TheVariants.{MethodNotFound};
-ghost use Rattle.lsp_service.specs.Data.{answer, refusal};
-ghost use Rattle.lsp_service.specs.Replies.{show_reply};
+ghost use Rattle.lsp_service.specs.Data.{written, refusal};
+ghost use Rattle.lsp_service.specs.Replies.{show_offer, show_reply};
 
 use crate::call::Call;
+use crate::initialize::{InitializeCall, InitializeReply};
 use crate::reply::{LifeReply, Reply};
-use lsp_initialize::{InitializeParams, InitializeResult, ServerCapabilities};
 use lsp_methods::{LifeMethod, Method};
 use lsp_rpc::{Error, NoMemory};
 use std::alloc::Global;
@@ -34,29 +33,11 @@ pub fn let_go(call: Call) {
     drop(call);
 }
 
-/// The reply to `initialize` of a server with these capabilities. The one error is out of memory.
-pub fn initialize_reply(
-    alloc: Global,
-    params: Box<InitializeParams>,
-    capabilities: ServerCapabilities,
-) -> Result<Reply, NoMemory>
-    ensures { IfOk result (λ r. show_reply r ≡ answer (Method.Life LifeMethod.Initialize)
-        (Ok (initialize_result_row.shown
-        (record { capabilities = capabilities; server_info = None })))) }
+/// The reply to `initialize` of a server that offers this.
+pub fn initialize_reply(call: InitializeCall, offered: InitializeReply) -> Reply
+    ensures { show_reply result ≡ written (Method.Life LifeMethod.Initialize)
+        (Ok (show_offer offered)) }
 {
-    drop(params);
-    let result = boxed(
-        alloc,
-        InitializeResult {
-            capabilities,
-            server_info: None,
-        },
-    )?;
-    Ok(Reply::Life(LifeReply::Initialize(Ok(result))))
-}
-
-fn boxed<T: Drop>(alloc: Global, value: T) -> Result<Box<T>, NoMemory>
-    ensures { IfOk result (λ b. b.value ≡ value) }
-{
-    Ok(Box::new(alloc, value)?)
+    drop(call);
+    Reply::Life(LifeReply::Initialize(Ok(offered)))
 }

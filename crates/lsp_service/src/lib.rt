@@ -9,6 +9,7 @@ mod builder;
 mod call;
 mod common;
 mod incoming;
+mod initialize;
 mod params;
 mod read;
 mod reply;
@@ -27,6 +28,7 @@ pub use call::{
 };
 pub use common::{initialize_reply, let_go, not_found, not_found_for};
 pub use incoming::Incoming;
+pub use initialize::{InitializeCall, InitializeReply};
 pub use lsp_session::NoMemory;
 pub use reply::{
     EditReply, GotoReply, HierarchyReply, LifeReply, Reply, ShowReply, SyncReply, TokenReply,

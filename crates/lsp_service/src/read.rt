@@ -8,7 +8,7 @@ ghost use Rattle.lsp_service.specs.Calls.{show_call, show_life, show_sync, show_
 use crate::call::{
     Call, EditCall, GotoCall, HierarchyCall, LifeCall, ShowCall, SyncCall, TokenCall, WorkCall,
 };
-use crate::params::{no_params, params_of};
+use crate::params::{initialize_call, no_params, params_of};
 use lsp_methods::{
     EditMethod, GotoMethod, HierarchyMethod, LifeMethod, Method, ShowMethod, SyncMethod,
     TokenMethod, WorkMethod,
@@ -28,12 +28,8 @@ fn read_life(
         (option_map (λ v. view v.now) params.entry)) e) }
 {
     match method {
-        LifeMethod::Initialize => match params_of(
-            alloc,
-            Method::Life(LifeMethod::Initialize),
-            params,
-        ) {
-            Ok(params) => Ok(LifeCall::Initialize(params)),
+        LifeMethod::Initialize => match initialize_call(alloc, params) {
+            Ok(call) => Ok(LifeCall::Initialize(call)),
             Err(misfit) => Err(misfit),
         },
         LifeMethod::Initialized => match params_of(

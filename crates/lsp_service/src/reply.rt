@@ -1,6 +1,6 @@
 // What a server answers.
+use crate::initialize::InitializeReply;
 use lsp_base::{Location, TextEdit, WorkspaceEdit};
-use lsp_initialize::InitializeResult;
 use lsp_lang_goto::{
     CallHierarchyIncomingCall, CallHierarchyItem, CallHierarchyOutgoingCall, CodeLens,
     DocumentHighlight, DocumentLink, DocumentSymbolResponse, GotoDeclarationResponse,
@@ -23,7 +23,7 @@ use serde_json::Value;
 #[derive(Drop)]
 pub enum LifeReply {
     /// To `initialize`.
-    Initialize(Result<Box<InitializeResult>, Error>),
+    Initialize(Result<InitializeReply, Error>),
     /// To `shutdown`.
     Shutdown(Result<(), Error>),
 }

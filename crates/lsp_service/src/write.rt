@@ -4,7 +4,7 @@ ghost use Rattle.lsp_rpc.specs.Shown.{show_body};
 ghost use Rattle.lsp_service.specs.Data.{outcome_by};
 ghost use Rattle.lsp_service.specs.Replies.{show_reply, show_life_reply, show_sync_reply, show_goto_reply, show_hierarchy_reply, show_show_reply, show_token_reply, show_edit_reply, show_work_reply};
 
-use crate::answer::{answered, custom_answered, noted, unless_float};
+use crate::answer::{answered, custom_answered, initialize_answered, noted, unless_float};
 use crate::call::Target;
 use crate::reply::{
     EditReply, GotoReply, HierarchyReply, LifeReply, Reply, ShowReply, SyncReply, TokenReply,
@@ -27,12 +27,7 @@ fn write_life(
         ≡ outcome_by target (show_life_reply reply)) }
 {
     match reply {
-        LifeReply::Initialize(body) => answered(
-            alloc,
-            target,
-            Method::Life(LifeMethod::Initialize),
-            body,
-        ),
+        LifeReply::Initialize(body) => initialize_answered(alloc, target, body),
         LifeReply::Shutdown(body) => answered(
             alloc,
             target,

@@ -26,6 +26,16 @@ struct Row {
 
 const ROWS: &[Row] = &[
     Row {
+        name: "the params and the result of initialize",
+        sent: &[
+            r#"{"jsonrpc":"2.0","method":"initialize","params":{"capabilities":{},"clientInfo":{"name":"vi"}},"id":1}"#,
+        ],
+        written: &[(
+            80,
+            r#"{"jsonrpc":"2.0","result":{"capabilities":{},"serverInfo":{"name":"vi"}},"id":1}"#,
+        )],
+    },
+    Row {
         name: "the answer of another method",
         sent: &[
             INITIALIZE,
@@ -100,6 +110,14 @@ const ROWS: &[Row] = &[
                 r#"{"jsonrpc":"2.0","error":{"code":-32602,"message":"Invalid params"},"id":2}"#,
             ),
         ],
+    },
+    Row {
+        name: "params of initialize that don't fit",
+        sent: &[r#"{"jsonrpc":"2.0","method":"initialize","params":{"capabilities":1},"id":1}"#],
+        written: &[(
+            75,
+            r#"{"jsonrpc":"2.0","error":{"code":-32602,"message":"Invalid params"},"id":1}"#,
+        )],
     },
     Row {
         name: "params that are missing",

@@ -1,17 +1,17 @@
 // A server that answers otherwise than it was asked.
-use lsp_initialize::ServerCapabilities;
+use lsp_initialize::{InitializeResult, ServerCapabilities, ServerInfo};
 use lsp_lang_item::InlayHint;
 use lsp_service::{
-    Answering, Call, LifeCall, NoMemory, Reply, ShowReply, TokenCall, TokenReply, WorkCall,
-    initialize_reply, not_found_for,
+    Answering, Call, InitializeCall, InitializeReply, LifeCall, NoMemory, Reply, ShowReply,
+    TokenCall, TokenReply, WorkCall, initialize_reply, not_found_for,
 };
 use lsp_work::ExecuteCommandParams;
 use serde_json::Value;
 use std::alloc::Global;
 
-/// It answers a command without arguments with a hover, and one with arguments as a notification;
-/// puts a float into a hint; gives the params of its first custom method back; and answers a custom
-/// method without params as a notification.
+/// It has its client's name; answers a command without arguments with a hover, and one with
+/// arguments as a notification; puts a float into a hint; gives the params of its first custom method
+/// back; and answers a custom method without params as a notification.
 #[derive(Drop)]
 pub(crate) struct Strange;
 
@@ -19,7 +19,8 @@ impl Answering for Strange {
     fn answer(&mut self, alloc: Global, call: Call) -> Result<Reply, NoMemory> {
         match call {
             Call::Life(LifeCall::Initialize(params)) => {
-                initialize_reply(alloc, params, ServerCapabilities::default())
+                let offered = namesake(alloc, &params)?;
+                Ok(initialize_reply(params, offered))
             }
             Call::Work(WorkCall::ExecuteCommand(params)) => {
                 if has_arguments(params) {
@@ -37,6 +38,23 @@ impl Answering for Strange {
             other => not_found_for(alloc, other),
         }
     }
+}
+
+// Nothing is offered, and the server has its client's name.
+fn namesake(alloc: Global, call: &InitializeCall) -> Result<InitializeReply, NoMemory> {
+    let params = call.params(alloc)?;
+    let server_info = match params.client_info {
+        Some(client) => Some(ServerInfo {
+            name: client.name,
+            version: None,
+        }),
+        None => None,
+    };
+    let result = InitializeResult {
+        capabilities: ServerCapabilities::default(),
+        server_info,
+    };
+    InitializeReply::new(alloc, &result)
 }
 
 fn has_arguments(params: ExecuteCommandParams) -> bool {

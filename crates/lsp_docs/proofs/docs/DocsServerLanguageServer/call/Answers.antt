@@ -5,28 +5,27 @@ use Rattle.lsp_rpc.specs.declared.code.ErrorCode.TheVariants.{MethodNotFound}
 use Rattle.lsp_rpc.specs.Message.{error_with_code}
 use Rattle.lsp_methods.specs.declared.method.Method.TheVariants as methods
 use Rattle.lsp_methods.specs.declared.method.LifeMethod.TheVariants as life
-use Rattle.lsp_initialize.specs.Server.{initialize_result_row}
 use Rattle.lsp_session.proofs.FailLemmas.{poll_fails_still}
 use Rattle.lsp_session.proofs.RunningLemmas.{on_gives}
 use Rattle.lsp_service.specs.declared.call.Call.{Call}
 use Rattle.lsp_service.specs.declared.call.Call.TheVariants as calls
 use Rattle.lsp_service.specs.declared.call.LifeCall.TheVariants as life_calls
 use Rattle.lsp_service.specs.declared.call.SyncCall.TheVariants as sync_calls
-use Rattle.lsp_service.specs.Data.{answer, custom_answer, refusal}
+use Rattle.lsp_service.specs.Data.{written, custom_answer, refusal}
 use Rattle.lsp_docs.specs.Docs.{replies}
 use Rattle.lsp_docs.specs.Typed.{call_turn, opening_of, changes_of, closing_of}
 use Rattle.lsp_docs.proofs.TurnLemmas.{polls_replied, polls_heeded}
 use Rattle.lsp_docs.proofs.docs.DocsServerLanguageServer.call.Goals as goal
 use Rattle.lsp_docs.proofs.docs.DocsServerLanguageServer.call.Goals.{in_default-via-in-Life+in-Initialized-1, in_default-via-in-Sync+in-WillSave-1, in_default-via-in-Goto-1}
 
-pub returns-in_err-reply-in-Life-Initialize-clause-failed : goal.returns-in_err-reply-in-Life-Initialize-clause-failed
-returns-in_err-reply-in-Life-Initialize-clause-failed g c = on_gives c.from_residual.result _ _ c.from_residual.ensures.1 (poll_fails_still g.D.Caller.meaning c.args.client.now)
+pub returns-in_err-offered-in-Life-Initialize-clause-failed : goal.returns-in_err-offered-in-Life-Initialize-clause-failed
+returns-in_err-offered-in-Life-Initialize-clause-failed g c = on_gives c.from_residual.result _ _ c.from_residual.ensures.1 (poll_fails_still g.D.Caller.meaning c.args.client.now)
 
-pub returns-in_ok-reply-in-Life-Initialize-clause-called : goal.returns-in_ok-reply-in-Life-Initialize-clause-called
-returns-in_ok-reply-in-Life-Initialize-clause-called g c =
+pub returns-in_ok-offered-in-Life-Initialize-clause-called : goal.returns-in_ok-offered-in-Life-Initialize-clause-called
+returns-in_ok-offered-in-Life-Initialize-clause-called g c =
     let ds = c.args.self.now.documents in
     let is : ◌≡◌ {A = Call} c.args.call (calls.Life (life_calls.Initialize c.in-Life-Initialize.params)) = c.in-Life-Initialize.is ∙ ap calls.Life c.in-Life-Initialize.field-0-is in
-    let shown = c.in_ok-reply-in-Life-Initialize.ensures ∙ ap (λ x. answer (methods.Life life.Initialize) (Ok (initialize_result_row.shown (record { capabilities = x; server_info = None })))) c.capabilities.ensures in
+    let shown = c.initialize_reply.ensures ∙ ap (λ x. written (methods.Life life.Initialize) (Ok x)) c.in_ok-offered-in-Life-Initialize.ensures in
     polls_replied g.D.Caller.meaning c.args.client.now c.args.self.now _ c.args.call _ (ap (call_turn ds) is ∙ ap replies (sym shown)) refl
 
 pub returns-in-Life-Shutdown-clause-called : goal.returns-in-Life-Shutdown-clause-called
