@@ -1,6 +1,7 @@
 // A server that answers otherwise than it was asked.
-use lsp_initialize::{InitializeResult, ServerCapabilities, ServerInfo};
+use lsp_initialize::{InitializeResult, ServerCapabilities};
 use lsp_lang_item::InlayHint;
+use lsp_offer_work::ServerInfo;
 use lsp_service::{
     Answering, Call, InitializeCall, InitializeReply, LifeCall, NoMemory, Reply, ShowReply,
     TokenCall, TokenReply, WorkCall, initialize_reply, not_found_for,
