@@ -18,8 +18,8 @@ use lsp_kinds::{MessageType, TextDocumentSyncKind};
 use lsp_offer_text::TextDocumentSyncOptions;
 use lsp_rpc::{Error, ErrorCode};
 use lsp_service::{
-    Call, InitializeReply, LanguageServer, LifeCall, LifeReply, NoMemory, NoTask, Reply, Started,
-    SyncCall, initialize_reply, not_found_for,
+    Call, InitializeCall, InitializeReply, LanguageServer, LifeCall, LifeReply, NoMemory, NoTask,
+    Reply, Started, SyncCall, not_found_for,
 };
 use lsp_work::{
     DidChangeTextDocumentParams, DidCloseTextDocumentParams, DidOpenTextDocumentParams,
@@ -156,8 +156,8 @@ impl<D: Caller> LanguageServer<D> for DocsServer {
     ) -> Result<Started<NoTask>, DeskFault> {
         match call {
             Call::Life(LifeCall::Initialize(params)) => {
-                let offered = offers(alloc)?;
-                Ok(Started::Now(initialize_reply(params, offered)))
+                let offered = initialize(alloc, params)?;
+                Ok(Started::Now(Reply::Life(LifeReply::Initialize(Ok(offered)))))
             }
             Call::Life(LifeCall::Shutdown) => {
                 Ok(Started::Now(Reply::Life(LifeReply::Shutdown(Ok(())))))
@@ -204,7 +204,7 @@ fn refuse<D: Caller>(alloc: Global, client: &mut D) -> Result<(), DeskFault>
     Ok(())
 }
 
-fn offers(alloc: Global) -> Result<InitializeReply, NoMemory>
+fn initialize(alloc: Global, _params: InitializeCall) -> Result<InitializeReply, NoMemory>
     ensures { IfOk result (λ reply. show_offer reply ≡ initialize_data
         (record { capabilities = offered; server_info = None })) }
 {

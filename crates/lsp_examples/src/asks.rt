@@ -1,11 +1,11 @@
 // The server: it asks for the folders of the workspace, marks what is opened, and reports how far a
 // command is.
-use crate::params::{begun, ended, folders_line, greeting, offers};
+use crate::params::{begun, ended, folders_line, greeting, initialize};
 use lsp_client::{Answered, Asked, Client, Ticket};
 use lsp_desk::{Caller, DeskFault};
 use lsp_service::{
-    Asking, Call, LifeCall, LifeReply, Reply, Started, SyncCall, WorkCall, WorkReply,
-    initialize_reply, let_go, not_found_for,
+    Asking, Call, LifeCall, LifeReply, Reply, Started, SyncCall, WorkCall, WorkReply, let_go,
+    not_found_for,
 };
 use lsp_types::notification::Progress;
 use lsp_types::request::WorkspaceFoldersRequest;
@@ -61,7 +61,8 @@ impl<D: Caller> Asking<D> for Asks {
                 None => Ok(Started::Later(Task::Command(params))),
             },
             Call::Life(LifeCall::Initialize(params)) => {
-                Ok(Started::Now(initialize_reply(params, offers(alloc)?)))
+                let offered = initialize(alloc, params)?;
+                Ok(Started::Now(Reply::Life(LifeReply::Initialize(Ok(offered)))))
             }
             Call::Life(LifeCall::Shutdown) => {
                 Ok(Started::Now(Reply::Life(LifeReply::Shutdown(Ok(())))))

@@ -4,8 +4,8 @@ use crate::worker::{Found, Jobs};
 use lsp_desk::{Caller, DeskFault};
 use lsp_rpc::{Error, ErrorCode};
 use lsp_service::{
-    Asking, Call, InitializeReply, LifeCall, LifeReply, NoMemory, Reply, Started, WorkCall,
-    WorkReply, initialize_reply, not_found_for,
+    Asking, Call, InitializeCall, InitializeReply, LifeCall, LifeReply, NoMemory, Reply, Started,
+    WorkCall, WorkReply, not_found_for,
 };
 use lsp_types::{ExecuteCommandOptions, ExecuteCommandParams, ServerCapabilities};
 use serde_json::Value;
@@ -47,7 +47,8 @@ impl<D: Caller> Asking<D> for Counts {
                 Err(error) => Ok(Started::Now(Reply::Error(error))),
             },
             Call::Life(LifeCall::Initialize(params)) => {
-                Ok(Started::Now(initialize_reply(params, offers(alloc)?)))
+                let offered = initialize(alloc, params)?;
+                Ok(Started::Now(Reply::Life(LifeReply::Initialize(Ok(offered)))))
             }
             Call::Life(LifeCall::Shutdown) => {
                 Ok(Started::Now(Reply::Life(LifeReply::Shutdown(Ok(())))))
@@ -101,7 +102,7 @@ fn number_of(params: &ExecuteCommandParams) -> Option<u64> {
 }
 
 // The command is offered, so that an editor asks for it.
-fn offers(alloc: Global) -> Result<InitializeReply, NoMemory> {
+fn initialize(alloc: Global, _params: InitializeCall) -> Result<InitializeReply, NoMemory> {
     let mut offered = ExecuteCommandOptions::default(alloc);
     offered.commands.push(String::from_str(alloc, "primes")?)?;
     let mut capabilities = ServerCapabilities::default();

@@ -1,5 +1,5 @@
 // What the server sends.
-use lsp_service::{InitializeReply, NoMemory};
+use lsp_service::{InitializeCall, InitializeReply, NoMemory};
 use lsp_types::{
     Diagnostic, ExecuteCommandParams, ProgressParams, ProgressParamsValue, Range,
     ServerCapabilities, TextDocumentItem, TextDocumentSyncKind, WorkDoneProgress,
@@ -8,7 +8,10 @@ use lsp_types::{
 use std::alloc::Global;
 
 /// What the server is able to do.
-pub(crate) fn offers(alloc: Global) -> Result<InitializeReply, NoMemory> {
+pub(crate) fn initialize(
+    alloc: Global,
+    _params: InitializeCall,
+) -> Result<InitializeReply, NoMemory> {
     let mut capabilities = ServerCapabilities::default();
     capabilities.text_document_sync = Some(TextDocumentSyncKind::FULL.into());
     InitializeReply::offering(alloc, capabilities)

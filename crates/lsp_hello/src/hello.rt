@@ -1,7 +1,7 @@
 // The server: it greets at hovers and completions.
 use lsp_service::{
-    Answering, Call, EditCall, EditReply, InitializeReply, LifeCall, LifeReply, NoMemory, Reply,
-    ShowCall, ShowReply, initialize_reply, not_found_for,
+    Answering, Call, EditCall, EditReply, InitializeCall, InitializeReply, LifeCall, LifeReply,
+    NoMemory, Reply, ShowCall, ShowReply, not_found_for,
 };
 use lsp_types::{
     CompletionItem, CompletionOptions, CompletionParams, CompletionResponse, Hover, HoverContents,
@@ -16,7 +16,8 @@ impl Answering for Hello {
     fn answer(&mut self, alloc: Global, call: Call) -> Result<Reply, NoMemory> {
         match call {
             Call::Life(LifeCall::Initialize(params)) => {
-                Ok(initialize_reply(params, offers(alloc)?))
+                let offered = initialize(alloc, params)?;
+                Ok(Reply::Life(LifeReply::Initialize(Ok(offered))))
             }
             Call::Life(LifeCall::Shutdown) => Ok(Reply::Life(LifeReply::Shutdown(Ok(())))),
             Call::Show(ShowCall::Hover(params)) => {
@@ -32,7 +33,7 @@ impl Answering for Hello {
     }
 }
 
-fn offers(alloc: Global) -> Result<InitializeReply, NoMemory> {
+fn initialize(alloc: Global, _params: InitializeCall) -> Result<InitializeReply, NoMemory> {
     let mut capabilities = ServerCapabilities::default();
     capabilities.hover_provider = Some(true.into());
     capabilities.completion_provider = Some(CompletionOptions::default());

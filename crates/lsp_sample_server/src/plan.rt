@@ -9,7 +9,7 @@ ghost use Rattle.lsp_sample_server.specs.Sample.{bare_data, no_capabilities_show
 use lsp_initialize::ServerCapabilities;
 use lsp_rpc::NoMemory;
 use lsp_service::{
-    Call, InitializeReply, LifeCall, LifeReply, Reply, Target, WorkCall, initialize_reply, let_go,
+    Call, InitializeCall, InitializeReply, LifeCall, LifeReply, Reply, Target, WorkCall, let_go,
     not_found,
 };
 use lsp_session::Kind;
@@ -33,8 +33,8 @@ pub(crate) fn plan_of(alloc: Global, call: Call) -> Result<Plan, NoMemory>
     match call {
         Call::Life(call) => match call {
             LifeCall::Initialize(params) => {
-                let offered = nothing_offered(alloc)?;
-                Ok(Plan::Reply(initialize_reply(params, offered)))
+                let offered = initialize(alloc, params)?;
+                Ok(Plan::Reply(Reply::Life(LifeReply::Initialize(Ok(offered)))))
             }
             LifeCall::Initialized(params) => {
                 drop(params);
@@ -52,7 +52,7 @@ pub(crate) fn plan_of(alloc: Global, call: Call) -> Result<Plan, NoMemory>
 
 // Nothing is offered.
 #[tactic(auto, unfolding(lsp_service::specs::Replies::initialize_data))]
-fn nothing_offered(alloc: Global) -> Result<InitializeReply, NoMemory>
+fn initialize(alloc: Global, _params: InitializeCall) -> Result<InitializeReply, NoMemory>
     ensures { IfOk result (λ offered. show_offer offered ≡ bare_data) }
 {
     InitializeReply::offering(alloc, no_capabilities())

@@ -1,15 +1,13 @@
 // Replies that servers have in common. They let calls and params go, so that an author's crate
 // needn't.
-ghost use Rattle.std.specs.Prelude.{◌≡◌, IfOk, Ok};
+ghost use Rattle.std.specs.Prelude.{◌≡◌, IfOk};
 ghost use Rattle.lsp_rpc.specs.Message.{error_with_code};
 ghost use Rattle.lsp_rpc.specs.declared.code.ErrorCode.TheVariants.{MethodNotFound};
-ghost use Rattle.lsp_service.specs.Data.{written, refusal};
-ghost use Rattle.lsp_service.specs.Replies.{show_offer, show_reply};
+ghost use Rattle.lsp_service.specs.Data.{refusal};
+ghost use Rattle.lsp_service.specs.Replies.{show_reply};
 
 use crate::call::Call;
-use crate::initialize::{InitializeCall, InitializeReply};
-use crate::reply::{LifeReply, Reply};
-use lsp_methods::{LifeMethod, Method};
+use crate::reply::Reply;
 use lsp_rpc::{Error, NoMemory};
 use std::alloc::Global;
 
@@ -31,13 +29,4 @@ pub fn not_found_for(alloc: Global, call: Call) -> Result<Reply, NoMemory>
 /// Lets a call go, before what is done of it.
 pub fn let_go(call: Call) {
     drop(call);
-}
-
-/// The reply to `initialize` of a server that offers this.
-pub fn initialize_reply(call: InitializeCall, offered: InitializeReply) -> Reply
-    ensures { show_reply result ≡ written (Method.Life LifeMethod.Initialize)
-        (Ok (show_offer offered)) }
-{
-    drop(call);
-    Reply::Life(LifeReply::Initialize(Ok(offered)))
 }

@@ -26,7 +26,7 @@ pub use call::{
     Call, EditCall, GotoCall, HierarchyCall, LifeCall, ShowCall, SyncCall, Target, TokenCall,
     WorkCall,
 };
-pub use common::{initialize_reply, let_go, not_found, not_found_for};
+pub use common::{let_go, not_found, not_found_for};
 pub use incoming::Incoming;
 pub use initialize::{InitializeCall, InitializeReply};
 pub use lsp_session::NoMemory;

@@ -3,8 +3,8 @@ use lsp_initialize::{InitializeResult, ServerCapabilities};
 use lsp_lang_item::InlayHint;
 use lsp_offer_work::ServerInfo;
 use lsp_service::{
-    Answering, Call, InitializeCall, InitializeReply, LifeCall, NoMemory, Reply, ShowReply,
-    TokenCall, TokenReply, WorkCall, initialize_reply, not_found_for,
+    Answering, Call, InitializeCall, InitializeReply, LifeCall, LifeReply, NoMemory, Reply,
+    ShowReply, TokenCall, TokenReply, WorkCall, not_found_for,
 };
 use lsp_work::ExecuteCommandParams;
 use serde_json::Value;
@@ -20,8 +20,8 @@ impl Answering for Strange {
     fn answer(&mut self, alloc: Global, call: Call) -> Result<Reply, NoMemory> {
         match call {
             Call::Life(LifeCall::Initialize(params)) => {
-                let offered = namesake(alloc, &params)?;
-                Ok(initialize_reply(params, offered))
+                let offered = namesake(alloc, params)?;
+                Ok(Reply::Life(LifeReply::Initialize(Ok(offered))))
             }
             Call::Work(WorkCall::ExecuteCommand(params)) => {
                 if has_arguments(params) {
@@ -42,7 +42,7 @@ impl Answering for Strange {
 }
 
 // Nothing is offered, and the server has its client's name.
-fn namesake(alloc: Global, call: &InitializeCall) -> Result<InitializeReply, NoMemory> {
+fn namesake(alloc: Global, call: InitializeCall) -> Result<InitializeReply, NoMemory> {
     let params = call.params(alloc)?;
     let server_info = match params.client_info {
         Some(client) => Some(ServerInfo {

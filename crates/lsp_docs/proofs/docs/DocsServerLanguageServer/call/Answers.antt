@@ -25,7 +25,7 @@ pub returns-in_ok-offered-in-Life-Initialize-clause-called : goal.returns-in_ok-
 returns-in_ok-offered-in-Life-Initialize-clause-called g c =
     let ds = c.args.self.now.documents in
     let is : ◌≡◌ {A = Call} c.args.call (calls.Life (life_calls.Initialize c.in-Life-Initialize.params)) = c.in-Life-Initialize.is ∙ ap calls.Life c.in-Life-Initialize.field-0-is in
-    let shown = c.initialize_reply.ensures ∙ ap (λ x. written (methods.Life life.Initialize) (Ok x)) c.in_ok-offered-in-Life-Initialize.ensures in
+    let shown = ap (λ x. written (methods.Life life.Initialize) (Ok x)) c.in_ok-offered-in-Life-Initialize.ensures in
     polls_replied g.D.Caller.meaning c.args.client.now c.args.self.now _ c.args.call _ (ap (call_turn ds) is ∙ ap replies (sym shown)) refl
 
 pub returns-in-Life-Shutdown-clause-called : goal.returns-in-Life-Shutdown-clause-called
