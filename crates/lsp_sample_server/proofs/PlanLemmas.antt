@@ -1,10 +1,11 @@
 -- What a call is taken for.
-use Rattle.std.proofs.Common.{◌≡◌, [], refl, ap, subst}
+use Rattle.std.proofs.Common.{◌≡◌, ◌∙◌, [], refl, ap, subst}
 use Rattle.std.specs.Prelude.{None}
 use Rattle.lsp_desk.specs.Meaning.{Meaning, PollsOn}
 use Rattle.lsp_desk.proofs.TraceLemmas.{grows_none}
 use Rattle.lsp_session.specs.declared.table.Kind.TheVariants.{Request}
 use Rattle.lsp_shape.specs.Plain.{parts, part, absent, no_parts}
+use Rattle.lsp_shape.specs.Write.{write}
 use Rattle.lsp_initialize.specs.declared.server.ServerCapabilities.{ServerCapabilities}
 use Rattle.lsp_initialize.specs.Server.{server_capabilities_row, initialize_result_row}
 use Rattle.lsp_work.specs.declared.workspace.ExecuteCommandParams.{ExecuteCommandParams}
@@ -27,16 +28,23 @@ use Rattle.lsp_service.specs.declared.call.WorkCall.{WorkCall}
 use Rattle.lsp_service.specs.declared.call.WorkCall.TheVariants as work_calls
 use Rattle.lsp_service.specs.Calls.{show_call, target_of, show_sync, show_goto, show_hierarchy, show_show, show_token, show_edit, show_work}
 use Rattle.lsp_service.specs.Data.{MethodCall, MethodReply}
+use Rattle.lsp_service.specs.Replies.{initialize_data}
 use Rattle.lsp_service.specs.Server.{Now}
+use Rattle.lsp_sample_server.proofs.WrittenLemmas.{bare_written}
 use Rattle.lsp_sample_server.specs.declared.sample.Sample.{Sample}
-use Rattle.lsp_sample_server.specs.Sample.{bare_result, no_capabilities_shown, replies, other_reply, sample_turn, BeginsTurn, BeginsCall}
+use Rattle.lsp_sample_server.specs.Sample.{bare_result, bare_data, no_capabilities_shown, replies, other_reply, sample_turn, BeginsTurn, BeginsCall}
 
 -- ---- `initialize`
 
-pub bare_shown : (capabilities : ServerCapabilities) → server_capabilities_row.shown capabilities ≡ no_capabilities_shown
+bare_shown : (capabilities : ServerCapabilities) → server_capabilities_row.shown capabilities ≡ no_capabilities_shown
     → initialize_result_row.shown (record { capabilities = capabilities; server_info = None }) ≡ bare_result
 unfolding initialize_result_row
 bare_shown capabilities is = ap (λ p. parts (part p (part absent no_parts))) is
+
+pub bare_initialize : (capabilities : ServerCapabilities) → server_capabilities_row.shown capabilities ≡ no_capabilities_shown
+    → initialize_data (record { capabilities = capabilities; server_info = None }) ≡ bare_data
+unfolding initialize_data
+bare_initialize capabilities is = ap (write initialize_result_row.shape) (bare_shown capabilities is) ∙ bare_written
 
 -- ---- a call that has its reply
 

@@ -1,6 +1,6 @@
 -- What the sample does: its relations are a function of the calls, of what was asked and of the desk's replies.
 use Rattle.std.specs.Prelude.{◌≡◌, ℕ, zero, suc, pos, List, [], codes, Option, Some, Result, Ok, Err}
-use Rattle.serde_json.specs.Data.{Data, number, unsigned}
+use Rattle.serde_json.specs.Data.{Data, number, unsigned, object, no_members, member}
 use Rattle.lsp_rpc.specs.declared.code.ErrorCode.TheVariants.{InvalidParams, MethodNotFound}
 use Rattle.lsp_rpc.specs.Message.{ErrorData, error_with_code}
 use Rattle.lsp_desk.specs.Call.{Call as DeskCall}
@@ -8,8 +8,6 @@ use Rattle.lsp_desk.specs.Trace.{DeskEntry}
 use Rattle.lsp_session.specs.declared.table.Kind.{Kind}
 use Rattle.lsp_session.specs.declared.table.Kind.TheVariants.{Request, Notification}
 use Rattle.lsp_shape.specs.Plain.{Plain, absent, parts, Parts, no_parts, part}
-use Rattle.lsp_shape.specs.Write.{write}
-use Rattle.lsp_initialize.specs.Server.{initialize_result_row}
 use Rattle.lsp_methods.specs.declared.method.Method.{Method}
 use Rattle.lsp_methods.specs.declared.method.Method.TheVariants as methods
 use Rattle.lsp_methods.specs.declared.method.LifeMethod.{LifeMethod}
@@ -47,8 +45,9 @@ no_capabilities_shown = parts (absents 34)
 abbrev pub bare_result : Plain
 bare_result = parts (part no_capabilities_shown (part absent no_parts))
 
+-- the same as it is written
 abbrev pub bare_data : Data
-bare_data = write initialize_result_row.shape bare_result
+bare_data = object (member (codes "capabilities") (object no_members) no_members)
 
 -- what the first poll of a call does: it has this reply; it greets the client; or it executes a command with these params
 pub data SampleTurn : Type 0 where

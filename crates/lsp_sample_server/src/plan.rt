@@ -51,7 +51,6 @@ pub(crate) fn plan_of(alloc: Global, call: Call) -> Result<Plan, NoMemory>
 }
 
 // Nothing is offered.
-#[tactic(auto, unfolding(lsp_service::specs::Replies::initialize_data))]
 fn initialize(alloc: Global, _params: InitializeCall) -> Result<InitializeReply, NoMemory>
     ensures { IfOk result (λ offered. show_offer offered ≡ bare_data) }
 {
