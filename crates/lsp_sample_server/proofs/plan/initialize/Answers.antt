@@ -1,6 +1,6 @@
 -- The default result is written as an object without capabilities.
 use Rattle.std.proofs.Common.{◌≡◌, ◌∙◌}
-use Rattle.std.proofs.lemmas.Cases.Result.{IfOk-weaker}
+use Rattle.std.proofs.lemmas.Result.{IfOk-weaker}
 use Rattle.lsp_sample_server.proofs.PlanLemmas.{bare_initialize}
 use Rattle.lsp_sample_server.proofs.plan.initialize.Goals as goal
 
