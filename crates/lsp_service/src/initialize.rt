@@ -44,7 +44,7 @@ impl InitializeReply {
     ghost use Rattle.lsp_service.specs.Replies.{initialize_data, show_offer};
 
     /// Writes the result. The one error is out of memory.
-    #[tactic(auto, unfolding(lsp_service::specs::Replies::initialize_data))]
+    #[tactic(auto, unfolding(crate::specs::Replies::initialize_data))]
     pub fn new(alloc: Global, of: &InitializeResult) -> Result<InitializeReply, NoMemory>
         ensures { IfOk result (λ reply. show_offer reply ≡ initialize_data of.now) }
     {
