@@ -64,7 +64,7 @@ use Rattle.lsp_service.specs.declared.reply.WorkReply.TheVariants as work_replie
 use Rattle.lsp_methods.specs.declared.method.WorkMethod.TheVariants as work
 
 -- what is written for a result of `initialize`
-pub initialize_data : InitializeResult → Data
+unfoldable pub initialize_data : InitializeResult → Data
 initialize_data x = write initialize_result_row.shape (initialize_result_row.shown x)
 
 -- what was written
