@@ -20,17 +20,31 @@ fn change(alloc: Global, documents: &mut Documents, changes: &[Change]) -> Resul
 
 // The text of the document after the changes, or `REFUSED`.
 fn after(alloc: Global, text: &str, changes: &[Change]) -> Result<String, ChangeError> {
+    let text = String::from_str(alloc, text)?;
     let mut documents = Documents::new(alloc);
-    let Ok(()) = documents.open(URI, 1, String::from_str(alloc, text)?) else {
-        return Err(ChangeError::NoMemory);
-    };
-    match change(alloc, &mut documents, changes) {
-        Ok(()) => match documents.get(URI) {
-            Some(document) => Ok(String::from_str(alloc, document.text())?),
-            None => Err(ChangeError::NotOpen),
-        },
+    match documents.open(URI, 1, text) {
+        Ok(()) => changed(alloc, &mut documents, changes),
+        Err(_) => Err(ChangeError::NoMemory),
+    }
+}
+
+// The same of the document that is open.
+fn changed(
+    alloc: Global,
+    documents: &mut Documents,
+    changes: &[Change],
+) -> Result<String, ChangeError> {
+    match change(alloc, documents, changes) {
+        Ok(()) => text_in(alloc, documents),
         Err(ChangeError::StartBehindEnd) => Ok(String::from_str(alloc, REFUSED)?),
         Err(error) => Err(error),
+    }
+}
+
+fn text_in(alloc: Global, documents: &Documents) -> Result<String, ChangeError> {
+    match documents.get(URI) {
+        Some(document) => Ok(String::from_str(alloc, document.text())?),
+        None => Err(ChangeError::NotOpen),
     }
 }
 

@@ -93,12 +93,24 @@ fn plain_change(
     if end < start {
         return Ok(None);
     }
-    let mut changed = Vec::from_slice(alloc, text.get(..start).unwrap_or(text))?;
+    let before = text.get(..start).unwrap_or(text);
+    let behind = text.get(end..).unwrap_or(text);
+    Ok(Some(joined(alloc, before, new, behind)?))
+}
+
+// The characters, the text's, and those behind it.
+fn joined(
+    alloc: Global,
+    before: &[char],
+    new: &str,
+    behind: &[char],
+) -> Result<Vec<char>, AllocError> {
+    let mut all = Vec::from_slice(alloc, before)?;
     for c in new.chars() {
-        changed.push(c)?;
+        all.push(c)?;
     }
-    changed.extend_from_slice(text.get(end..).unwrap_or(text))?;
-    Ok(Some(changed))
+    all.extend_from_slice(behind)?;
+    Ok(all)
 }
 
 // The document has the text of these characters.

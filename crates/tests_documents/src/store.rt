@@ -74,37 +74,49 @@ fn shown(alloc: Global, document: Option<&Document>) -> Result<String, AllocErro
     }
 }
 
-fn try_call(
-    trial: &mut Trial,
+// What a call gives.
+fn given(alloc: Global, documents: &mut Documents, call: &Call) -> Result<String, AllocError> {
+    match call {
+        Call::Open(uri, version, text) => opened(alloc, documents, uri, *version, text),
+        Call::Change(uri, version, range_length, changes) => {
+            changed(alloc, documents, uri, *version, *range_length, changes)
+        }
+        Call::Close(uri) => shown(alloc, documents.close(uri).as_ref()),
+        Call::Get(uri) => shown(alloc, documents.get(uri)),
+    }
+}
+
+fn opened(
     alloc: Global,
     documents: &mut Documents,
-    (what, call, gives): &(&str, Call, &str),
-) -> Result<(), AllocError> {
-    match call {
-        Call::Open(uri, version, text) => {
-            let text = String::from_str(alloc, text)?;
-            trial.shows(*what, documents.open(uri, *version, text), gives);
-        }
-        Call::Change(uri, version, range_length, changes) => {
-            let changes = events(alloc, changes, *range_length)?;
-            let changed = documents.change(uri, *version, changes.as_slice());
-            trial.shows(*what, changed, gives);
-        }
-        Call::Close(uri) => {
-            let closed = documents.close(uri);
-            trial.text(*what, shown(alloc, closed.as_ref()), gives);
-        }
-        Call::Get(uri) => trial.text(*what, shown(alloc, documents.get(uri)), gives),
-    }
-    Ok(())
+    uri: &str,
+    version: i32,
+    text: &str,
+) -> Result<String, AllocError> {
+    let text = String::from_str(alloc, text)?;
+    let opened = documents.open(uri, version, text);
+    format!(in alloc; "{opened:?}")
+}
+
+fn changed(
+    alloc: Global,
+    documents: &mut Documents,
+    uri: &str,
+    version: i32,
+    range_length: Option<u32>,
+    changes: &[Change],
+) -> Result<String, AllocError> {
+    let changes = events(alloc, changes, range_length)?;
+    let changed = documents.change(uri, version, changes.as_slice());
+    format!(in alloc; "{changed:?}")
 }
 
 #[test]
 fn documents_are_opened_changed_and_closed(rt: HostRuntime) -> Result<(), RowError> {
     let mut trial = Trial::new(rt.alloc());
     let mut documents = Documents::new(rt.alloc());
-    for row in CALLS {
-        try_call(&mut trial, rt.alloc(), &mut documents, row)?;
+    for (what, call, gives) in CALLS {
+        trial.text(*what, given(rt.alloc(), &mut documents, call), gives);
     }
     trial.end()
 }
