@@ -65,6 +65,8 @@ impl InitializeReply {
             capabilities,
             server_info: None,
         };
-        InitializeReply::new(alloc, &of)
+        let reply = InitializeReply::new(alloc, &of);
+        drop(of);
+        reply
     }
 }
