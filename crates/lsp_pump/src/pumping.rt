@@ -4,15 +4,15 @@ ghost use Rattle.std.specs.Result.{result_err};
 ghost use Rattle.rtrb.specs.Ring.{sent, received, IsPair, SameConsumer};
 ghost use Rattle.lsp_desk.specs.Meaning.{IsOpening, Grown};
 ghost use Rattle.lsp_frame.specs.Codec.{told_at};
-ghost use Rattle.lsp_session.specs.Run.{Step, order_by};
+ghost use Rattle.lsp_session.specs.Run.{order_by};
 ghost use Rattle.lsp_session.specs.SessionView.{session_view, desk_of};
 ghost use Rattle.lsp_server.specs.Course.{course, course_from, picked};
 ghost use Rattle.lsp_server.specs.Errors.{SaysSpent};
-ghost use Rattle.lsp_server.specs.Leaves.{LeavesFaults, StaysFlushed, WithinReads};
+ghost use Rattle.lsp_server.specs.Leaves.{StaysFlushed, WithinReads};
 ghost use Rattle.lsp_server.specs.Served.{call_bytes};
-ghost use Rattle.lsp_server.specs.ServerView.{standing, IsReady, server_desk, setting};
+ghost use Rattle.lsp_server.specs.ServerView.{IsReady, server_desk, setting};
 ghost use Rattle.lsp_pump.specs.Pieces.{all_items};
-ghost use Rattle.lsp_pump.specs.Steps.{StepsMade, StepsBegun, StepsAnswered, MayGoOn, StandsAfter, FailsInStep};
+ghost use Rattle.lsp_pump.specs.Steps.{MakesSteps, MayGoOn};
 ghost use Rattle.lsp_pump.specs.Reading.{EndsBy, ReadAndServed, IsReadingOf};
 ghost use Rattle.lsp_pump.specs.Pumped.{PumpsOver, TellsPumpFaults};
 ghost use Rattle.lsp_pump.specs.PumpsSession.{PumpsSession};
@@ -20,7 +20,7 @@ ghost use Rattle.lsp_pump.specs.PumpsSession.{PumpsSession};
 use crate::job::{Ended, ReadEnd, Reading, read_job};
 use crate::pieces::{FloatFree, Pieces, Sender};
 use crate::signal::Signal;
-use crate::steps::{finish, serve_rest, serve_waiting};
+use crate::steps::{Seat, Steps, finish, serve_rest, serve_waiting};
 use bytes::BytesMut;
 use lsp_desk::{Desk, Loopback};
 use lsp_frame::{CodecSettings, LanguageServerCodec};
@@ -116,61 +116,39 @@ struct Rest<I> {
 
 // Serves all that a reading gives, which goes on beside it, through the first exit. It says whether
 // there was one.
-fn serve_beside<
-    R: Threads + Wait,
-    I: Source + Send + Drop + 'static,
-    O: Sink,
-    D: Desk + Drop,
-    H: Handlers<D>,
-    P: Pick,
->(
+fn serve_beside<R: Threads + Wait, I: Source + Send + Drop + 'static, S: Steps>(
     rt: &R,
     alloc: Global,
     reading: Reading<I>,
     lines: Lines,
-    sink: &mut O,
-    session: &mut Session<H, D>,
-    pick: &mut P,
+    steps: &mut S,
     reads: u64,
     rounds: u64,
 ) -> (Rest<I>, Result<bool, ServeError>)
-    requires going { MayGoOn H.semantics D.meaning session.old }
+    requires going { S.way.stands steps.old false }
     requires told { told_at reading.codec ≡ [] }
     requires fresh { sent reading.sender ≡ [] }
     requires pair { (received lines.pieces ≡ []) × IsPair reading.sender lines.pieces }
     ensures serves { ReadAndServed reading.codec (I.left reading.source) (I.left result.0.source)
         result.0.made result.0.codec result.0.ended
-        (λ given. StepsAnswered (Step H.semantics (order_by P.gives P.later) rounds) D.meaning
-        (H.semantics.find (session_view H.semantics D.meaning session.old).state.service)
-        (standing H.semantics D.meaning session.old (P.state pick.old) (O.taken sink.old))
-        given result.1
-        (standing H.semantics D.meaning session.new (P.state pick.new) (O.taken sink.new))) }
+        (λ given. MakesSteps S.way rounds steps.old given result.1 steps.new) }
     ensures ends { EndsBy (I.left reading.source) (I.left result.0.source)
         (I.faults reading.source) (I.faults result.0.source) reads result.0.made result.0.ended }
-    ensures stands { IfOk result.1 (StandsAfter H.semantics D.meaning session.new) }
-    ensures fails { IfErr result.1 (FailsInStep D.meaning (desk_of session.new)) }
-    ensures grown { Grown D.meaning (desk_of session.old) (desk_of session.new) }
-    ensures flushed { StaysFlushed (O.taken sink.old) (O.flushed sink.old)
-        (O.taken sink.new) (O.flushed sink.new) (result_err result.1) }
-    ensures sink { LeavesFaults O.faults O.beside sink.old sink.new (result_err result.1) }
+    ensures tied { S.tied steps.new ≡ S.tied steps.old }
 {
     let Lines {
         mut pieces,
         theirs,
         ours,
     } = lines;
-    let mut room = BytesMut::new(alloc);
     let (end, served) = serve_started(
         rt,
         alloc,
-        &mut room,
         reading,
         theirs,
         &ours,
         &mut pieces,
-        sink,
-        session,
-        pick,
+        steps,
         reads,
         rounds,
     );
@@ -191,16 +169,7 @@ fn serve_beside<
     };
     match served {
         Ok(false) => {
-            let served = serve_rest(
-                alloc,
-                &mut room,
-                sink,
-                session,
-                &mut pieces,
-                back,
-                pick,
-                rounds,
-            );
+            let served = serve_rest(steps, &mut pieces, back, rounds);
             (rest, served)
         }
         Ok(true) => (rest, Ok(true)),
@@ -210,53 +179,29 @@ fn serve_beside<
 
 // Starts the reading, and serves what comes of it until it ends, a step fails or there was an exit.
 // Then the reading is waited for.
-fn serve_started<
-    R: Threads + Wait,
-    I: Source + Send + Drop + 'static,
-    O: Sink,
-    D: Desk + Drop,
-    H: Handlers<D>,
-    P: Pick,
->(
+fn serve_started<R: Threads + Wait, I: Source + Send + Drop + 'static, S: Steps>(
     rt: &R,
     alloc: Global,
-    room: &mut BytesMut,
     reading: Reading<I>,
     theirs: Arc<Signal, Global>,
     ours: &Signal,
     pieces: &mut Pieces,
-    sink: &mut O,
-    session: &mut Session<H, D>,
-    pick: &mut P,
+    steps: &mut S,
     reads: u64,
     rounds: u64,
 ) -> (ReadEnd<I>, Result<bool, ServeError>)
-    requires going { MayGoOn H.semantics D.meaning session.old }
+    requires going { S.way.stands steps.old false }
     requires told { told_at reading.codec ≡ [] }
     requires fresh { (sent reading.sender ≡ []) × (received pieces.old ≡ []) }
     ensures reading { IsReadingOf I.left I.faults reading reads result.0 }
-    ensures made { IfOk result.1
-        (λ exits. StepsMade (Step H.semantics (order_by P.gives P.later) rounds) D.meaning
-        (H.semantics.find (session_view H.semantics D.meaning session.old).state.service)
-        (standing H.semantics D.meaning session.old (P.state pick.old) (O.taken sink.old))
-        (all_items (received pieces.new)) exits
-        (standing H.semantics D.meaning session.new (P.state pick.new) (O.taken sink.new))) }
-    ensures begun { OnErr result.1
-        (StepsBegun (Step H.semantics (order_by P.gives P.later) rounds) D.meaning
-        (H.semantics.find (session_view H.semantics D.meaning session.old).state.service)
-        (standing H.semantics D.meaning session.old (P.state pick.old) (O.taken sink.old))
-        (all_items (received pieces.new)) (desk_of session.new) (O.taken sink.new)) }
+    ensures makes { MakesSteps S.way rounds steps.old (all_items (received pieces.new)) result.1
+        steps.new }
     ensures ring { SameConsumer pieces.old pieces.new }
-    ensures stands { IfOk result.1 (StandsAfter H.semantics D.meaning session.new) }
-    ensures fails { IfErr result.1 (FailsInStep D.meaning (desk_of session.new)) }
-    ensures grown { Grown D.meaning (desk_of session.old) (desk_of session.new) }
-    ensures flushed { StaysFlushed (O.taken sink.old) (O.flushed sink.old)
-        (O.taken sink.new) (O.flushed sink.new) (result_err result.1) }
-    ensures sink { LeavesFaults O.faults O.beside sink.old sink.new (result_err result.1) }
+    ensures tied { S.tied steps.new ≡ S.tied steps.old }
 {
     match start(rt, alloc, reading, reads, theirs, ours) {
         Ok(handle) => {
-            let served = serve_waiting(rt, alloc, room, sink, session, pieces, ours, pick, rounds);
+            let served = serve_waiting(rt, steps, pieces, ours, rounds);
             (handle.join(rt), served)
         }
         Err(end) => (end, Ok(false)),
@@ -310,9 +255,15 @@ fn pump_session<
         codec,
         sender,
     };
-    let (rest, served) = serve_beside(
-        rt, alloc, reading, lines, sink, session, pick, reads, rounds,
-    );
+    let mut room = BytesMut::new(alloc);
+    let mut seat = Seat {
+        alloc,
+        room: &mut room,
+        sink,
+        session,
+        pick,
+    };
+    let (rest, served) = serve_beside(rt, alloc, reading, lines, &mut seat, reads, rounds);
     let Rest {
         mut source,
         mut codec,
@@ -322,15 +273,14 @@ fn pump_session<
     match served {
         Ok(false) => {
             let left = reads - made;
-            let mut room = BytesMut::new(alloc);
             let finished = finish(
                 alloc,
-                &mut room,
+                seat.room,
                 &mut source,
                 &mut codec,
-                sink,
-                session,
-                pick,
+                seat.sink,
+                seat.session,
+                seat.pick,
                 ended,
                 left,
                 rounds,
