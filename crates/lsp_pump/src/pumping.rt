@@ -210,6 +210,7 @@ fn serve_started<R: Threads + Wait, I: Source + Send + Drop + 'static, S: Steps>
 
 // Serves a session from where it stands, while a thread of its own reads on from a codec.
 fn pump_session<
+    'a,
     R: Threads + Wait,
     I: Source + Send + Drop + 'static,
     O: Sink,
@@ -221,9 +222,9 @@ fn pump_session<
     alloc: Global,
     source: I,
     codec: LanguageServerCodec,
-    sink: &mut O,
-    session: &mut Session<H, D>,
-    pick: &mut P,
+    sink: &'a mut O,
+    session: &'a mut Session<H, D>,
+    pick: &'a mut P,
     reads: u64,
     rounds: u64,
 ) -> (I, Result<(), ServeError>)
@@ -255,10 +256,9 @@ fn pump_session<
         codec,
         sender,
     };
-    let mut room = BytesMut::new(alloc);
     let mut seat = Seat {
         alloc,
-        room: &mut room,
+        room: BytesMut::new(alloc),
         sink,
         session,
         pick,
@@ -275,7 +275,7 @@ fn pump_session<
             let left = reads - made;
             let finished = finish(
                 alloc,
-                seat.room,
+                &mut seat.room,
                 &mut source,
                 &mut codec,
                 seat.sink,

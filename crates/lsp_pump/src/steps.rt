@@ -60,7 +60,7 @@ pub(crate) trait Steps {
 #[derive(Drop)]
 pub(crate) struct Seat<'a, O, S, P> {
     pub(crate) alloc: Global,
-    pub(crate) room: &'a mut BytesMut,
+    pub(crate) room: BytesMut,
     pub(crate) sink: &'a mut O,
     pub(crate) session: &'a mut S,
     pub(crate) pick: &'a mut P,
@@ -93,7 +93,7 @@ impl<'a, O: Sink, D: Desk + Drop, H: Handlers<D>, P: Pick> Steps for Seat<'a, O,
     fn make_step(&mut self, item: Item, rounds: u64) -> Result<bool, ServeError> {
         match serve_item(
             self.alloc,
-            self.room,
+            &mut self.room,
             self.sink,
             self.session,
             item,
