@@ -58,11 +58,11 @@ module _ (find : List ℕ → Option Entry) where
   -- a tick is no exit
   pub through_tick : (xs : List ItemData) → unticked (through_exit find (xs ++ tick ∷ [])) ≡ unticked (through_exit find xs)
   through_tick [] = refl
-  through_tick (x ∷ xs) = at (is_exit find x)
+  through_tick (x ∷ xs) = at (is_exit find x) (through_tick xs)
     where
-      at : (b : Bool) → unticked (if b then x ∷ [] else x ∷ through_exit find (xs ++ tick ∷ [])) ≡ unticked (if b then x ∷ [] else x ∷ through_exit find xs)
-      at true = refl
-      at false = unticked_cons x (through_exit find (xs ++ tick ∷ [])) (through_exit find xs) (through_tick xs)
+      at : (b : Bool) → unticked (through_exit find (xs ++ tick ∷ [])) ≡ unticked (through_exit find xs) → unticked (if b then x ∷ [] else x ∷ through_exit find (xs ++ tick ∷ [])) ≡ unticked (if b then x ∷ [] else x ∷ through_exit find xs)
+      at true more = refl
+      at false more = unticked_cons x (through_exit find (xs ++ tick ∷ [])) (through_exit find xs) more
 
   pub through_one : (x : ItemData) → through_exit find (x ∷ []) ≡ x ∷ []
   through_one x = at (is_exit find x)

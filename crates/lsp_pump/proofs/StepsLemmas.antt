@@ -34,16 +34,6 @@ module _ {S D : Type 0} {step : S → ItemData → Effect → S → Type 0} {m :
   pub begun_one : (a : Place S D) (x : ItemData) (desk : D) (taken : Option (List ℕ)) → RanPart step m a (x ∷ []) desk taken → StepsBegun step m find a (x ∷ []) desk taken
   begun_one a x desk taken part = record { list = x ∷ []; spaced = ap unticked (sym (through_one find x)); part = part }
 
-  -- a tick is no item that came
-  pub untick : (a b : Place S D) (items : List ItemData) (r : Result Bool ServeError) → StepsAnswered step m find a (items ++ tick ∷ []) r b → StepsAnswered step m find a items r b
-  untick a b items (Ok exits) p = record {
-    list = p.list;
-    spaced = p.spaced ∙ through_tick find items;
-    ran = p.ran;
-    is = sym (has_exit-append find items (tick ∷ []) ∙ or_false (has_exit find items)) ∙ p.is;
-  }
-  untick a b items (Err e) p = record { list = p.list; spaced = p.spaced ∙ through_tick find items; part = p.part }
-
   pub made_begun : (a b : Place S D) (items : List ItemData) (exits : Bool) → StepsMade step m find a items exits b → StepsBegun step m find a items b.desk b.taken
   made_begun a b items exits p = record { list = p.list; spaced = p.spaced; part = part_whole a b p.list p.ran }
 
@@ -98,6 +88,17 @@ module _ {S D : Type 0} {step : S → ItemData → Effect → S → Type 0} {m :
   pub grown_on_any : {A : Type 0} (a b c : Place S D) (xs ys : List ItemData) → Ran step m a xs b → (r : Result A ServeError) → OnOk r (Ran step m b ys c) → OnErr r (Grown m b.desk c.desk) → Grown m a.desk c.desk
   grown_on_any a b c xs ys p (Ok x) q grown = ran_grown a c (xs ++ ys) (ran_more a b c xs ys p q)
   grown_on_any a b c xs ys p (Err e) q grown = grown_after a b c.desk xs p grown
+
+module _ {S D : Type 0} (step : S → ItemData → Effect → S → Type 0) (m : Meaning D) (find : List ℕ → Option Entry) where
+  -- a tick is no item that came
+  pub untick : (a b : Place S D) (items : List ItemData) (r : Result Bool ServeError) → StepsAnswered step m find a (items ++ tick ∷ []) r b → StepsAnswered step m find a items r b
+  untick a b items (Ok exits) p = record {
+    list = p.list;
+    spaced = p.spaced ∙ through_tick find items;
+    ran = p.ran;
+    is = sym (has_exit-append find items (tick ∷ []) ∙ or_false (has_exit find items)) ∙ p.is;
+  }
+  untick a b items (Err e) p = record { list = p.list; spaced = p.spaced ∙ through_tick find items; part = p.part }
 
 -- ---- by a way
 
@@ -156,4 +157,4 @@ module _ {X S D B : Type 0} (way : Way X S D B) (rounds : ℕ) where
   makes_failed a b xs ys e p = with_answer a b xs (xs ++ ys) (Err e) p (begun_longer (find_of a) (way.place a) xs ys (way.place b).desk (way.place b).taken p.answered)
 
   pub makes_untick : (a b : X) (items : List ItemData) (r : Result Bool ServeError) → MakesSteps way rounds a (items ++ tick ∷ []) r b → MakesSteps way rounds a items r b
-  makes_untick a b items r p = with_answer a b (items ++ tick ∷ []) items r p (untick (find_of a) (way.place a) (way.place b) items r p.answered)
+  makes_untick a b items r p = with_answer a b (items ++ tick ∷ []) items r p (untick (way.step rounds) way.meaning (find_of a) (way.place a) (way.place b) items r p.answered)

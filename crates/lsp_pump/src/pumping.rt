@@ -1,5 +1,5 @@
 //! A session that is served while a thread of its own reads.
-ghost use Rattle.std.specs.Prelude.{◌≡◌, ◌≤◌, [], None, is_some, IfOk, IfErr, IfSome, OnOk, OnErr};
+ghost use Rattle.std.specs.Prelude.{◌≡◌, ◌≤◌, [], ℕ, false, None, is_some, IfOk, IfErr, IfSome, OnOk};
 ghost use Rattle.std.specs.Result.{result_err};
 ghost use Rattle.rtrb.specs.Ring.{sent, received, IsPair, SameConsumer};
 ghost use Rattle.lsp_desk.specs.Meaning.{IsOpening, Grown};
@@ -20,7 +20,7 @@ ghost use Rattle.lsp_pump.specs.PumpsSession.{PumpsSession};
 use crate::job::{Ended, ReadEnd, Reading, read_job};
 use crate::pieces::{FloatFree, Pieces, Sender};
 use crate::signal::Signal;
-use crate::steps::{Seat, Steps, finish, serve_rest, serve_waiting};
+use crate::steps::{Held, Seat, Steps, finish, serve_rest, serve_waiting};
 use bytes::BytesMut;
 use lsp_desk::{Desk, Loopback};
 use lsp_frame::{CodecSettings, LanguageServerCodec};
@@ -211,6 +211,8 @@ fn serve_started<R: Threads + Wait, I: Source + Send + Drop + 'static, S: Steps>
 // Serves a session from where it stands, while a thread of its own reads on from a codec.
 fn pump_session<
     'a,
+    'b,
+    'c,
     R: Threads + Wait,
     I: Source + Send + Drop + 'static,
     O: Sink,
@@ -219,36 +221,40 @@ fn pump_session<
     P: Pick,
 >(
     rt: &R,
-    alloc: Global,
     source: I,
     codec: LanguageServerCodec,
-    sink: &'a mut O,
-    session: &'a mut Session<H, D>,
-    pick: &'a mut P,
+    seat: &mut Seat<'a, 'b, 'c, O, Session<H, D>, P>,
     reads: u64,
     rounds: u64,
 ) -> (I, Result<(), ServeError>)
-    requires going { MayGoOn H.semantics D.meaning session.old }
+    requires going { MayGoOn H.semantics D.meaning seat.old.held.now.session }
     requires told { told_at codec ≡ [] }
     ensures pumps { IfSome (I.left source) (λ bytes. PumpsOver
         (course_from H.semantics D.meaning (order_by P.gives P.later) rounds codec.settings
-        (session_view H.semantics D.meaning session.old) (P.state pick.old)) codec
-        (call_bytes bytes (I.left result.0) (O.taken sink.old) (O.taken sink.new))
-        (picked (session_view H.semantics D.meaning session.new) (P.state pick.new))
-        (desk_of session.new) (result_err result.1)) }
-    ensures ready { OnOk result.1 (IsReady H.semantics D.meaning session.new) }
-    ensures grown { Grown D.meaning (desk_of session.old) (desk_of session.new) }
-    ensures desk_spent { IfErr result.1 (λ e. SaysSpent D.meaning (desk_of session.new) e) }
-    ensures flushed { StaysFlushed (O.taken sink.old) (O.flushed sink.old)
-        (O.taken sink.new) (O.flushed sink.new) (result_err result.1) }
+        (session_view H.semantics D.meaning seat.old.held.now.session) (P.state seat.old.pick.now))
+        codec
+        (call_bytes bytes (I.left result.0) (O.taken seat.old.sink.now) (O.taken seat.new.sink.now))
+        (picked (session_view H.semantics D.meaning seat.new.held.now.session)
+        (P.state seat.new.pick.now))
+        (desk_of seat.new.held.now.session) (result_err result.1)) }
+    ensures ready { OnOk result.1 (IsReady H.semantics D.meaning seat.new.held.now.session) }
+    ensures grown { Grown D.meaning (desk_of seat.old.held.now.session)
+        (desk_of seat.new.held.now.session) }
+    ensures desk_spent { IfErr result.1
+        (λ e. SaysSpent D.meaning (desk_of seat.new.held.now.session) e) }
+    ensures flushed { StaysFlushed (O.taken seat.old.sink.now) (O.flushed seat.old.sink.now)
+        (O.taken seat.new.sink.now) (O.flushed seat.new.sink.now) (result_err result.1) }
     ensures faults { TellsPumpFaults (I.faults source) (I.faults result.0)
-        (O.faults sink.old) (O.faults sink.new)
-        (is_some (session_view H.semantics D.meaning session.new).state.exited)
+        (O.faults seat.old.sink.now) (O.faults seat.new.sink.now)
+        (is_some (session_view H.semantics D.meaning seat.new.held.now.session).state.exited)
         (result_err result.1) }
     ensures within { WithinReads reads 4096 (I.left source) (I.left result.0) None None
         (result_err result.1) }
+    ensures same_sink { seat.new.sink.ghost_name ≡ seat.old.sink.ghost_name }
+    ensures same_held { seat.new.held.ghost_name ≡ seat.old.held.ghost_name }
+    ensures same_pick { seat.new.pick.ghost_name ≡ seat.old.pick.ghost_name }
 {
-    let Ok((sender, lines)) = make_lines(alloc) else {
+    let Ok((sender, lines)) = make_lines(seat.alloc) else {
         return (source, Err(ServeError::NoMemory));
     };
     let reading = Reading {
@@ -256,14 +262,7 @@ fn pump_session<
         codec,
         sender,
     };
-    let mut seat = Seat {
-        alloc,
-        room: BytesMut::new(alloc),
-        sink,
-        session,
-        pick,
-    };
-    let (rest, served) = serve_beside(rt, alloc, reading, lines, &mut seat, reads, rounds);
+    let (rest, served) = serve_beside(rt, seat.alloc, reading, lines, seat, reads, rounds);
     let Rest {
         mut source,
         mut codec,
@@ -273,18 +272,7 @@ fn pump_session<
     match served {
         Ok(false) => {
             let left = reads - made;
-            let finished = finish(
-                alloc,
-                &mut seat.room,
-                &mut source,
-                &mut codec,
-                seat.sink,
-                seat.session,
-                seat.pick,
-                ended,
-                left,
-                rounds,
-            );
+            let finished = finish(seat, &mut source, &mut codec, ended, left, rounds);
             (source, finished)
         }
         Ok(true) => (source, Ok(())),
@@ -343,18 +331,18 @@ pub fn pump<
     let floats = settings.floats;
     let codec = LanguageServerCodec::with_settings(alloc, CodecSettings { limits, floats });
     let desk = socket.into_desk();
-    let mut session = open(alloc, service, desk, max, wait, empty_params);
-    let (source, pumped) = pump_session(
-        rt,
+    let mut held = Held {
+        session: open(alloc, service, desk, max, wait, empty_params),
+        room: BytesMut::new(alloc),
+    };
+    let mut seat = Seat {
         alloc,
-        source,
-        codec,
         sink,
-        &mut session,
+        held: &mut held,
         pick,
-        reads,
-        rounds,
-    );
+    };
+    let (source, pumped) = pump_session(rt, source, codec, &mut seat, reads, rounds);
+    let Held { session, room: _ } = held;
     match pumped {
         Ok(()) => (source, hand_back(session)),
         Err(error) => (source, Err(stop(session, error))),

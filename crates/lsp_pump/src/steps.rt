@@ -56,17 +56,24 @@ pub(crate) trait Steps {
         ensures tied { tied self.new ≡ tied self.old };
 }
 
-/// A session with what it is served by.
+/// A session with the room that the frames of its steps take.
 #[derive(Drop)]
-pub(crate) struct Seat<'a, O, S, P> {
-    pub(crate) alloc: Global,
+pub(crate) struct Held<S> {
+    pub(crate) session: S,
     pub(crate) room: BytesMut,
-    pub(crate) sink: &'a mut O,
-    pub(crate) session: &'a mut S,
-    pub(crate) pick: &'a mut P,
 }
 
-impl<'a, O: Sink, D: Desk + Drop, H: Handlers<D>, P: Pick> Steps for Seat<'a, O, Session<H, D>, P> {
+/// A session with what it is served by.
+#[derive(Drop)]
+pub(crate) struct Seat<'a, 'b, 'c, O, S, P> {
+    pub(crate) alloc: Global,
+    pub(crate) sink: &'a mut O,
+    pub(crate) held: &'b mut Held<S>,
+    pub(crate) pick: &'c mut P,
+}
+
+impl<'a, 'b, 'c, O: Sink, D: Desk + Drop, H: Handlers<D>, P: Pick> Steps
+    for Seat<'a, 'b, 'c, O, Session<H, D>, P> {
     ghost States = { Picked (State H H.semantics.Call H.semantics.Task) P.State };
 
     ghost Desks = { D };
@@ -77,30 +84,31 @@ impl<'a, O: Sink, D: Desk + Drop, H: Handlers<D>, P: Pick> Steps for Seat<'a, O,
       step = λ n. Step H.semantics (order_by P.gives P.later) n;
       meaning = D.meaning;
       table = λ state. H.semantics.find state.session.service;
-      place = λ s. standing H.semantics D.meaning s.session.now (P.state s.pick.now)
+      place = λ s. standing H.semantics D.meaning s.held.now.session (P.state s.pick.now)
           (O.taken s.sink.now);
       flushed = λ s. O.flushed s.sink.now;
       faults = λ s. O.faults s.sink.now;
       beside = λ s. O.beside s.sink.now;
-      stands = λ s. StandsAfter H.semantics D.meaning s.session.now;
+      stands = λ s. StandsAfter H.semantics D.meaning s.held.now.session;
     } };
 
     // Which sink, session and pick they are.
     ghost Tied = { (ℕ × ℕ) × ℕ };
 
-    ghost tied = { λ s. ((s.sink.ghost_name, s.session.ghost_name), s.pick.ghost_name) };
+    ghost tied = { λ s. ((s.sink.ghost_name, s.held.ghost_name), s.pick.ghost_name) };
 
     fn make_step(&mut self, item: Item, rounds: u64) -> Result<bool, ServeError> {
+        let held = &mut *self.held;
         match serve_item(
             self.alloc,
-            &mut self.room,
+            &mut held.room,
             self.sink,
-            self.session,
+            &mut held.session,
             item,
             self.pick,
             rounds,
         ) {
-            Ok(()) => Ok(self.session.exited().is_some()),
+            Ok(()) => Ok(held.session.exited().is_some()),
             Err(error) => Err(error),
         }
     }
@@ -239,52 +247,76 @@ fn serve_known<S: Steps>(
 
 /// Serves what comes after all that a reading gave: on from source and codec, where reading hasn't
 /// ended; the end of input; or the error by which it ended.
-pub(crate) fn finish<I: Source, O: Sink, D: Desk + Drop, H: Handlers<D>, P: Pick>(
-    alloc: Global,
-    room: &mut BytesMut,
+pub(crate) fn finish<'a, 'b, 'c, I: Source, O: Sink, D: Desk + Drop, H: Handlers<D>, P: Pick>(
+    seat: &mut Seat<'a, 'b, 'c, O, Session<H, D>, P>,
     source: &mut I,
     codec: &mut LanguageServerCodec,
-    sink: &mut O,
-    session: &mut Session<H, D>,
-    pick: &mut P,
     ended: Ended,
     reads: u64,
     rounds: u64,
 ) -> Result<(), ServeError>
-    requires going { MayGoOn H.semantics D.meaning session.old }
+    requires going { MayGoOn H.semantics D.meaning seat.old.held.now.session }
     requires told { KeepsAllBytes ended → told_at codec.old ≡ [] }
     requires spent { ended ≡ Ended.Spent → reads ≡ 0 }
     ensures serves { KeepsAllBytes ended
         → (ended ≡ Ended.End → IfSome (I.left source.old) (λ bytes. bytes ≡ []))
         → IfSome (I.left source.old) (λ bytes. ServesOn
         (course_from H.semantics D.meaning (order_by P.gives P.later) rounds codec.old.settings
-        (session_view H.semantics D.meaning session.old) (P.state pick.old)) codec.old
-        (call_bytes bytes (I.left source.new) (O.taken sink.old) (O.taken sink.new))
-        (picked (session_view H.semantics D.meaning session.new) (P.state pick.new))
-        (desk_of session.new) (result_err result)) }
+        (session_view H.semantics D.meaning seat.old.held.now.session) (P.state seat.old.pick.now))
+        codec.old
+        (call_bytes bytes (I.left source.new) (O.taken seat.old.sink.now)
+        (O.taken seat.new.sink.now))
+        (picked (session_view H.semantics D.meaning seat.new.held.now.session)
+        (P.state seat.new.pick.now))
+        (desk_of seat.new.held.now.session) (result_err result)) }
     ensures no_memory { ended ≡ Ended.NoMemory → (result ≡ Err ServeError.NoMemory)
-        × (session.new ≡ session.old) × (sink.new ≡ sink.old) }
-    ensures ready { OnOk result (IsReady H.semantics D.meaning session.new) }
-    ensures grown { Grown D.meaning (desk_of session.old) (desk_of session.new) }
-    ensures desk_spent { IfErr result (λ e. SaysSpent D.meaning (desk_of session.new) e) }
-    ensures flushed { StaysFlushed (O.taken sink.old) (O.flushed sink.old)
-        (O.taken sink.new) (O.flushed sink.new) (result_err result) }
+        × (seat.new ≡ seat.old) }
+    ensures ready { OnOk result (IsReady H.semantics D.meaning seat.new.held.now.session) }
+    ensures grown { Grown D.meaning (desk_of seat.old.held.now.session)
+        (desk_of seat.new.held.now.session) }
+    ensures desk_spent { IfErr result
+        (λ e. SaysSpent D.meaning (desk_of seat.new.held.now.session) e) }
+    ensures flushed { StaysFlushed (O.taken seat.old.sink.now) (O.flushed seat.old.sink.now)
+        (O.taken seat.new.sink.now) (O.flushed seat.new.sink.now) (result_err result) }
     ensures faults { ended ≢ Ended.Failed → TellsFaults (I.faults source.old) (I.faults source.new)
-        (O.faults sink.old) (O.faults sink.new) (result_err result) }
+        (O.faults seat.old.sink.now) (O.faults seat.new.sink.now) (result_err result) }
     ensures failed { ended ≡ Ended.Failed → (result ≡ Err ServeError.ReadFault)
-        × (source.new ≡ source.old) × (sink.new ≡ sink.old) }
+        × (source.new ≡ source.old) × (seat.new ≡ seat.old) }
     ensures within { WithinReads reads 4096 (I.left source.old) (I.left source.new) None None
         (result_err result) }
     ensures left { IfErr result (λ e. e ≡ ServeError.ReadsSpent → LeavesReads ended) }
+    ensures same_sink { seat.new.sink.ghost_name ≡ seat.old.sink.ghost_name }
+    ensures same_held { seat.new.held.ghost_name ≡ seat.old.held.ghost_name }
+    ensures same_pick { seat.new.pick.ghost_name ≡ seat.old.pick.ghost_name }
 {
+    let held = &mut *seat.held;
     match ended {
-        Ended::End => serve_end(alloc, room, codec, sink, session, pick, rounds),
+        Ended::End => serve_end(
+            seat.alloc,
+            &mut held.room,
+            codec,
+            seat.sink,
+            &mut held.session,
+            seat.pick,
+            rounds,
+        ),
         Ended::Failed => Err(ServeError::ReadFault),
         Ended::Spent => Err(ServeError::ReadsSpent),
         Ended::NoMemory => Err(ServeError::NoMemory),
         Ended::Exit | Ended::Full => {
-            let mut ends = Ends { source, sink };
-            serve_from(alloc, &mut ends, codec, session, pick, reads, rounds)
+            let mut ends = Ends {
+                source,
+                sink: seat.sink,
+            };
+            serve_from(
+                seat.alloc,
+                &mut ends,
+                codec,
+                &mut held.session,
+                seat.pick,
+                reads,
+                rounds,
+            )
         }
     }
 }

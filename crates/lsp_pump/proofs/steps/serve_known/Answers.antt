@@ -1,6 +1,6 @@
 -- One piece more, an exit, an error, and no piece more.
 use Rattle.std.proofs.Common.{rules, ◌≡◌, List, [], ◌++◌, length, refl, sym, ◌∙◌, ap, append_assoc, subst, true, false}
-use Rattle.std.specs.Prelude.{Ok}
+use Rattle.std.specs.Prelude.{Ok, Err}
 use Rattle.std.proofs.lemmas.List.{append-nil}
 use Rattle.rtrb.specs.Ring.{known_items}
 use Rattle.lsp_session.specs.Item.{ItemData}
@@ -47,8 +47,11 @@ returns-in_err-serve_piece-clause-makes g c =
     let rest = all_items (known_items c.pop_known-piece.new.self) in
     let a = c.args.steps.now in
     let d = c.serve_piece.new.steps in
-    subst (λ (l : List ItemData). MakesSteps way c.args.rounds a l _ d) (split_on inv.made.0 (all_items (known_items c.args.pieces.now)) piece rest (all_items (known_items c.pieces.pieces)) (ap all_items c.pop_known-piece.ensures.received.1) inv.made.1)
-    (makes_failed way c.args.rounds a d (inv.made.0 ++ piece) rest _ (makes_more way c.args.rounds a c.pieces.steps d inv.made.0 piece _ inv.made.2 c.in_err-serve_piece.ensures.makes))
+    let e = c.in_err-serve_piece.field-0.0 in
+    let made : MakesSteps way c.args.rounds a (all_items (known_items c.args.pieces.now)) (Err e) d =
+    subst (λ (l : List ItemData). MakesSteps way c.args.rounds a l (Err e) d) (split_on inv.made.0 (all_items (known_items c.args.pieces.now)) piece rest (all_items (known_items c.pieces.pieces)) (ap all_items c.pop_known-piece.ensures.received.1) inv.made.1)
+    (makes_failed way c.args.rounds a d (inv.made.0 ++ piece) rest e (makes_more way c.args.rounds a c.pieces.steps d inv.made.0 piece (Err e) inv.made.2 c.in_err-serve_piece.ensures.makes)) in
+    search rules
 
 pub returns-then-branch-clause-makes : goal.returns-then-branch-clause-makes
 returns-then-branch-clause-makes g c =

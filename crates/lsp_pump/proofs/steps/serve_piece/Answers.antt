@@ -1,6 +1,6 @@
 -- One item more, an exit, and an error.
 use Rattle.std.proofs.Common.{rules, ◌≡◌, List, [], ◌∷◌, ◌++◌, map, refl, sym, ◌∙◌, ap, append_assoc, subst, true, false}
-use Rattle.std.specs.Prelude.{Ok}
+use Rattle.std.specs.Prelude.{Ok, Err}
 use Rattle.lsp_session.specs.Item.{ItemData, show_item}
 use Rattle.lsp_pump.specs.Pieces.{piece_items, ItemsAreFloatFree}
 use Rattle.lsp_pump.specs.Steps.{MakesSteps}
@@ -48,9 +48,12 @@ returns-in_err-make_step-clause-makes g c =
     let whole = split_on inv.made.0 (piece_items c.args.piece) x rest (map show_item c.items.rest.items) (ap (map show_item) c.in-Some.ensures.items) inv.made.1 in
     let a = c.args.steps.now in
     let b = c.make_step.new.self in
-    subst (λ (l : List ItemData). MakesSteps way c.args.rounds a l _ b) whole
-    (makes_failed way c.args.rounds a b (inv.made.0 ++ x ∷ []) rest _
-    (makes_more way c.args.rounds a c.items.steps b inv.made.0 (x ∷ []) _ inv.made.2 c.in_err-make_step.ensures.makes))
+    let e = c.in_err-make_step.field-0.0 in
+    let made : MakesSteps way c.args.rounds a (piece_items c.args.piece) (Err e) b =
+    subst (λ (l : List ItemData). MakesSteps way c.args.rounds a l (Err e) b) whole
+    (makes_failed way c.args.rounds a b (inv.made.0 ++ x ∷ []) rest e
+    (makes_more way c.args.rounds a c.items.steps b inv.made.0 (x ∷ []) (Err e) inv.made.2 c.in_err-make_step.ensures.makes)) in
+    search rules
 
 pub returns-then-branch-clause-makes : goal.returns-then-branch-clause-makes
 returns-then-branch-clause-makes g c =

@@ -1,6 +1,6 @@
 -- An exit, an error, and the piece that the ring did not take.
-use Rattle.std.proofs.Common.{◌≡◌, List, [], ◌++◌, sym, ap, subst, true, false, ◌∙◌}
-use Rattle.std.specs.Prelude.{Ok, Option}
+use Rattle.std.proofs.Common.{rules, ◌≡◌, List, [], ◌++◌, sym, ap, subst, true, false, ◌∙◌}
+use Rattle.std.specs.Prelude.{Ok, Err, Option}
 use Rattle.std.specs.Global.{Vec}
 use Rattle.std.proofs.lemmas.List.{append-nil}
 use Rattle.rtrb.specs.Ring.{known_items}
@@ -12,7 +12,12 @@ use Rattle.lsp_pump.proofs.StepsLemmas.{makes_more, makes_ended, makes_failed}
 use Rattle.lsp_pump.proofs.steps.serve_rest.Goals as goal
 
 pub returns-in_err-serve_known-clause-makes : goal.returns-in_err-serve_known-clause-makes
-returns-in_err-serve_known-clause-makes g c = makes_failed g.S.Steps.way c.args.rounds c.args.steps.now c.serve_known.new.steps (all_items (known_items c.args.pieces.now)) (back_items c.args.back) _ c.in_err-serve_known.ensures.makes
+returns-in_err-serve_known-clause-makes g c =
+    let e = c.in_err-serve_known.field-0.0 in
+    let all = all_items (known_items c.args.pieces.now) in
+    let made : MakesSteps g.S.Steps.way c.args.rounds c.args.steps.now (all ++ back_items c.args.back) (Err e) c.serve_known.new.steps =
+    makes_failed g.S.Steps.way c.args.rounds c.args.steps.now c.serve_known.new.steps all (back_items c.args.back) e c.in_err-serve_known.ensures.makes in
+    search rules
 
 pub returns-then-branch-clause-makes : goal.returns-then-branch-clause-makes
 returns-then-branch-clause-makes g c =

@@ -1,6 +1,6 @@
 -- What is made after what was made.
-use Rattle.std.proofs.Common.{◌≡◌, List, refl, sym, ◌∙◌, subst, true, false}
-use Rattle.std.specs.Prelude.{Ok}
+use Rattle.std.proofs.Common.{rules, ◌≡◌, List, refl, sym, ◌∙◌, subst, true, false}
+use Rattle.std.specs.Prelude.{Ok, Err}
 use Rattle.std.specs.Global.{Vec}
 use Rattle.rtrb.specs.Ring.{received}
 use Rattle.lsp_session.specs.declared.item.Item.{Item}
@@ -45,8 +45,11 @@ returns-in_err-serve_next-clause-makes g c =
     let a = c.args.steps.now in
     let d = c.serve_next.new.steps in
     let makes = c.in_err-serve_next.ensures.makes in
-    subst (λ (l : List ItemData). MakesSteps way c.args.rounds a l _ d) (sym makes.1)
-    (makes_more way c.args.rounds a c.loop.steps d (all_items (received c.loop.pieces)) makes.0 _ c.loop.invariant.made makes.2)
+    let e = c.in_err-serve_next.field-0.0 in
+    let made : MakesSteps way c.args.rounds a (all_items (received c.serve_next.new.pieces)) (Err e) d =
+    subst (λ (l : List ItemData). MakesSteps way c.args.rounds a l (Err e) d) (sym makes.1)
+    (makes_more way c.args.rounds a c.loop.steps d (all_items (received c.loop.pieces)) makes.0 (Err e) c.loop.invariant.made makes.2) in
+    search rules
 
 pub returns-then-branch-clause-makes : goal.returns-then-branch-clause-makes
 returns-then-branch-clause-makes g c =

@@ -17,7 +17,7 @@ returns-in-Ok-clause-makes g c =
     let m = g.D.Caller.meaning in
     let order : Order g.P.Pick.State = record { gives = g.P.Pick.gives; later = g.P.Pick.later } in
     let seat = c.args.self.now in
-    let a = standing sem m seat.session.now (g.P.Pick.state seat.pick.now) (g.O.Sink.taken seat.sink.now) in
+    let a = standing sem m seat.held.now.session (g.P.Pick.state seat.pick.now) (g.O.Sink.taken seat.sink.now) in
     let d = standing sem m c.serve_item.new.session (g.P.Pick.state c.serve_item.new.pick) (g.O.Sink.taken c.serve_item.new.sink) in
     let x = show_item c.args.item in
     let ran = rw c.in-Ok.is at c.serve_item.ensures.ok in
@@ -40,7 +40,7 @@ returns-in-Err-clause-makes g c =
     let sem = g.H.Handlers.semantics in
     let m = g.D.Caller.meaning in
     let seat = c.args.self.now in
-    let a = standing sem m seat.session.now (g.P.Pick.state seat.pick.now) (g.O.Sink.taken seat.sink.now) in
+    let a = standing sem m seat.held.now.session (g.P.Pick.state seat.pick.now) (g.O.Sink.taken seat.sink.now) in
     let x = show_item c.args.item in
     let sink = rw c.in-Err.is at c.serve_item.ensures.sink in
     record {
