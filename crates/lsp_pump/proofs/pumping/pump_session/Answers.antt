@@ -1,6 +1,6 @@
 -- A reading, the steps beside it, and what is served after it.
 use Rattle.std.proofs.Common.{rules, ◌≡◌, inl, inr, ℕ, List, [], ◌++◌, refl, sym, ◌∙◌, ap, subst, true, false}
-use Rattle.std.specs.Prelude.{◌⊎◌, Some, None, IfSome, Ok, Err}
+use Rattle.std.specs.Prelude.{◌⊎◌, Some, None, IfSome}
 use Rattle.std.specs.Result.{result_err}
 use Rattle.lsp_frame.specs.Codec.{told_at}
 use Rattle.lsp_session.specs.Run.{Order, Step}
@@ -14,7 +14,7 @@ use Rattle.lsp_server.proofs.PointLemmas.{find_at}
 use Rattle.lsp_server.proofs.RanLemmas.{grown_none}
 use Rattle.lsp_server.proofs.TakingLemmas.{flushed_then}
 use Rattle.lsp_pump.specs.declared.job.Ended.TheVariants.{Full}
-use Rattle.lsp_pump.specs.Steps.{StepsMade, StepsBegun, MakesSteps}
+use Rattle.lsp_pump.specs.Steps.{StepsMade}
 use Rattle.lsp_pump.proofs.ReadingLemmas.{tells_none, counts_none, ended_now}
 use Rattle.lsp_pump.proofs.StepsLemmas.{steps_none, made_begun}
 use Rattle.lsp_pump.proofs.SessionLemmas.{table_after}

@@ -1,5 +1,5 @@
 -- An exit, an error, and the piece that the ring did not take.
-use Rattle.std.proofs.Common.{rules, ◌≡◌, List, [], ◌++◌, sym, ap, subst, true, false, ◌∙◌}
+use Rattle.std.proofs.Common.{rules, List, ◌++◌, sym, ap, subst, false, ◌∙◌}
 use Rattle.std.specs.Prelude.{Ok, Err, Option}
 use Rattle.std.specs.Global.{Vec}
 use Rattle.std.proofs.lemmas.List.{append-nil}

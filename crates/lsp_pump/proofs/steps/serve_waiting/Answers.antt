@@ -1,5 +1,5 @@
 -- What is made after what was made.
-use Rattle.std.proofs.Common.{rules, ◌≡◌, List, refl, sym, ◌∙◌, subst, true, false}
+use Rattle.std.proofs.Common.{rules, List, refl, sym, ◌∙◌, subst, true, false}
 use Rattle.std.specs.Prelude.{Ok, Err}
 use Rattle.std.specs.Global.{Vec}
 use Rattle.rtrb.specs.Ring.{received}

@@ -2,7 +2,7 @@
 use Rattle.std.proofs.Common.{rules, ◌≡◌, ◌∷◌, []}
 use Rattle.std.specs.Prelude.{is_some}
 use Rattle.lsp_session.specs.Item.{show_item}
-use Rattle.lsp_session.specs.Run.{Order, Step}
+use Rattle.lsp_session.specs.Run.{Order}
 use Rattle.lsp_session.specs.SessionView.{session_view}
 use Rattle.lsp_server.specs.ServerView.{standing}
 use Rattle.lsp_server.proofs.PointLemmas.{find_at}
