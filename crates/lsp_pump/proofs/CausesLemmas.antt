@@ -1,12 +1,12 @@
 -- Faults and reads of a reading, and of what is served after it.
-use Rattle.std.proofs.Common.{◌≡◌, ◌≢◌, inl, ◌≤◌, ◌+◌, ◌-◌, ◌*◌, ℕ, List, length, refl, sym, ◌∙◌, ap, subst, arith, Bool, true}
+use Rattle.std.proofs.Common.{◌≡◌, ◌≢◌, inl, inr, ◌≤◌, ◌<◌, ◌+◌, ◌-◌, ◌*◌, ℕ, List, length, refl, sym, ◌∙◌, ap, subst, arith, Bool, true}
 use Rattle.std.specs.Prelude.{◌⊎◌, Option, Some, None, IfSome, IfNone}
 use Rattle.std.specs.Io.KnownBytes.{Consumes}
 use Rattle.std.proofs.lemmas.List.{length-append}
 use Rattle.lsp_server.specs.declared.step.ServeError.{ServeError}
-use Rattle.lsp_server.specs.declared.step.ServeError.TheVariants.{ReadFault, WriteFault, ReadsSpent}
-use Rattle.lsp_server.specs.Errors.{IsInStep}
-use Rattle.lsp_server.specs.Leaves.{TellsFaults, WithinReads}
+use Rattle.lsp_server.specs.declared.step.ServeError.TheVariants.{ReadFault, WriteFault, ReadsSpent, DeskSpent, NoMemory as OutOfMemory}
+use Rattle.lsp_server.specs.Errors.{IsInStep, LeavesSink}
+use Rattle.lsp_server.specs.Leaves.{LeavesFaults, TellsFaults, WithinReads}
 use Rattle.lsp_server.specs.SourceSink.{CountRose}
 use Rattle.lsp_pump.specs.declared.job.Ended.{Ended}
 use Rattle.lsp_pump.specs.declared.job.Ended.TheVariants.{Exit, End, Failed, Spent, NoMemory, Full}
@@ -48,6 +48,35 @@ module _ (r0 r1 r2 w0 w1 w2 : ℕ) (exits : Bool) (e : Option ServeError) (kept 
   pump_faults Spent rose same counts others p = unfailed (same (λ is. cc)) (others (λ is. cc))
   pump_faults NoMemory rose same counts others p = unfailed (same (λ is. cc)) (others (λ is. cc))
   pump_faults Full rose same counts others p = unfailed (same (λ is. cc)) (others (λ is. cc))
+
+-- where nothing is served after the steps beside the reading
+module _ {X B : Type 0} (faults_of : X → ℕ) (beside_of : X → B) (old new : X) (r0 r1 : ℕ) (exits : Bool) (counts : r0 ≤ r1) where
+  pub exit_faults : exits ≡ true → LeavesFaults faults_of beside_of old new None → TellsPumpFaults r0 r1 (faults_of old) (faults_of new) exits None
+  exit_faults is p = record {
+    read = tt;
+    write = tt;
+    counts = (counts, p.count);
+    read_told = λ _. tt;
+    at_end = λ _. is;
+    write_told = λ rose. absurd (omega (arith, p.unfailed, rose));
+  }
+
+  pub step_faults : (e : ServeError) → IsInStep e → LeavesFaults faults_of beside_of old new (Some e) → TellsPumpFaults r0 r1 (faults_of old) (faults_of new) exits (Some e)
+  step_faults e at p = record {
+    read = λ is. absurd (subst IsInStep is at);
+    write = p.write;
+    counts = (counts, p.count);
+    read_told = λ _. inr at;
+    at_end = λ _. tt;
+    write_told = told e at p.left;
+  }
+    where
+      told : (e : ServeError) → IsInStep e → (LeavesSink e → faults_of new ≡ faults_of old) → faults_of old < faults_of new → Some e ≡ Some WriteFault
+      told ReadFault at left rose = absurd at
+      told WriteFault at left rose = refl
+      told ReadsSpent at left rose = absurd at
+      told (DeskSpent n) at left rose = absurd (omega (arith, left tt, rose))
+      told OutOfMemory at left rose = absurd (omega (arith, left tt, rose))
 
 -- ---- reads
 

@@ -55,6 +55,15 @@ module _ (find : List ℕ → Option Entry) where
       at true h more = refl
       at false h more = ap (λ l. x ∷ l) (more h)
 
+  -- a tick is no exit
+  pub through_tick : (xs : List ItemData) → unticked (through_exit find (xs ++ tick ∷ [])) ≡ unticked (through_exit find xs)
+  through_tick [] = refl
+  through_tick (x ∷ xs) = at (is_exit find x) (through_tick xs)
+    where
+      at : (b : Bool) → unticked (through_exit find (xs ++ tick ∷ [])) ≡ unticked (through_exit find xs) → unticked (if b then x ∷ [] else x ∷ through_exit find (xs ++ tick ∷ [])) ≡ unticked (if b then x ∷ [] else x ∷ through_exit find xs)
+      at true more = refl
+      at false more = unticked_cons x (through_exit find (xs ++ tick ∷ [])) (through_exit find xs) more
+
   pub through_one : (x : ItemData) → through_exit find (x ∷ []) ≡ x ∷ []
   through_one x = at (is_exit find x)
     where

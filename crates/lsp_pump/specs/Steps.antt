@@ -1,8 +1,9 @@
 -- The steps of items, with ticks between them.
-use Rattle.std.specs.Prelude.{◌≡◌, ◌≢◌, Bool, true, false, ℕ, List, Option, None, is_some, Result, Ok, Err}
+use Rattle.std.specs.Prelude.{◌≡◌, ◌≢◌, Bool, true, false, ℕ, List, Option, None, is_some, Result, Ok, Err, IfOk, IfErr}
+use Rattle.std.specs.Result.{result_err}
 use Rattle.lsp_desk.specs.declared.desk.Caller.{Ghosts as CallerGhosts}
 use Rattle.lsp_desk.specs.declared.life.Life.TheVariants.{Exited}
-use Rattle.lsp_desk.specs.Meaning.{Meaning}
+use Rattle.lsp_desk.specs.Meaning.{Meaning, Grown}
 use Rattle.lsp_session.specs.declared.handlers.Handlers.{Ghosts as HandlersGhosts}
 use Rattle.lsp_session.specs.declared.session.Session.{Session}
 use Rattle.lsp_session.specs.declared.table.Entry.{Entry}
@@ -13,6 +14,7 @@ use Rattle.lsp_session.specs.SessionView.{session_view, life_of}
 use Rattle.lsp_session.specs.State.{Effect}
 use Rattle.lsp_server.specs.declared.step.ServeError.{ServeError}
 use Rattle.lsp_server.specs.Errors.{IsInStep, SaysSpent}
+use Rattle.lsp_server.specs.Leaves.{LeavesFaults, StaysFlushed}
 use Rattle.lsp_server.specs.ServerView.{IsReady}
 use Rattle.lsp_server.specs.Written.{Place, Ran, RanPart}
 use Rattle.lsp_pump.specs.Spaced.{unticked, through_exit}
@@ -51,3 +53,28 @@ StandsAfter semantics m session false = MayGoOn semantics m session
 pub record FailsInStep {D : Type 0} (m : Meaning D) (desk : D) (error : ServeError) : Type 0 where
   pub in_step : IsInStep error
   pub spent : SaysSpent m desk error
+
+-- how steps are made, and what is seen of what makes them: X makes them, S are the states of its session, D the desks
+pub record Way (X S D B : Type 0) : Type 1 where
+  -- by how many rounds each step makes
+  pub step : ℕ → S → ItemData → Effect → S → Type 0
+  pub meaning : Meaning D
+  -- the method table of a state
+  pub table : S → List ℕ → Option Entry
+  pub place : X → Place S D
+  pub flushed : X → Option ℕ
+  pub faults : X → ℕ
+  pub beside : X → B
+  -- where it stands after steps, by whether an exit was among them
+  pub stands : X → Bool → Type 0
+
+module _ {X S D B : Type 0} (way : Way X S D B) (rounds : ℕ) where
+  -- the steps of these items were made, and this was answered
+  pub record MakesSteps (old : X) (items : List ItemData) (result : Result Bool ServeError) (new : X) : Type 0 where
+    pub answered : StepsAnswered (way.step rounds) way.meaning (way.table (way.place old).state) (way.place old) items result (way.place new)
+    pub same : IfOk result (λ _. (name : List ℕ) → way.table (way.place new).state name ≡ way.table (way.place old).state name)
+    pub stands : IfOk result (way.stands new)
+    pub fails : IfErr result (FailsInStep way.meaning (way.place new).desk)
+    pub grown : Grown way.meaning (way.place old).desk (way.place new).desk
+    pub flushed : StaysFlushed (way.place old).taken (way.flushed old) (way.place new).taken (way.flushed new) (result_err result)
+    pub sink : LeavesFaults way.faults way.beside old new (result_err result)

@@ -1,18 +1,18 @@
 //! A session that is served while a thread of its own reads.
-ghost use Rattle.std.specs.Prelude.{◌≡◌, ◌≤◌, [], None, is_some, IfOk, IfErr, IfSome, OnOk, OnErr};
+ghost use Rattle.std.specs.Prelude.{◌≡◌, ◌≤◌, [], ℕ, false, None, is_some, IfOk, IfErr, IfSome, OnOk};
 ghost use Rattle.std.specs.Result.{result_err};
 ghost use Rattle.rtrb.specs.Ring.{sent, received, IsPair, SameConsumer};
 ghost use Rattle.lsp_desk.specs.Meaning.{IsOpening, Grown};
 ghost use Rattle.lsp_frame.specs.Codec.{told_at};
-ghost use Rattle.lsp_session.specs.Run.{Step, order_by};
+ghost use Rattle.lsp_session.specs.Run.{order_by};
 ghost use Rattle.lsp_session.specs.SessionView.{session_view, desk_of};
 ghost use Rattle.lsp_server.specs.Course.{course, course_from, picked};
 ghost use Rattle.lsp_server.specs.Errors.{SaysSpent};
-ghost use Rattle.lsp_server.specs.Leaves.{LeavesFaults, StaysFlushed, WithinReads};
+ghost use Rattle.lsp_server.specs.Leaves.{StaysFlushed, WithinReads};
 ghost use Rattle.lsp_server.specs.Served.{call_bytes};
-ghost use Rattle.lsp_server.specs.ServerView.{standing, IsReady, server_desk, setting};
+ghost use Rattle.lsp_server.specs.ServerView.{IsReady, server_desk, setting};
 ghost use Rattle.lsp_pump.specs.Pieces.{all_items};
-ghost use Rattle.lsp_pump.specs.Steps.{StepsMade, StepsBegun, StepsAnswered, MayGoOn, StandsAfter, FailsInStep};
+ghost use Rattle.lsp_pump.specs.Steps.{MakesSteps, MayGoOn};
 ghost use Rattle.lsp_pump.specs.Reading.{EndsBy, ReadAndServed, IsReadingOf};
 ghost use Rattle.lsp_pump.specs.Pumped.{PumpsOver, TellsPumpFaults};
 ghost use Rattle.lsp_pump.specs.PumpsSession.{PumpsSession};
@@ -20,7 +20,7 @@ ghost use Rattle.lsp_pump.specs.PumpsSession.{PumpsSession};
 use crate::job::{Ended, ReadEnd, Reading, read_job};
 use crate::pieces::{FloatFree, Pieces, Sender};
 use crate::signal::Signal;
-use crate::steps::{finish, serve_rest, serve_waiting};
+use crate::steps::{Held, Seat, Steps, finish, serve_rest, serve_waiting};
 use bytes::BytesMut;
 use lsp_desk::{Desk, Loopback};
 use lsp_frame::{CodecSettings, LanguageServerCodec};
@@ -116,61 +116,39 @@ struct Rest<I> {
 
 // Serves all that a reading gives, which goes on beside it, through the first exit. It says whether
 // there was one.
-fn serve_beside<
-    R: Threads + Wait,
-    I: Source + Send + Drop + 'static,
-    O: Sink,
-    D: Desk + Drop,
-    H: Handlers<D>,
-    P: Pick,
->(
+fn serve_beside<R: Threads + Wait, I: Source + Send + Drop + 'static, S: Steps>(
     rt: &R,
     alloc: Global,
     reading: Reading<I>,
     lines: Lines,
-    sink: &mut O,
-    session: &mut Session<H, D>,
-    pick: &mut P,
+    steps: &mut S,
     reads: u64,
     rounds: u64,
 ) -> (Rest<I>, Result<bool, ServeError>)
-    requires going { MayGoOn H.semantics D.meaning session.old }
+    requires going { S.way.stands steps.old false }
     requires told { told_at reading.codec ≡ [] }
     requires fresh { sent reading.sender ≡ [] }
     requires pair { (received lines.pieces ≡ []) × IsPair reading.sender lines.pieces }
     ensures serves { ReadAndServed reading.codec (I.left reading.source) (I.left result.0.source)
         result.0.made result.0.codec result.0.ended
-        (λ given. StepsAnswered (Step H.semantics (order_by P.gives P.later) rounds) D.meaning
-        (H.semantics.find (session_view H.semantics D.meaning session.old).state.service)
-        (standing H.semantics D.meaning session.old (P.state pick.old) (O.taken sink.old))
-        given result.1
-        (standing H.semantics D.meaning session.new (P.state pick.new) (O.taken sink.new))) }
+        (λ given. MakesSteps S.way rounds steps.old given result.1 steps.new) }
     ensures ends { EndsBy (I.left reading.source) (I.left result.0.source)
         (I.faults reading.source) (I.faults result.0.source) reads result.0.made result.0.ended }
-    ensures stands { IfOk result.1 (StandsAfter H.semantics D.meaning session.new) }
-    ensures fails { IfErr result.1 (FailsInStep D.meaning (desk_of session.new)) }
-    ensures grown { Grown D.meaning (desk_of session.old) (desk_of session.new) }
-    ensures flushed { StaysFlushed (O.taken sink.old) (O.flushed sink.old)
-        (O.taken sink.new) (O.flushed sink.new) (result_err result.1) }
-    ensures sink { LeavesFaults O.faults O.beside sink.old sink.new (result_err result.1) }
+    ensures tied { S.tied steps.new ≡ S.tied steps.old }
 {
     let Lines {
         mut pieces,
         theirs,
         ours,
     } = lines;
-    let mut room = BytesMut::new(alloc);
     let (end, served) = serve_started(
         rt,
         alloc,
-        &mut room,
         reading,
         theirs,
         &ours,
         &mut pieces,
-        sink,
-        session,
-        pick,
+        steps,
         reads,
         rounds,
     );
@@ -191,16 +169,7 @@ fn serve_beside<
     };
     match served {
         Ok(false) => {
-            let served = serve_rest(
-                alloc,
-                &mut room,
-                sink,
-                session,
-                &mut pieces,
-                back,
-                pick,
-                rounds,
-            );
+            let served = serve_rest(steps, &mut pieces, back, rounds);
             (rest, served)
         }
         Ok(true) => (rest, Ok(true)),
@@ -210,53 +179,29 @@ fn serve_beside<
 
 // Starts the reading, and serves what comes of it until it ends, a step fails or there was an exit.
 // Then the reading is waited for.
-fn serve_started<
-    R: Threads + Wait,
-    I: Source + Send + Drop + 'static,
-    O: Sink,
-    D: Desk + Drop,
-    H: Handlers<D>,
-    P: Pick,
->(
+fn serve_started<R: Threads + Wait, I: Source + Send + Drop + 'static, S: Steps>(
     rt: &R,
     alloc: Global,
-    room: &mut BytesMut,
     reading: Reading<I>,
     theirs: Arc<Signal, Global>,
     ours: &Signal,
     pieces: &mut Pieces,
-    sink: &mut O,
-    session: &mut Session<H, D>,
-    pick: &mut P,
+    steps: &mut S,
     reads: u64,
     rounds: u64,
 ) -> (ReadEnd<I>, Result<bool, ServeError>)
-    requires going { MayGoOn H.semantics D.meaning session.old }
+    requires going { S.way.stands steps.old false }
     requires told { told_at reading.codec ≡ [] }
     requires fresh { (sent reading.sender ≡ []) × (received pieces.old ≡ []) }
     ensures reading { IsReadingOf I.left I.faults reading reads result.0 }
-    ensures made { IfOk result.1
-        (λ exits. StepsMade (Step H.semantics (order_by P.gives P.later) rounds) D.meaning
-        (H.semantics.find (session_view H.semantics D.meaning session.old).state.service)
-        (standing H.semantics D.meaning session.old (P.state pick.old) (O.taken sink.old))
-        (all_items (received pieces.new)) exits
-        (standing H.semantics D.meaning session.new (P.state pick.new) (O.taken sink.new))) }
-    ensures begun { OnErr result.1
-        (StepsBegun (Step H.semantics (order_by P.gives P.later) rounds) D.meaning
-        (H.semantics.find (session_view H.semantics D.meaning session.old).state.service)
-        (standing H.semantics D.meaning session.old (P.state pick.old) (O.taken sink.old))
-        (all_items (received pieces.new)) (desk_of session.new) (O.taken sink.new)) }
+    ensures makes { MakesSteps S.way rounds steps.old (all_items (received pieces.new)) result.1
+        steps.new }
     ensures ring { SameConsumer pieces.old pieces.new }
-    ensures stands { IfOk result.1 (StandsAfter H.semantics D.meaning session.new) }
-    ensures fails { IfErr result.1 (FailsInStep D.meaning (desk_of session.new)) }
-    ensures grown { Grown D.meaning (desk_of session.old) (desk_of session.new) }
-    ensures flushed { StaysFlushed (O.taken sink.old) (O.flushed sink.old)
-        (O.taken sink.new) (O.flushed sink.new) (result_err result.1) }
-    ensures sink { LeavesFaults O.faults O.beside sink.old sink.new (result_err result.1) }
+    ensures tied { S.tied steps.new ≡ S.tied steps.old }
 {
     match start(rt, alloc, reading, reads, theirs, ours) {
         Ok(handle) => {
-            let served = serve_waiting(rt, alloc, room, sink, session, pieces, ours, pick, rounds);
+            let served = serve_waiting(rt, steps, pieces, ours, rounds);
             (handle.join(rt), served)
         }
         Err(end) => (end, Ok(false)),
@@ -265,6 +210,9 @@ fn serve_started<
 
 // Serves a session from where it stands, while a thread of its own reads on from a codec.
 fn pump_session<
+    'a,
+    'b,
+    'c,
     R: Threads + Wait,
     I: Source + Send + Drop + 'static,
     O: Sink,
@@ -273,36 +221,40 @@ fn pump_session<
     P: Pick,
 >(
     rt: &R,
-    alloc: Global,
     source: I,
     codec: LanguageServerCodec,
-    sink: &mut O,
-    session: &mut Session<H, D>,
-    pick: &mut P,
+    seat: &mut Seat<'a, 'b, 'c, O, Session<H, D>, P>,
     reads: u64,
     rounds: u64,
 ) -> (I, Result<(), ServeError>)
-    requires going { MayGoOn H.semantics D.meaning session.old }
+    requires going { MayGoOn H.semantics D.meaning seat.old.held.now.session }
     requires told { told_at codec ≡ [] }
     ensures pumps { IfSome (I.left source) (λ bytes. PumpsOver
         (course_from H.semantics D.meaning (order_by P.gives P.later) rounds codec.settings
-        (session_view H.semantics D.meaning session.old) (P.state pick.old)) codec
-        (call_bytes bytes (I.left result.0) (O.taken sink.old) (O.taken sink.new))
-        (picked (session_view H.semantics D.meaning session.new) (P.state pick.new))
-        (desk_of session.new) (result_err result.1)) }
-    ensures ready { OnOk result.1 (IsReady H.semantics D.meaning session.new) }
-    ensures grown { Grown D.meaning (desk_of session.old) (desk_of session.new) }
-    ensures desk_spent { IfErr result.1 (λ e. SaysSpent D.meaning (desk_of session.new) e) }
-    ensures flushed { StaysFlushed (O.taken sink.old) (O.flushed sink.old)
-        (O.taken sink.new) (O.flushed sink.new) (result_err result.1) }
+        (session_view H.semantics D.meaning seat.old.held.now.session) (P.state seat.old.pick.now))
+        codec
+        (call_bytes bytes (I.left result.0) (O.taken seat.old.sink.now) (O.taken seat.new.sink.now))
+        (picked (session_view H.semantics D.meaning seat.new.held.now.session)
+        (P.state seat.new.pick.now))
+        (desk_of seat.new.held.now.session) (result_err result.1)) }
+    ensures ready { OnOk result.1 (IsReady H.semantics D.meaning seat.new.held.now.session) }
+    ensures grown { Grown D.meaning (desk_of seat.old.held.now.session)
+        (desk_of seat.new.held.now.session) }
+    ensures desk_spent { IfErr result.1
+        (λ e. SaysSpent D.meaning (desk_of seat.new.held.now.session) e) }
+    ensures flushed { StaysFlushed (O.taken seat.old.sink.now) (O.flushed seat.old.sink.now)
+        (O.taken seat.new.sink.now) (O.flushed seat.new.sink.now) (result_err result.1) }
     ensures faults { TellsPumpFaults (I.faults source) (I.faults result.0)
-        (O.faults sink.old) (O.faults sink.new)
-        (is_some (session_view H.semantics D.meaning session.new).state.exited)
+        (O.faults seat.old.sink.now) (O.faults seat.new.sink.now)
+        (is_some (session_view H.semantics D.meaning seat.new.held.now.session).state.exited)
         (result_err result.1) }
     ensures within { WithinReads reads 4096 (I.left source) (I.left result.0) None None
         (result_err result.1) }
+    ensures same_sink { seat.new.sink.ghost_name ≡ seat.old.sink.ghost_name }
+    ensures same_held { seat.new.held.ghost_name ≡ seat.old.held.ghost_name }
+    ensures same_pick { seat.new.pick.ghost_name ≡ seat.old.pick.ghost_name }
 {
-    let Ok((sender, lines)) = make_lines(alloc) else {
+    let Ok((sender, lines)) = make_lines(seat.alloc) else {
         return (source, Err(ServeError::NoMemory));
     };
     let reading = Reading {
@@ -310,9 +262,7 @@ fn pump_session<
         codec,
         sender,
     };
-    let (rest, served) = serve_beside(
-        rt, alloc, reading, lines, sink, session, pick, reads, rounds,
-    );
+    let (rest, served) = serve_beside(rt, seat.alloc, reading, lines, seat, reads, rounds);
     let Rest {
         mut source,
         mut codec,
@@ -322,19 +272,7 @@ fn pump_session<
     match served {
         Ok(false) => {
             let left = reads - made;
-            let mut room = BytesMut::new(alloc);
-            let finished = finish(
-                alloc,
-                &mut room,
-                &mut source,
-                &mut codec,
-                sink,
-                session,
-                pick,
-                ended,
-                left,
-                rounds,
-            );
+            let finished = finish(seat, &mut source, &mut codec, ended, left, rounds);
             (source, finished)
         }
         Ok(true) => (source, Ok(())),
@@ -393,18 +331,18 @@ pub fn pump<
     let floats = settings.floats;
     let codec = LanguageServerCodec::with_settings(alloc, CodecSettings { limits, floats });
     let desk = socket.into_desk();
-    let mut session = open(alloc, service, desk, max, wait, empty_params);
-    let (source, pumped) = pump_session(
-        rt,
+    let mut held = Held {
+        session: open(alloc, service, desk, max, wait, empty_params),
+        room: BytesMut::new(alloc),
+    };
+    let mut seat = Seat {
         alloc,
-        source,
-        codec,
         sink,
-        &mut session,
+        held: &mut held,
         pick,
-        reads,
-        rounds,
-    );
+    };
+    let (source, pumped) = pump_session(rt, source, codec, &mut seat, reads, rounds);
+    let Held { session, room: _ } = held;
     match pumped {
         Ok(()) => (source, hand_back(session)),
         Err(error) => (source, Err(stop(session, error))),

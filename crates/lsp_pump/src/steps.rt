@@ -1,11 +1,13 @@
 // The steps of a session beside a reading thread.
-ghost use Rattle.std.specs.Prelude.{◌≡◌, ◌≢◌, ◌++◌, [], Some, None, Err, IfOk, IfErr, IfSome, OnOk, OnErr};
+ghost use Rattle.std.specs.Prelude.{◌≡◌, ◌≢◌, ◌++◌, [], ◌∷◌, ℕ, List, Some, None, false, Err, IfErr, IfSome, OnOk};
 ghost use Rattle.std.specs.Result.{result_err};
 ghost use Rattle.rtrb.specs.Ring.{received, known_items, SameConsumer};
 ghost use Rattle.lsp_desk.specs.Meaning.{Grown};
 ghost use Rattle.lsp_frame.specs.Codec.{told_at};
-ghost use Rattle.lsp_session.specs.Run.{Step, order_by};
+ghost use Rattle.lsp_session.specs.Item.{ItemData, show_item, item_has_float};
+ghost use Rattle.lsp_session.specs.Run.{Step, Picked, order_by};
 ghost use Rattle.lsp_session.specs.SessionView.{session_view, desk_of};
+ghost use Rattle.lsp_session.specs.State.{State};
 ghost use Rattle.lsp_server.specs.Course.{course_from, picked};
 ghost use Rattle.lsp_server.specs.Errors.{SaysSpent};
 ghost use Rattle.lsp_server.specs.Leaves.{LeavesFaults, StaysFlushed, TellsFaults, WithinReads};
@@ -13,7 +15,7 @@ ghost use Rattle.lsp_server.specs.Served.{call_bytes};
 ghost use Rattle.lsp_server.specs.ServesOn.{ServesOn};
 ghost use Rattle.lsp_server.specs.ServerView.{standing, IsReady};
 ghost use Rattle.lsp_pump.specs.Pieces.{piece_items, all_items, back_items, ItemsAreFloatFree};
-ghost use Rattle.lsp_pump.specs.Steps.{StepsMade, StepsBegun, MayGoOn, StandsAfter, FailsInStep};
+ghost use Rattle.lsp_pump.specs.Steps.{Way, MakesSteps, MayGoOn, StandsAfter, FailsInStep};
 ghost use Rattle.lsp_pump.specs.Reading.{KeepsAllBytes, LeavesReads};
 
 use crate::job::Ended;
@@ -29,94 +31,172 @@ use std::alloc::Global;
 use std::collections::VecDeque;
 use std::sync::Wait;
 
-/// Makes the steps of the items of a piece, through the first exit, and says whether there was one.
-pub(crate) fn serve_piece<O: Sink, D: Desk + Drop, H: Handlers<D>, P: Pick>(
-    alloc: Global,
-    room: &mut BytesMut,
-    sink: &mut O,
-    session: &mut Session<H, D>,
-    piece: Vec<Item>,
-    pick: &mut P,
-    rounds: u64,
-) -> Result<bool, ServeError>
-    requires going { MayGoOn H.semantics D.meaning session.old }
+/// What makes the steps of a session, one item at a time.
+pub(crate) trait Steps {
+    /// The states of its session, and the desks.
+    ghost States: { Type 0 };
+
+    ghost Desks: { Type 0 };
+
+    /// What no step changes of its sink.
+    ghost Beside: { Type 0 };
+
+    ghost way: { Way Self States Desks Beside };
+
+    /// What no call changes.
+    ghost Tied: { Type 0 };
+
+    ghost tied: { Self → Tied };
+
+    /// Makes the step of an item, and says whether it was an exit.
+    fn make_step(&mut self, item: Item, rounds: u64) -> Result<bool, ServeError>
+        requires going { way.stands self.old false }
+        requires float_free { item_has_float (show_item item) ≡ false }
+        ensures makes { MakesSteps way rounds self.old (show_item item ∷ []) result self.new }
+        ensures tied { tied self.new ≡ tied self.old };
+}
+
+/// A session with the room that the frames of its steps take.
+#[derive(Drop)]
+pub(crate) struct Held<S> {
+    pub(crate) session: S,
+    pub(crate) room: BytesMut,
+}
+
+/// A session with what it is served by.
+#[derive(Drop)]
+pub(crate) struct Seat<'a, 'b, 'c, O, S, P> {
+    pub(crate) alloc: Global,
+    pub(crate) sink: &'a mut O,
+    pub(crate) held: &'b mut Held<S>,
+    pub(crate) pick: &'c mut P,
+}
+
+impl<'a, 'b, 'c, O: Sink, D: Desk + Drop, H: Handlers<D>, P: Pick> Steps
+    for Seat<'a, 'b, 'c, O, Session<H, D>, P> {
+    ghost States = { Picked (State H H.semantics.Call H.semantics.Task) P.State };
+
+    ghost Desks = { D };
+
+    ghost Beside = { O.Beside };
+
+    ghost way = { record {
+      step = λ n. Step H.semantics (order_by P.gives P.later) n;
+      meaning = D.meaning;
+      table = λ state. H.semantics.find state.session.service;
+      place = λ s. standing H.semantics D.meaning s.held.now.session (P.state s.pick.now)
+          (O.taken s.sink.now);
+      flushed = λ s. O.flushed s.sink.now;
+      faults = λ s. O.faults s.sink.now;
+      beside = λ s. O.beside s.sink.now;
+      stands = λ s. StandsAfter H.semantics D.meaning s.held.now.session;
+    } };
+
+    // Which sink, session and pick they are.
+    ghost Tied = { (ℕ × ℕ) × ℕ };
+
+    ghost tied = { λ s. ((s.sink.ghost_name, s.held.ghost_name), s.pick.ghost_name) };
+
+    fn make_step(&mut self, item: Item, rounds: u64) -> Result<bool, ServeError> {
+        let held = &mut *self.held;
+        match serve_item(
+            self.alloc,
+            &mut held.room,
+            self.sink,
+            &mut held.session,
+            item,
+            self.pick,
+            rounds,
+        ) {
+            Ok(()) => Ok(held.session.exited().is_some()),
+            Err(error) => Err(error),
+        }
+    }
+}
+
+// Makes the steps of the items of a piece, through the first exit, and says whether there was one.
+fn serve_piece<S: Steps>(steps: &mut S, piece: Vec<Item>, rounds: u64) -> Result<bool, ServeError>
+    requires going { S.way.stands steps.old false }
     requires float_free { ItemsAreFloatFree (piece_items piece) }
-    ensures made { IfOk result
-        (λ exits. StepsMade (Step H.semantics (order_by P.gives P.later) rounds) D.meaning
-        (H.semantics.find (session_view H.semantics D.meaning session.old).state.service)
-        (standing H.semantics D.meaning session.old (P.state pick.old) (O.taken sink.old))
-        (piece_items piece) exits
-        (standing H.semantics D.meaning session.new (P.state pick.new) (O.taken sink.new))) }
-    ensures begun { OnErr result
-        (StepsBegun (Step H.semantics (order_by P.gives P.later) rounds) D.meaning
-        (H.semantics.find (session_view H.semantics D.meaning session.old).state.service)
-        (standing H.semantics D.meaning session.old (P.state pick.old) (O.taken sink.old))
-        (piece_items piece) (desk_of session.new) (O.taken sink.new)) }
-    ensures stands { IfOk result (StandsAfter H.semantics D.meaning session.new) }
-    ensures fails { IfErr result (FailsInStep D.meaning (desk_of session.new)) }
-    ensures grown { Grown D.meaning (desk_of session.old) (desk_of session.new) }
-    ensures flushed { StaysFlushed (O.taken sink.old) (O.flushed sink.old)
-        (O.taken sink.new) (O.flushed sink.new) (result_err result) }
-    ensures sink { LeavesFaults O.faults O.beside sink.old sink.new (result_err result) }
+    ensures makes { MakesSteps S.way rounds steps.old (piece_items piece) result steps.new }
+    ensures tied { S.tied steps.new ≡ S.tied steps.old }
 {
     let mut rest = VecDeque::from_vec(piece);
     'items: while let Some(item) = rest.pop_front() {
-        serve_item(alloc, room, sink, session, item, pick, rounds)?;
-        if session.exited().is_some() {
+        if steps.make_step(item, rounds)? {
             return Ok(true);
         }
     }
     Ok(false)
 }
 
-/// Makes the steps of the items of each piece that comes, and of a tick where none has, until
-/// reading has ended or there was an exit. It says whether there was one.
-pub(crate) fn serve_waiting<R: Wait, O: Sink, D: Desk + Drop, H: Handlers<D>, P: Pick>(
+// Makes a tick, and then waits for a piece, or a short time; unless reading has ended.
+fn serve_tick<R: Wait, S: Steps>(
     rt: &R,
-    alloc: Global,
-    room: &mut BytesMut,
-    sink: &mut O,
-    session: &mut Session<H, D>,
-    pieces: &mut Pieces,
+    steps: &mut S,
     signal: &Signal,
-    pick: &mut P,
     rounds: u64,
 ) -> Result<bool, ServeError>
-    requires going { MayGoOn H.semantics D.meaning session.old }
-    requires none { received pieces.old ≡ [] }
-    ensures made { IfOk result
-        (λ exits. StepsMade (Step H.semantics (order_by P.gives P.later) rounds) D.meaning
-        (H.semantics.find (session_view H.semantics D.meaning session.old).state.service)
-        (standing H.semantics D.meaning session.old (P.state pick.old) (O.taken sink.old))
-        (all_items (received pieces.new)) exits
-        (standing H.semantics D.meaning session.new (P.state pick.new) (O.taken sink.new))) }
-    ensures begun { OnErr result
-        (StepsBegun (Step H.semantics (order_by P.gives P.later) rounds) D.meaning
-        (H.semantics.find (session_view H.semantics D.meaning session.old).state.service)
-        (standing H.semantics D.meaning session.old (P.state pick.old) (O.taken sink.old))
-        (all_items (received pieces.new)) (desk_of session.new) (O.taken sink.new)) }
+    requires going { S.way.stands steps.old false }
+    ensures makes { MakesSteps S.way rounds steps.old [] result steps.new }
+    ensures tied { S.tied steps.new ≡ S.tied steps.old }
+{
+    if signal.has_ended() {
+        return Ok(false);
+    }
+    match steps.make_step(Item::Tick, rounds) {
+        Ok(exits) => {
+            signal.wait(rt);
+            Ok(exits)
+        }
+        Err(error) => Err(error),
+    }
+}
+
+// Makes the steps of the items of a piece that has come, or of a tick.
+fn serve_next<R: Wait, S: Steps>(
+    rt: &R,
+    steps: &mut S,
+    pieces: &mut Pieces,
+    signal: &Signal,
+    rounds: u64,
+) -> Result<bool, ServeError>
+    requires going { S.way.stands steps.old false }
+    ensures makes { (items : List ItemData)
+        × (all_items (received pieces.new) ≡ all_items (received pieces.old) ++ items)
+        × MakesSteps S.way rounds steps.old items result steps.new }
     ensures ring { SameConsumer pieces.old pieces.new }
-    ensures stands { IfOk result (StandsAfter H.semantics D.meaning session.new) }
-    ensures fails { IfErr result (FailsInStep D.meaning (desk_of session.new)) }
-    ensures grown { Grown D.meaning (desk_of session.old) (desk_of session.new) }
-    ensures flushed { StaysFlushed (O.taken sink.old) (O.flushed sink.old)
-        (O.taken sink.new) (O.flushed sink.new) (result_err result) }
-    ensures sink { LeavesFaults O.faults O.beside sink.old sink.new (result_err result) }
+    ensures tied { S.tied steps.new ≡ S.tied steps.old }
+{
+    match pieces.pop() {
+        Ok(piece) => serve_piece(steps, piece, rounds),
+        Err(PopError::Empty) => serve_tick(rt, steps, signal, rounds),
+    }
+}
+
+/// Makes the steps of the items of each piece that comes, and of a tick where none has, until
+/// reading has ended or there was an exit. It says whether there was one. Pieces may be left on the
+/// ring where reading has ended.
+pub(crate) fn serve_waiting<R: Wait, S: Steps>(
+    rt: &R,
+    steps: &mut S,
+    pieces: &mut Pieces,
+    signal: &Signal,
+    rounds: u64,
+) -> Result<bool, ServeError>
+    requires going { S.way.stands steps.old false }
+    requires none { received pieces.old ≡ [] }
+    ensures makes { MakesSteps S.way rounds steps.old (all_items (received pieces.new)) result
+        steps.new }
+    ensures ring { SameConsumer pieces.old pieces.new }
+    ensures tied { S.tied steps.new ≡ S.tied steps.old }
 {
     for _ in rt.forever() {
-        match pieces.pop() {
-            Ok(piece) => {
-                if serve_piece(alloc, room, sink, session, piece, pick, rounds)? {
-                    return Ok(true);
-                }
-            }
-            Err(PopError::Empty) => {
-                if signal.has_ended() {
-                    return Ok(false);
-                }
-                serve_item(alloc, room, sink, session, Item::Tick, pick, rounds)?;
-                signal.wait(rt);
-            }
+        if serve_next(rt, steps, pieces, signal, rounds)? {
+            return Ok(true);
+        }
+        if signal.has_ended() {
+            return Ok(false);
         }
     }
     unreachable!()
@@ -124,96 +204,119 @@ pub(crate) fn serve_waiting<R: Wait, O: Sink, D: Desk + Drop, H: Handlers<D>, P:
 
 /// Makes the steps of the items of the pieces that are known to be on the ring, and then of one that
 /// the full ring did not take, through the first exit, and says whether there was one.
-pub(crate) fn serve_rest<O: Sink, D: Desk + Drop, H: Handlers<D>, P: Pick>(
-    alloc: Global,
-    room: &mut BytesMut,
-    sink: &mut O,
-    session: &mut Session<H, D>,
+pub(crate) fn serve_rest<S: Steps>(
+    steps: &mut S,
     pieces: &mut Pieces,
     back: Option<Vec<Item>>,
-    pick: &mut P,
     rounds: u64,
 ) -> Result<bool, ServeError>
-    requires going { MayGoOn H.semantics D.meaning session.old }
+    requires going { S.way.stands steps.old false }
     requires float_free { ItemsAreFloatFree (back_items back) }
-    ensures made { IfOk result
-        (λ exits. StepsMade (Step H.semantics (order_by P.gives P.later) rounds) D.meaning
-        (H.semantics.find (session_view H.semantics D.meaning session.old).state.service)
-        (standing H.semantics D.meaning session.old (P.state pick.old) (O.taken sink.old))
-        (all_items (known_items pieces.old) ++ back_items back) exits
-        (standing H.semantics D.meaning session.new (P.state pick.new) (O.taken sink.new))) }
-    ensures begun { OnErr result
-        (StepsBegun (Step H.semantics (order_by P.gives P.later) rounds) D.meaning
-        (H.semantics.find (session_view H.semantics D.meaning session.old).state.service)
-        (standing H.semantics D.meaning session.old (P.state pick.old) (O.taken sink.old))
-        (all_items (known_items pieces.old) ++ back_items back) (desk_of session.new) (O.taken sink.new)) }
-    ensures stands { IfOk result (StandsAfter H.semantics D.meaning session.new) }
-    ensures fails { IfErr result (FailsInStep D.meaning (desk_of session.new)) }
-    ensures grown { Grown D.meaning (desk_of session.old) (desk_of session.new) }
-    ensures flushed { StaysFlushed (O.taken sink.old) (O.flushed sink.old)
-        (O.taken sink.new) (O.flushed sink.new) (result_err result) }
-    ensures sink { LeavesFaults O.faults O.beside sink.old sink.new (result_err result) }
+    ensures makes { MakesSteps S.way rounds steps.old
+        (all_items (known_items pieces.old) ++ back_items back) result steps.new }
+    ensures tied { S.tied steps.new ≡ S.tied steps.old }
 {
-    'pieces: while pieces.cached_slots() > 0 {
-        let piece = pieces.pop_known();
-        if serve_piece(alloc, room, sink, session, piece, pick, rounds)? {
-            return Ok(true);
-        }
+    if serve_known(steps, pieces, rounds)? {
+        return Ok(true);
     }
     match back {
-        Some(piece) => serve_piece(alloc, room, sink, session, piece, pick, rounds),
+        Some(piece) => serve_piece(steps, piece, rounds),
         None => Ok(false),
     }
 }
 
+// Makes the steps of the items of the pieces that are known to be on the ring, as `serve_rest` does.
+fn serve_known<S: Steps>(
+    steps: &mut S,
+    pieces: &mut Pieces,
+    rounds: u64,
+) -> Result<bool, ServeError>
+    requires going { S.way.stands steps.old false }
+    ensures makes { MakesSteps S.way rounds steps.old (all_items (known_items pieces.old)) result
+        steps.new }
+    ensures tied { S.tied steps.new ≡ S.tied steps.old }
+{
+    'pieces: while pieces.cached_slots() > 0 {
+        let piece = pieces.pop_known();
+        if serve_piece(steps, piece, rounds)? {
+            return Ok(true);
+        }
+    }
+    Ok(false)
+}
+
 /// Serves what comes after all that a reading gave: on from source and codec, where reading hasn't
 /// ended; the end of input; or the error by which it ended.
-pub(crate) fn finish<I: Source, O: Sink, D: Desk + Drop, H: Handlers<D>, P: Pick>(
-    alloc: Global,
-    room: &mut BytesMut,
+pub(crate) fn finish<'a, 'b, 'c, I: Source, O: Sink, D: Desk + Drop, H: Handlers<D>, P: Pick>(
+    seat: &mut Seat<'a, 'b, 'c, O, Session<H, D>, P>,
     source: &mut I,
     codec: &mut LanguageServerCodec,
-    sink: &mut O,
-    session: &mut Session<H, D>,
-    pick: &mut P,
     ended: Ended,
     reads: u64,
     rounds: u64,
 ) -> Result<(), ServeError>
-    requires going { MayGoOn H.semantics D.meaning session.old }
+    requires going { MayGoOn H.semantics D.meaning seat.old.held.now.session }
     requires told { KeepsAllBytes ended → told_at codec.old ≡ [] }
     requires spent { ended ≡ Ended.Spent → reads ≡ 0 }
     ensures serves { KeepsAllBytes ended
         → (ended ≡ Ended.End → IfSome (I.left source.old) (λ bytes. bytes ≡ []))
         → IfSome (I.left source.old) (λ bytes. ServesOn
         (course_from H.semantics D.meaning (order_by P.gives P.later) rounds codec.old.settings
-        (session_view H.semantics D.meaning session.old) (P.state pick.old)) codec.old
-        (call_bytes bytes (I.left source.new) (O.taken sink.old) (O.taken sink.new))
-        (picked (session_view H.semantics D.meaning session.new) (P.state pick.new))
-        (desk_of session.new) (result_err result)) }
+        (session_view H.semantics D.meaning seat.old.held.now.session) (P.state seat.old.pick.now))
+        codec.old
+        (call_bytes bytes (I.left source.new) (O.taken seat.old.sink.now)
+        (O.taken seat.new.sink.now))
+        (picked (session_view H.semantics D.meaning seat.new.held.now.session)
+        (P.state seat.new.pick.now))
+        (desk_of seat.new.held.now.session) (result_err result)) }
     ensures no_memory { ended ≡ Ended.NoMemory → (result ≡ Err ServeError.NoMemory)
-        × (session.new ≡ session.old) × (sink.new ≡ sink.old) }
-    ensures ready { OnOk result (IsReady H.semantics D.meaning session.new) }
-    ensures grown { Grown D.meaning (desk_of session.old) (desk_of session.new) }
-    ensures desk_spent { IfErr result (λ e. SaysSpent D.meaning (desk_of session.new) e) }
-    ensures flushed { StaysFlushed (O.taken sink.old) (O.flushed sink.old)
-        (O.taken sink.new) (O.flushed sink.new) (result_err result) }
+        × (seat.new ≡ seat.old) }
+    ensures ready { OnOk result (IsReady H.semantics D.meaning seat.new.held.now.session) }
+    ensures grown { Grown D.meaning (desk_of seat.old.held.now.session)
+        (desk_of seat.new.held.now.session) }
+    ensures desk_spent { IfErr result
+        (λ e. SaysSpent D.meaning (desk_of seat.new.held.now.session) e) }
+    ensures flushed { StaysFlushed (O.taken seat.old.sink.now) (O.flushed seat.old.sink.now)
+        (O.taken seat.new.sink.now) (O.flushed seat.new.sink.now) (result_err result) }
     ensures faults { ended ≢ Ended.Failed → TellsFaults (I.faults source.old) (I.faults source.new)
-        (O.faults sink.old) (O.faults sink.new) (result_err result) }
+        (O.faults seat.old.sink.now) (O.faults seat.new.sink.now) (result_err result) }
     ensures failed { ended ≡ Ended.Failed → (result ≡ Err ServeError.ReadFault)
-        × (source.new ≡ source.old) × (sink.new ≡ sink.old) }
+        × (source.new ≡ source.old) × (seat.new ≡ seat.old) }
     ensures within { WithinReads reads 4096 (I.left source.old) (I.left source.new) None None
         (result_err result) }
     ensures left { IfErr result (λ e. e ≡ ServeError.ReadsSpent → LeavesReads ended) }
+    ensures same_sink { seat.new.sink.ghost_name ≡ seat.old.sink.ghost_name }
+    ensures same_held { seat.new.held.ghost_name ≡ seat.old.held.ghost_name }
+    ensures same_pick { seat.new.pick.ghost_name ≡ seat.old.pick.ghost_name }
 {
+    let held = &mut *seat.held;
     match ended {
-        Ended::End => serve_end(alloc, room, codec, sink, session, pick, rounds),
+        Ended::End => serve_end(
+            seat.alloc,
+            &mut held.room,
+            codec,
+            seat.sink,
+            &mut held.session,
+            seat.pick,
+            rounds,
+        ),
         Ended::Failed => Err(ServeError::ReadFault),
         Ended::Spent => Err(ServeError::ReadsSpent),
         Ended::NoMemory => Err(ServeError::NoMemory),
         Ended::Exit | Ended::Full => {
-            let mut ends = Ends { source, sink };
-            serve_from(alloc, &mut ends, codec, session, pick, reads, rounds)
+            let mut ends = Ends {
+                source,
+                sink: seat.sink,
+            };
+            serve_from(
+                seat.alloc,
+                &mut ends,
+                codec,
+                &mut held.session,
+                seat.pick,
+                reads,
+                rounds,
+            )
         }
     }
 }

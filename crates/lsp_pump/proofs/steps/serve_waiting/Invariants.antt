@@ -1,26 +1,15 @@
 -- The steps of all items that were received were made, and no exit was among them.
 use Rattle.std.proofs.Common.{◌≡◌, false}
+use Rattle.std.specs.Prelude.{Ok}
 use Rattle.rtrb.specs.Ring.{received, SameConsumer}
-use Rattle.lsp_session.specs.Run.{Order, Step}
-use Rattle.lsp_server.specs.SourceSink.{IsFlushed}
-use Rattle.lsp_server.specs.ServerView.{standing}
-use Rattle.lsp_server.proofs.PointLemmas.{find_at}
 use Rattle.lsp_pump.specs.Pieces.{all_items}
-use Rattle.lsp_pump.specs.Steps.{StepsMade, MayGoOn}
+use Rattle.lsp_pump.specs.Steps.{MakesSteps}
 use Rattle.lsp_pump.proofs.steps.serve_waiting.Given as goal
 
 abbrev pub invariant-loop : goal.invariant-loop
-invariant-loop g l =
-    let sem = g.H.Handlers.semantics in
-    let m = g.D.Caller.meaning in
-    let order : Order g.P.Pick.State = record { gives = g.P.Pick.gives; later = g.P.Pick.later } in
-    let a = standing sem m l.initial.session (g.P.Pick.state l.initial.pick) (g.O.Sink.taken l.initial.sink) in
-    let b = standing sem m l.session (g.P.Pick.state l.pick) (g.O.Sink.taken l.sink) in
-    record {
-      made : StepsMade (Step sem order l.fn.rounds) m (find_at sem a) a (all_items (received l.pieces)) false b;
-      ring : SameConsumer l.initial.pieces l.pieces;
-      going : MayGoOn sem m l.session;
-      flushed : IsFlushed (g.O.Sink.taken l.initial.sink) (g.O.Sink.flushed l.initial.sink) → IsFlushed (g.O.Sink.taken l.sink) (g.O.Sink.flushed l.sink);
-      beside : g.O.Sink.beside l.sink ≡ g.O.Sink.beside l.initial.sink;
-      count : g.O.Sink.faults l.sink ≡ g.O.Sink.faults l.initial.sink;
-    }
+invariant-loop g l = record {
+  made : MakesSteps g.S.Steps.way l.fn.rounds l.initial.steps (all_items (received l.pieces)) (Ok false) l.steps;
+  ring : SameConsumer l.initial.pieces l.pieces;
+  going : g.S.Steps.way.stands l.steps false;
+  tied : g.S.Steps.tied l.steps ≡ g.S.Steps.tied l.initial.steps;
+}
