@@ -1,25 +1,29 @@
 -- What reading a dump comes to over a call.
-use Rattle.std.proofs.Common.{◌≡◌, ℕ, List, [], ◌∷◌, ◌++◌, Bool, true, false, ◌⊎◌, inl, inr, refl, sym, ◌∙◌, ap, subst}
-use Rattle.std.specs.Prelude.{◌≢◌, Option, Some, Ok, not}
+use Rattle.std.proofs.Common.{◌≡◌, ℕ, List, [], ◌++◌, Bool, true, false, ◌⊎◌, inl, inr, refl, sym, ◌∙◌, ap, subst}
+use Rattle.std.specs.Prelude.{◌≢◌, ⊤, Option, Some, Result, Ok, Err, IfErr, not}
 use Rattle.std.specs.Bool.{MatchBool}
+use Rattle.std.specs.Result.{result_err}
 use Rattle.std.specs.Io.KnownBytes.{Consumes, Appends}
 use Rattle.std.proofs.lemmas.List.{append-nil}
 use Rattle.lsp_server.specs.declared.step.ServeError.{ServeError}
 use Rattle.lsp_server.specs.declared.step.ServeError.TheVariants.{ReadFault, WriteFault, ReadsSpent, DeskSpent, NoMemory}
-use Rattle.lsp_server.specs.Errors.{IsInStep, IsBetweenReads, ComesOfSink}
-use Rattle.lsp_server.specs.Reads.{Moment}
+use Rattle.lsp_server.specs.Errors.{IsInStep, IsBetweenReads, ComesOfSink, EndsInStep}
+use Rattle.lsp_server.specs.Leaves.{StaysFlushed, TellsFaults, WithinReads}
+use Rattle.lsp_server.specs.Reads.{Moment, moment}
 use Rattle.lsp_server.specs.Served.{call_bytes}
+use Rattle.lsp_server.specs.ServesSession.{SourceSinkTold}
 use Rattle.lsp_server.specs.Written.{IsPrefixOf}
-use Rattle.lsp_server.specs.Consuming.{Given, piece, end, ConsumerOutcome, goes_on, done, stops, IsLawfulConsumer, Did, Took, bytes_of, IsTimely, TookLast, consumer_outcome}
-use Rattle.lsp_server.proofs.KnownLemmas.{appends_none, appends_more, consumes_more, what_is_left, all_read, end_before, prefix_all}
+use Rattle.lsp_server.specs.Consuming.{Given, piece, end, ConsumerOutcome, goes_on, done, stops, IsLawfulConsumer, Did, Took, bytes_of, IsTimely, TookLast, consumer_outcome, last_outcome}
+use Rattle.lsp_server.proofs.KnownLemmas.{if_told, appends_none, appends_more, consumes_more, what_is_left, all_read, end_before, prefix_all}
 use Rattle.lsp_index.specs.declared.lines.Lines.{Lines}
 use Rattle.lsp_index.specs.declared.lines.Search.{Search}
-use Rattle.lsp_index.specs.Graph.{Graph, graph_of}
-use Rattle.lsp_index.specs.Queries.{QueryData, IsAnswer}
+use Rattle.lsp_index.specs.Graph.{Graph}
+use Rattle.lsp_index.specs.Queries.{QueryData}
 use Rattle.lsp_index.specs.Entries.{HasBadLine}
 use Rattle.lsp_index.specs.Shown.{show_query}
 use Rattle.lsp_index.specs.Kept.{IsKept}
-use Rattle.lsp_index.specs.Answered.{IsAnswerLine, IsQueryAnswered, IsRefused, WroteBegun, WroteNone}
+use Rattle.lsp_index.specs.Answered.{IsAnswerLine, IsQueryAnswered, IsRefused, WroteBegun, WroteNone, IsLine}
+use Rattle.lsp_index.specs.Ended.{AnswerEnded, ended_with}
 use Rattle.lsp_index.specs.Reading.{IsAfter, TookEnd, TookEndPart, TookGood, TookBad, TookBytes, Reads, dump_reading}
 use Rattle.lsp_index.proofs.LineLemmas.{bad_stays, bad_ended, entries_good}
 use Rattle.lsp_index.proofs.ReadingLemmas.{took_both, took_last_bad, answer_line}
@@ -77,7 +81,7 @@ did_bad_end lines search new taken t =
     }
 
 abbrev Answers : Search → List ℕ → Type 0
-Answers new line = (g : Graph) → IsKept g new.index → (text : List ℕ) × IsAnswer (show_query new.query) g text × (line ≡ text ++ 10 ∷ [])
+Answers new line = (g : Graph) → IsKept g new.index → IsLine (show_query new.query) g line
 
 -- the line of the answer was written
 pub did_end : (lines : Lines) (search new : Search) (line : List ℕ) (taken taken_after : Option (List ℕ)) → TookGood search lines.part.items new → Answers new line → Appends taken taken_after line
@@ -98,9 +102,6 @@ did_end_part lines search new line taken taken_after e sink t answers part = rec
 }
 
 -- ---- a call
-
-pub after_none : (lines : Lines) (search : Search) → lines.part.items ≡ [] → search.is_bad ≡ false → IsKept (graph_of []) search.index → IsAfter (show_query search.query) [] (lines, search)
-after_none lines search empty good kept = record { query = refl; good = good; part = empty; es = []; values = refl; kept = kept }
 
 of_sink : (a b : Lines × Search) (given : Given) (e : ServeError) (written : List ℕ) → Reads a given (stops e) written b → ComesOfSink e
 of_sink a b (piece bytes) e written d = d.0
@@ -195,3 +196,34 @@ module _ (q : QueryData) (a : Lines × Search) (start : IsAfter q [] a) (bytes :
 pub flipped : (bad : Bool) (P Q : Type 0) → MatchBool bad P Q → MatchBool (not bad) Q P
 flipped true P Q p = p
 flipped false P Q p = p
+
+-- what the reads come to is what answering ends with
+pub answer_ended : (q : QueryData) (a b : Lines × Search) (start : IsAfter q [] a) (count : ℕ) (told : SourceSinkTold) (made made_after : Option (List Moment)) (r : Result ⊤ ServeError)
+    → (EndsInStep r → TookLast dump_reading a (moment told.left told.taken told.flushed) (moment told.left_after told.taken_after told.flushed_after) 4096 (last_outcome r) b)
+    → IfErr r (λ e. IsBetweenReads e → Took dump_reading a (moment told.left told.taken told.flushed) (moment told.left_after told.taken_after told.flushed_after) b)
+    → StaysFlushed told.taken told.flushed told.taken_after told.flushed_after (result_err r) → TellsFaults told.reads_failed told.reads_failed_after told.writes_failed told.writes_failed_after (result_err r)
+    → WithinReads count 4096 told.left told.left_after made made_after (result_err r) → AnswerEnded q count told made made_after (ended_with r (not b.1.is_bad))
+answer_ended q a b start count told made made_after (Ok x) last took flushed faults within =
+    let begin : Moment = moment told.left told.taken told.flushed in
+    let now : Moment = moment told.left_after told.taken_after told.flushed_after in
+    record {
+      done = if_told told.left _ (λ bytes is. flipped b.1.is_bad _ _ (done_all q a start bytes begin is b now 4096 (last tt)));
+      flushed = flushed;
+      faults = faults;
+      within = within;
+      no_desk = tt;
+      between = tt;
+      part = tt;
+    }
+answer_ended q a b start count told made made_after (Err e) last took flushed faults within =
+    let begin : Moment = moment told.left told.taken told.flushed in
+    let now : Moment = moment told.left_after told.taken_after told.flushed_after in
+    record {
+      done = tt;
+      flushed = flushed;
+      faults = faults;
+      within = within;
+      no_desk = no_desk_of a b begin now 4096 e last;
+      between = λ at. if_told told.left _ (λ bytes is. between q a start bytes begin is b now (took at));
+      part = if_told told.left _ (λ bytes is. begun_any q a start bytes begin is b now 4096 e last took);
+    }

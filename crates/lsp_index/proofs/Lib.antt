@@ -7,4 +7,5 @@ pub mod HoverLemmas
 pub mod LineLemmas
 pub mod ReadingLemmas
 pub mod AnsweredLemmas
+pub mod EachLemmas
 pub mod EndedLemmas

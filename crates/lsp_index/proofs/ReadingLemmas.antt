@@ -14,10 +14,10 @@ use Rattle.lsp_index.specs.Queries.{QueryData, IsAnswer}
 use Rattle.lsp_index.specs.Entries.{value_of_line, AreEntries, HasBadLine, entry_data}
 use Rattle.lsp_index.specs.Shown.{show_query}
 use Rattle.lsp_index.specs.Kept.{IsKept, with_entry}
-use Rattle.lsp_index.specs.Reading.{ended_lines, part_after, HasNoEnd, values_of, shown_all, has_bad, HasBadEnded, TookGood, TookBad, TookLine, TookMore, TookBadIn, TookBytes, IsAfter}
+use Rattle.lsp_index.specs.Reading.{ended_lines, part_after, HasNoEnd, values_of, shown_all, has_bad, HasBadEnded, TookGood, TookBad, TookText, TookLine, TookMore, TookBadIn, TookBytes, IsAfter, IsFresh, TookDump}
 use Rattle.lsp_index.specs.Answered.{IsAnswerLine}
 use Rattle.lsp_index.proofs.KeptLemmas.{graph_of-more}
-use Rattle.lsp_index.proofs.LineLemmas.{ended-append, part-append, ended_none, part_none, no_end, cut_at_end, values-append, bad-append, or_right, all_values, bad_end, bad_stays}
+use Rattle.lsp_index.proofs.LineLemmas.{ended-append, part-append, ended_none, part_none, no_end, cut_at_end, values-append, bad-append, or_right, all_values, bad_end, bad_stays, bad_ended}
 
 module _ (q : QueryData) (before : List ℕ) (lines : Lines) (search : Search) (after : IsAfter q before (lines, search)) where
   -- bytes of a line
@@ -135,6 +135,11 @@ took_bad_rest a b bytes end found p =
 pub took_last_part : (lines grown : Lines) (search : Search) (bytes : List ℕ) → IsFirstByte (is_byte 10) bytes None → grown.part.items ≡ lines.part.items ++ bytes → TookMore (lines, search) bytes (grown, search)
 took_last_part lines grown search bytes none is = λ q before after. took_part q before lines search after bytes (no_end bytes none) grown is
 
+-- ---- a call
+
+pub after_none : (lines : Lines) (search : Search) → lines.part.items ≡ [] → search.is_bad ≡ false → IsKept (graph_of []) search.index → IsAfter (show_query search.query) [] (lines, search)
+after_none lines search empty good kept = record { query = refl; good = good; part = empty; es = []; values = refl; kept = kept }
+
 -- ---- a line
 
 pub took_empty : (search : Search) (line : List ℕ) → (length line == 0) ≡ true → TookGood search line search
@@ -161,3 +166,26 @@ took_none search new line filled is bad = record {
   is_bad = bad;
   bad = ap (λ b. list_any (λ l. is_none (value_of_line l)) (cond (not b) (line ∷ []) [])) filled ∙ ap (λ v. is_none v || false) is;
 }
+
+-- a text that is no entry, or one
+pub took_text : (search new : Search) (line : List ℕ) (good : Bool) → (length line == 0) ≡ false → TookText search (value_of_line line) good new → TookLine search line good new
+took_text search new line true filled t = took_entry search new line t.entry filled t.is t.kept t.query t.good
+took_text search new line false filled t = took_none search new line filled t.1 t.0
+
+-- ---- a dump
+
+-- the last line, too, is empty or an entry, or it is bad
+pub took_dump : (lines grown : Lines) (search more new : Search) (bytes : List ℕ) (good : Bool) → lines.part.items ≡ [] → TookMore (lines, search) bytes (grown, more) → TookLine more grown.part.items good new
+    → IsFresh search → TookDump search bytes good new
+took_dump lines grown search more new bytes true empty p t fresh =
+    let q = show_query search.query in
+    let after : IsAfter q bytes (grown, more) = p q [] (after_none lines search empty fresh.0 fresh.1) in
+    let last = took_last q bytes grown more after new t in
+    record { query = ap show_query t.query ∙ after.query; es = after.es ++ t.es; entries = last.0; kept = last.1 }
+took_dump lines grown search more new bytes false empty p t fresh =
+    let q = show_query search.query in
+    took_last_bad q bytes grown more (p q [] (after_none lines search empty fresh.0 fresh.1)) new t
+
+-- a line of it is bad
+pub took_bad_dump : (lines grown : Lines) (search new : Search) (bytes : List ℕ) → lines.part.items ≡ [] → TookBadIn (lines, search) bytes (grown, new) → IsFresh search → HasBadLine bytes
+took_bad_dump lines grown search new bytes empty t fresh = bad_ended bytes (t.1 (show_query search.query) [] (after_none lines search empty fresh.0 fresh.1))

@@ -1,11 +1,12 @@
 -- What a program writes for a query over the bytes of a dump.
-use Rattle.std.specs.Prelude.{◌≡◌, ◌⊎◌, ℕ, List, [], ◌∷◌, ◌++◌, map, Option, Some, IfSome, String}
+use Rattle.std.specs.Prelude.{◌≡◌, ◌⊎◌, ⊤, ℕ, List, [], ◌∷◌, ◌++◌, map, Option, Some, None, IfSome, String, Vec, string_bytes}
 use Rattle.std.specs.Io.KnownBytes.{Appends, Consumes}
 use Rattle.std.specs.declared.alloc.Global.{Global}
 use Rattle.lsp_server.specs.Served.{CallBytes}
 use Rattle.lsp_server.specs.Written.{IsPrefixOf}
+use Rattle.lsp_base.specs.declared.position.Position.{Position}
 use Rattle.lsp_lsif.specs.declared.entry.Entry.{Entry}
-use Rattle.lsp_index.specs.Graph.{graph_of}
+use Rattle.lsp_index.specs.Graph.{Graph, graph_of}
 use Rattle.lsp_index.specs.Queries.{QueryData, IsAnswer}
 use Rattle.lsp_index.specs.Entries.{AreEntries, HasBadLine, entry_data}
 use Rattle.lsp_index.specs.Words.{query_asked}
@@ -40,6 +41,30 @@ pub record WroteBegun (q : QueryData) (call : CallBytes) : Type 0 where
 -- the words ask a query, over a source that tells its bytes: this holds of both
 abbrev pub WhereAsked : List (String Global) → Option (List ℕ) → (QueryData → List ℕ → Type 0) → Type 0
 WhereAsked words left P = IfSome (query_asked words) (λ q. IfSome left (P q))
+
+-- ---- many positions of a document
+
+-- this holds of each of the positions and the line that stands at the same place of the other list
+abbrev pub AreLines : (Position → List ℕ → Type 0) → List Position → List (String Global) → Type 0
+AreLines P [] [] = ⊤
+AreLines P [] (line ∷ lines) = ⊥
+AreLines P (p ∷ ps) [] = ⊥
+AreLines P (p ∷ ps) (line ∷ lines) = P p (string_bytes line) × AreLines P ps lines
+
+-- no line of the dump is bad, and these are the lines that answer the queries at the positions; or there is none, and one is
+abbrev pub AreAnswers : (Position → QueryData) → List ℕ → List Position → Option (Vec (String Global) Global) → Type 0
+AreAnswers asked bytes ps None = HasBadLine bytes
+AreAnswers asked bytes ps (Some lines) = (¬ HasBadLine bytes) × AreLines (λ p line. IsAnswerLine (asked p) bytes line) ps lines.items
+
+-- ---- for private clauses
+
+-- the text of the answer over the graph, and LF
+abbrev pub IsLine : QueryData → Graph → List ℕ → Type 0
+IsLine q g line = (text : List ℕ) × IsAnswer q g text × (line ≡ text ++ 10 ∷ [])
+
+-- the same query at another position
+abbrev pub query_at : QueryData → Position → QueryData
+query_at q p = record q { position = p }
 
 -- these bytes were read, and nothing was written
 pub record WroteNone (call : CallBytes) : Type 0 where

@@ -1,5 +1,5 @@
 -- For private clauses: how a dump is read, line by line.
-use Rattle.std.specs.Prelude.{◌≡◌, ◌⊎◌, ◌==◌, ⊤, ℕ, List, [], ◌∷◌, ◌++◌, length, Bool, true, false, not, Option, Some, is_none, map, filter, fold, if◌then◌else◌}
+use Rattle.std.specs.Prelude.{◌≡◌, ◌⊎◌, ◌==◌, ⊤, ℕ, List, [], ◌∷◌, ◌++◌, length, Bool, true, false, not, Option, Some, None, is_none, map, filter, fold, if◌then◌else◌}
 use Rattle.std.specs.Bool.{MatchBool}
 use Rattle.std.specs.List.{list_any}
 use Rattle.std.specs.Str.Lines.{strip_carriage_return}
@@ -13,7 +13,7 @@ use Rattle.lsp_index.specs.declared.lines.Lines.{Lines}
 use Rattle.lsp_index.specs.declared.lines.Search.{Search}
 use Rattle.lsp_index.specs.Graph.{Graph, graph_of}
 use Rattle.lsp_index.specs.Queries.{QueryData}
-use Rattle.lsp_index.specs.Entries.{value_of_line, HasBadLine, entry_data}
+use Rattle.lsp_index.specs.Entries.{value_of_line, HasBadLine, AreEntries, entry_data}
 use Rattle.lsp_index.specs.Shown.{show_query}
 use Rattle.lsp_index.specs.Kept.{IsKept, with_entry}
 use Rattle.lsp_index.specs.Answered.{IsAnswerLine}
@@ -56,6 +56,18 @@ pub record TookBad (old : Search) (line : List ℕ) (new : Search) : Type 0 wher
   pub is_bad : new.is_bad ≡ true
   pub bad : has_bad (line ∷ []) ≡ true
 
+-- a text of this value was taken: it is an entry, which is kept, or none
+pub record TookEntry (old : Search) (value : Option Plain) (new : Search) : Type 0 where
+  pub query : new.query ≡ old.query
+  pub good : new.is_bad ≡ old.is_bad
+  pub entry : Entry
+  pub is : value ≡ Some (entry_row.shown entry)
+  pub kept : (g : Graph) → IsKept g old.index → IsKept (with_entry g (entry_data old.query.request entry)) new.index
+
+abbrev pub TookText : Search → Option Plain → Bool → Search → Type 0
+TookText old value true new = TookEntry old value new
+TookText old value false new = (new.is_bad ≡ true) × (value ≡ None)
+
 abbrev pub TookLine : Search → List ℕ → Bool → Search → Type 0
 TookLine old line true new = TookGood old line new
 TookLine old line false new = TookBad old line new
@@ -82,6 +94,21 @@ TookBadIn a bytes b = (b.1.is_bad ≡ true) × ((q : QueryData) (before : List �
 abbrev pub TookBytes : Lines × Search → List ℕ → Bool → Lines × Search → Type 0
 TookBytes a bytes true b = TookMore a bytes b
 TookBytes a bytes false b = TookBadIn a bytes b
+
+-- nothing was taken
+abbrev pub IsFresh : Search → Type 0
+IsFresh s = (s.is_bad ≡ false) × IsKept (graph_of []) s.index
+
+-- all the bytes of a dump were taken, or a line is bad
+pub record TookGoodDump (old : Search) (bytes : List ℕ) (new : Search) : Type 0 where
+  pub query : show_query new.query ≡ show_query old.query
+  pub es : List Entry
+  pub entries : AreEntries bytes es
+  pub kept : IsKept (graph_of (map (entry_data old.query.request) es)) new.index
+
+abbrev pub TookDump : Search → List ℕ → Bool → Search → Type 0
+TookDump old bytes true new = TookGoodDump old bytes new
+TookDump old bytes false new = HasBadLine bytes
 
 -- at the end the line of the answer was written, or a line is bad
 abbrev pub TookEnd : Lines × Search → List ℕ → Lines × Search → Type 0

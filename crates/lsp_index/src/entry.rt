@@ -1,12 +1,9 @@
 // The entries of a dump, as far as a query looks at them.
-ghost use Rattle.std.specs.Prelude.{◌≡◌, IfOk, IfSome, is_some, option_and_then, option_map, if◌then◌else◌};
+ghost use Rattle.std.specs.Prelude.{◌≡◌, IfOk, IfSome, is_some, if◌then◌else◌};
 ghost use Rattle.std.specs.Str.{is_utf8};
-ghost use Rattle.serde_json.specs.Read as json_text;
 ghost use Rattle.lsp_rpc.specs.Shown.{show_id};
 ghost use Rattle.lsp_base.specs.Position.{id_of};
-ghost use Rattle.lsp_shape.specs.Read.{read};
-ghost use Rattle.lsp_lsif.specs.Entry.{entry_row};
-ghost use Rattle.lsp_index.specs.Entries.{vertex_data, role_of as role_of_lem, value_of_line, hover_data};
+ghost use Rattle.lsp_index.specs.Entries.{vertex_data, role_of as role_of_lem, hover_data};
 ghost use Rattle.lsp_index.specs.Graph.{other_vertex};
 ghost use Rattle.lsp_index.specs.Shown.{show_node};
 
@@ -14,43 +11,20 @@ use crate::Request;
 use crate::graph::{Node, Role};
 use lsp_base::NumberOrString;
 use lsp_lang_goto::Hover;
-use lsp_lsif::{Entry, ItemKind, Vertex};
+use lsp_lsif::{ItemKind, Vertex};
 use lsp_rpc::{Id, NoMemory};
-use lsp_shape::{TextMisfit, read_text, write_text};
+use lsp_shape::write_text;
 use std::alloc::Global;
 use std::str;
 
-// The bytes as a text, where they are one.
-fn text_of(bytes: &[u8]) -> Option<&str>
+/// The bytes as a text, where they are one.
+pub(crate) fn text_of(bytes: &[u8]) -> Option<&str>
     ensures text { IfSome result (λ s. s.now ≡ bytes.now) }
     ensures test { is_some result ≡ is_utf8 bytes.now }
 {
     match str::from_utf8(bytes) {
         Ok(text) => Some(text),
         Err(_) => None,
-    }
-}
-
-// The entry that a text is, or none where it isn't JSON or doesn't fit.
-fn read_entry(alloc: Global, text: &str) -> Result<Option<Entry>, NoMemory>
-    ensures { IfOk result (λ o. option_and_then (read entry_row.shape) (json_text.read text.now)
-        ≡ option_map (λ e. entry_row.shown e) o) }
-{
-    match read_text(alloc, text) {
-        Ok(entry) => Ok(Some(entry)),
-        Err(TextMisfit::Json) => Ok(None),
-        Err(TextMisfit::Unfit) => Ok(None),
-        Err(TextMisfit::NoMemory) => Err(NoMemory),
-    }
-}
-
-/// The entry that a line tells, or none where it tells none.
-pub(crate) fn read_line(alloc: Global, line: &[u8]) -> Result<Option<Entry>, NoMemory>
-    ensures { IfOk result (λ o. value_of_line line.now ≡ option_map (λ e. entry_row.shown e) o) }
-{
-    match text_of(line) {
-        Some(text) => read_entry(alloc, text),
-        None => Ok(None),
     }
 }
 

@@ -11,4 +11,4 @@ mod table;
 mod words;
 
 pub use query::{Query, Request};
-pub use run::answer;
+pub use run::{answer, answer_each};

@@ -1,24 +1,30 @@
 // The lines of a dump, and the index that their entries make.
-ghost use Rattle.std.specs.Prelude.{◌≡◌, ◌++◌, ◌∷◌, ℕ, List, [], ⊤, IfOk, OnOk, IfErr, OnErr, string_bytes};
+ghost use Rattle.std.specs.Prelude.{◌≡◌, ◌++◌, ◌∷◌, ℕ, List, [], ⊤, true, false, Ok, IfOk, OnOk, IfErr, OnErr, option_and_then, string_bytes};
 ghost use Rattle.std.specs.Result.{result_err};
 ghost use Rattle.std.specs.Io.KnownBytes.{Appends};
 ghost use Rattle.std.specs.Str.Lines.{strip_carriage_return};
+ghost use Rattle.serde_json.specs.Read as json_text;
+ghost use Rattle.lsp_shape.specs.Read.{read};
+ghost use Rattle.lsp_lsif.specs.Entry.{entry_row};
 ghost use Rattle.lsp_server.specs.Errors.{ComesOfSink};
 ghost use Rattle.lsp_server.specs.Leaves.{LeavesFaults};
 ghost use Rattle.lsp_server.specs.Written.{IsPrefixOf};
 ghost use Rattle.memchr.specs.Find.{IsFirstByte, is_byte};
 ghost use Rattle.lsp_index.specs.Graph.{Graph};
 ghost use Rattle.lsp_index.specs.Kept.{IsKept};
-ghost use Rattle.lsp_index.specs.Queries.{IsAnswer};
+ghost use Rattle.lsp_index.specs.Answered.{AreAnswers, AreLines, IsLine, query_at};
 ghost use Rattle.lsp_index.specs.Shown.{show_query};
-ghost use Rattle.lsp_index.specs.Reading.{HasNoEnd, TookLine, TookBytes};
+ghost use Rattle.lsp_index.specs.Reading.{HasNoEnd, TookText, TookLine, TookBytes, IsFresh, TookDump};
 
 use crate::Query;
-use crate::entry::read_line;
+use crate::entry::text_of;
 use crate::graph::Index;
+use lsp_base::Position;
 use lsp_rpc::NoMemory;
 use lsp_server::{Consumer, Refused, ServeError, Sink, write_all};
+use lsp_shape::{TextMisfit, read_text};
 use memchr::memchr;
+use std::alloc::Global;
 
 /// Finds the ends of lines, and holds the part of a line that has no end yet.
 #[derive(Drop)]
@@ -36,6 +42,41 @@ pub(crate) struct Search {
 }
 
 impl Search {
+    /// The query, with nothing kept for it yet.
+    pub(crate) fn new(alloc: Global, query: Query) -> Search
+        ensures { (result.query ≡ query) × IsFresh result }
+    {
+        Search {
+            query,
+            index: Index::new(alloc),
+            is_bad: false,
+        }
+    }
+
+    // Notes that a line is no entry, and says so.
+    fn refuse(&mut self) -> Result<bool, NoMemory>
+        ensures { (result ≡ Ok false) × (self.new.is_bad ≡ true) }
+    {
+        self.is_bad = true;
+        Ok(false)
+    }
+
+    // Takes a line that is a text, and says whether it is an entry.
+    fn take_text(&mut self, text: &str) -> Result<bool, NoMemory>
+        ensures { IfOk result (λ good. TookText self.old
+            (option_and_then (read entry_row.shape) (json_text.read text.now)) good self.new) }
+    {
+        match read_text(self.index.alloc, text) {
+            Ok(entry) => {
+                self.index.keep(self.query.request, entry)?;
+                Ok(true)
+            }
+            Err(TextMisfit::NoMemory) => Err(NoMemory),
+            Err(TextMisfit::Json) => self.refuse(),
+            Err(TextMisfit::Unfit) => self.refuse(),
+        }
+    }
+
     // Takes a line with what precedes its LF, and says whether it is an entry or empty.
     fn take_line(&mut self, line: &[u8]) -> Result<bool, NoMemory>
         ensures { IfOk result (λ good. TookLine self.old line.now good self.new) }
@@ -43,27 +84,63 @@ impl Search {
         if line.is_empty() {
             return Ok(true);
         }
-        match read_line(self.index.alloc, line)? {
-            Some(entry) => {
-                self.index.keep(self.query.request, entry)?;
-                Ok(true)
-            }
-            None => {
-                self.is_bad = true;
-                Ok(false)
-            }
+        match text_of(line) {
+            Some(text) => self.take_text(text),
+            None => self.refuse(),
         }
     }
 
-    // The line of the answer.
-    fn line(&self) -> Result<String, NoMemory>
-        ensures { IfOk result (λ line. (g : Graph) → IsKept g self.now.index
-            → (text : List ℕ) × IsAnswer (show_query self.now.query) g text
-            × (string_bytes line ≡ text ++ 10 ∷ [])) }
+    // Takes all the bytes of a dump, or those up to a bad line, and says whether there is none.
+    fn take_dump(&mut self, dump: &[u8]) -> Result<bool, NoMemory>
+        ensures { IfOk result (λ good. IsFresh self.old → TookDump self.old dump.now good self.new) }
     {
-        let mut line = self.index.answer(&self.query)?;
+        let mut lines = Lines {
+            part: Vec::new(self.index.alloc),
+        };
+        if !lines.take_bytes(self, dump)? {
+            return Ok(false);
+        }
+        self.take_line(&lines.part)
+    }
+
+    // The line of the answer at a position.
+    fn line_at(&self, position: Position) -> Result<String, NoMemory>
+        ensures { IfOk result (λ line. (g : Graph) → IsKept g self.now.index
+            → IsLine (query_at (show_query self.now.query) position) g (string_bytes line)) }
+    {
+        let from = self.index.reached_at(&self.query.uri, position)?;
+        let mut line = self.index.text(self.query.request, from)?;
         line.push_str("\n")?;
         Ok(line)
+    }
+
+    // The line of the answer at each of the positions.
+    fn lines_at(&self, positions: &[Position]) -> Result<Vec<String>, NoMemory>
+        ensures { IfOk result (λ lines. (g : Graph) → IsKept g self.now.index
+            → AreLines (λ p line. IsLine (query_at (show_query self.now.query) p) g line)
+            positions.now lines.items) }
+    {
+        let mut lines = Vec::new(self.index.alloc);
+        for position in positions {
+            lines.push(self.line_at(*position)?)?;
+        }
+        Ok(lines)
+    }
+
+    /// The line of the answer at each of the positions, over all the bytes of a dump, or none where
+    /// a line of it is bad.
+    pub(crate) fn answer_each(
+        &mut self,
+        positions: &[Position],
+        dump: &[u8],
+    ) -> Result<Option<Vec<String>>, NoMemory>
+        ensures { IfOk result (λ lines. IsFresh self.old → AreAnswers
+            (λ p. query_at (show_query self.old.query) p) dump.now positions.now lines) }
+    {
+        if !self.take_dump(dump)? {
+            return Ok(None);
+        }
+        Ok(Some(self.lines_at(positions)?))
     }
 }
 
@@ -160,7 +237,7 @@ impl Consumer<Search> for Lines {
         if !search.take_line(&self.part)? {
             return Ok(());
         }
-        let line = search.line()?;
+        let line = search.line_at(search.query.position)?;
         send(sink, line.as_bytes())?;
         Ok(())
     }

@@ -1,23 +1,21 @@
 // The program but for its `main`.
-ghost use Rattle.std.specs.Prelude.{◌≡◌, ◌≢◌, ℕ, ◌≤◌, ◌<◌, ◌⊎◌, ◌↔◌, ◌+◌, ◌-◌, ◌^◌, None, not, length, IfOk, IfErr, OnErr, IfSome};
-ghost use Rattle.std.specs.Bool.{MatchBool};
-ghost use Rattle.std.specs.Result.{result_err};
-ghost use Rattle.lsp_server.specs.Errors.{IsBetweenReads};
-ghost use Rattle.lsp_server.specs.Leaves.{StaysFlushed, TellsFaults, WithinReads};
+ghost use Rattle.std.specs.Prelude.{◌≡◌, ◌≢◌, ◌≤◌, ◌<◌, ◌⊎◌, ◌↔◌, ◌+◌, ◌-◌, ◌^◌, None, not, length, IfOk, IfSome};
 ghost use Rattle.lsp_server.specs.SourceSink.{CountRose, IsFlushed};
 ghost use Rattle.lsp_server.specs.Served.{call_bytes};
-ghost use Rattle.lsp_index.specs.Answered.{IsQueryAnswered, IsRefused, WroteBegun, WroteNone, WhereAsked};
-ghost use Rattle.lsp_index.specs.Ended.{AnswerEnded, status_from};
+ghost use Rattle.lsp_uri.specs.Uri.{uri_text};
+ghost use Rattle.lsp_index.specs.Answered.{IsQueryAnswered, IsRefused, WroteBegun, WroteNone, WhereAsked, AreAnswers};
+ghost use Rattle.lsp_index.specs.Ended.{AnswerEnded, ended_with, status_from};
 ghost use Rattle.lsp_index.specs.Shown.{show_query};
 ghost use Rattle.lsp_index.specs.Words.{query_asked};
 
-use crate::Query;
-use crate::graph::Index;
 use crate::lines::{Lines, Search};
 use crate::words::read_words;
+use crate::{Query, Request};
+use lsp_base::Position;
 use lsp_program::{Status, status_of};
 use lsp_rpc::NoMemory;
 use lsp_server::{Ends, ServeError, Sink, Source, Transport, over_reads};
+use lsp_uri::Uri;
 use std::alloc::Global;
 
 /// Answers the query that the words ask over the dump that the source holds, as one line of JSON,
@@ -139,7 +137,7 @@ fn answer_ends<I: Source, O: Sink>(
           flushed_after = O.flushed sink.new;
           writes_failed = O.faults sink.old;
           writes_failed_after = O.faults sink.new;
-        }) result }
+        }) None None result }
 {
     let mut ends = Ends { source, sink };
     answer_over(alloc, query, &mut ends, reads)
@@ -152,38 +150,29 @@ fn answer_over<T: Transport>(
     io: &mut T,
     reads: u64,
 ) -> Result<bool, ServeError>
-    ensures done { IfOk result (λ good. IfSome (T.left io.old) (λ bytes. MatchBool good
-        (IsQueryAnswered (show_query query)
-        (call_bytes bytes (T.left io.new) (T.taken io.old) (T.taken io.new)))
-        (IsRefused (call_bytes bytes (T.left io.new) (T.taken io.old) (T.taken io.new))))) }
-    ensures flushed { StaysFlushed (T.taken io.old) (T.flushed io.old)
-        (T.taken io.new) (T.flushed io.new) (result_err result) }
-    ensures faults { TellsFaults (T.read_faults io.old) (T.read_faults io.new)
-        (T.faults io.old) (T.faults io.new) (result_err result) }
-    ensures within { WithinReads reads 4096 (T.left io.old) (T.left io.new)
-        (T.reads io.old) (T.reads io.new) (result_err result) }
-    ensures no_desk { IfErr result (λ e. (n : ℕ) → e ≢ ServeError.DeskSpent n) }
-    ensures between { IfErr result (λ e. IsBetweenReads e → IfSome (T.left io.old) (λ bytes.
-        WroteNone (call_bytes bytes (T.left io.new) (T.taken io.old) (T.taken io.new)))) }
-    ensures part { OnErr result (IfSome (T.left io.old) (λ bytes. WroteBegun (show_query query)
-        (call_bytes bytes (T.left io.new) (T.taken io.old) (T.taken io.new)))) }
+    ensures ended { AnswerEnded (show_query query) reads
+        (record {
+          left = T.left io.old;
+          left_after = T.left io.new;
+          reads_failed = T.read_faults io.old;
+          reads_failed_after = T.read_faults io.new;
+          taken = T.taken io.old;
+          taken_after = T.taken io.new;
+          flushed = T.flushed io.old;
+          flushed_after = T.flushed io.new;
+          writes_failed = T.faults io.old;
+          writes_failed_after = T.faults io.new;
+        }) (T.reads io.old) (T.reads io.new) result }
     ensures tied { T.tied io.new ≡ T.tied io.old }
 {
     let mut lines = Lines {
         part: Vec::new(alloc),
     };
-    let mut search = Search {
-        query,
-        index: Index::new(alloc),
-        is_bad: false,
-    };
+    let mut search = Search::new(alloc, query);
     let ended = over_reads(io, &mut lines, &mut search, reads);
     drop(lines);
     let good = is_good(search);
-    match ended {
-        Ok(()) => Ok(good),
-        Err(error) => Err(error),
-    }
+    ended_with(ended, good)
 }
 
 // Lets the search go, and says whether no line was bad.
@@ -191,4 +180,36 @@ fn is_good(search: Search) -> bool
     ensures { result ≡ not search.is_bad }
 {
     !search.is_bad
+}
+
+fn ended_with(ended: Result<(), ServeError>, good: bool) -> Result<bool, ServeError>
+    ensures { result ≡ ended_with ended good }
+{
+    match ended {
+        Ok(()) => Ok(good),
+        Err(error) => Err(error),
+    }
+}
+
+/// Answers what is asked at each of the positions of a document, over a dump that is read once: each
+/// line is what `answer` writes there. None comes where a line of the dump is bad.
+pub fn answer_each(
+    alloc: Global,
+    request: Request,
+    uri: Uri,
+    positions: &[Position],
+    dump: &[u8],
+) -> Result<Option<Vec<String>>, NoMemory>
+    ensures { IfOk result (λ lines. AreAnswers
+        (λ p. record { request = request; uri = uri_text uri; position = p })
+        dump.now positions.now lines) }
+{
+    let position = Position::new(0, 0);
+    let query = Query {
+        request,
+        uri,
+        position,
+    };
+    let mut search = Search::new(alloc, query);
+    search.answer_each(positions, dump)
 }

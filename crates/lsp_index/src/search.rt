@@ -12,12 +12,12 @@ ghost use Rattle.lsp_shape.specs.Read.{text_is};
 ghost use Rattle.lsp_index.specs.Entries.{entry_ids};
 ghost use Rattle.lsp_index.specs.Graph.{Graph, at_id};
 ghost use Rattle.lsp_index.specs.Kept.{IsKept};
-ghost use Rattle.lsp_index.specs.Shown.{show_ids, show_item_edge, show_location, show_query, show_named, show_link, show_outgoing, show_vertex_of};
-ghost use Rattle.lsp_index.specs.Queries.{is_before, holds_position, is_closer, closest_of, range_holding, candidate_in, with_candidate, chosen_at, with_new_id, with_contained, named_in, document_at, hover_at, IsReached, IsReachedFrom, with_location, with_range, with_ranges, with_item_ranges, with_items, with_linked, with_place, with_places, with_results, AreResults, location_value, locations_text as locations_text_lem, null_text as null_text_lem, IsDefinition, IsReferences, IsAnswerFrom, IsAnswer};
+ghost use Rattle.lsp_index.specs.Shown.{show_ids, show_item_edge, show_location, show_named, show_link, show_outgoing, show_vertex_of};
+ghost use Rattle.lsp_index.specs.Queries.{is_before, holds_position, is_closer, closest_of, range_holding, candidate_in, with_candidate, chosen_at, with_new_id, with_contained, named_in, document_at, hover_at, IsReached, IsReachedFrom, with_location, with_range, with_ranges, with_item_ranges, with_items, with_linked, with_place, with_places, with_results, AreResults, location_value, locations_text as locations_text_lem, null_text as null_text_lem, IsDefinition, IsReferences, IsAnswerFrom};
 
+use crate::Request;
 use crate::entry::key_of;
 use crate::graph::{Index, Item, Outgoing, Role};
-use crate::{Query, Request};
 use indexmap::{IndexMap, IndexSet};
 use lsp_base::{Location, NumberOrString, Position, Range};
 use lsp_rpc::{Id, NoMemory};
@@ -406,13 +406,13 @@ impl Index {
         }
     }
 
-    // What is reached from the range at the position.
-    fn reached_at(&self, query: &Query) -> Result<Option<&Id>, NoMemory>
+    /// What is reached from the range at the position.
+    pub(crate) fn reached_at(&self, uri: &Uri, position: Position) -> Result<Option<&Id>, NoMemory>
         ensures { IfOk result (λ o. (g : Graph) → IsKept g self.now → IsReachedFrom g
-            (chosen_at g (uri_text query.now.uri) query.now.position)
+            (chosen_at g (uri_text uri.now) position)
             (option_map (λ id. show_id id.now) o)) }
     {
-        match self.chosen(&query.uri, query.position)? {
+        match self.chosen(uri, position)? {
             Some(range) => self.reached(range),
             None => Ok(None),
         }
@@ -434,34 +434,46 @@ impl Index {
         locations_text(self.alloc, &found)
     }
 
-    fn answer_from(&self, request: Request, from: Option<&Id>) -> Result<String, NoMemory>
+    // The text of the answer from a result.
+    fn text_from(&self, request: Request, from: &Id) -> Result<String, NoMemory>
+        ensures { IfOk result (λ text. (g : Graph) → IsKept g self.now
+            → IsAnswerFrom request g (Some (show_id from.now)) (string_bytes text)) }
+    {
+        match request {
+            Request::Definition => self.definition_text(from),
+            Request::References => self.references_text(from),
+            Request::Hover => self.hover_text(from),
+        }
+    }
+
+    /// The text of the answer from what is reached.
+    pub(crate) fn text(&self, request: Request, from: Option<&Id>) -> Result<String, NoMemory>
         ensures { IfOk result (λ text. (g : Graph) → IsKept g self.now
             → IsAnswerFrom request g (option_map (λ id. show_id id.now) from.entry)
             (string_bytes text)) }
     {
-        match (request, from) {
-            (Request::Definition, Some(from)) => self.definition_text(from),
-            (Request::References, Some(from)) => self.references_text(from),
-            (Request::Hover, Some(from)) => self.hover_text(from),
-            (Request::Hover, None) => null_text(self.alloc),
-            (_, None) => no_locations(self.alloc),
+        match from {
+            Some(from) => self.text_from(request, from),
+            None => no_text(self.alloc, request),
         }
     }
+}
 
-    /// The text of the answer to a query.
-    pub(crate) fn answer(&self, query: &Query) -> Result<String, NoMemory>
-        ensures { IfOk result (λ text. (g : Graph) → IsKept g self.now
-            → IsAnswer (show_query query.now) g (string_bytes text)) }
-    {
-        let from = self.reached_at(query)?;
-        self.answer_from(query.request, from)
+// The text of the answer where nothing is reached.
+fn no_text(alloc: Global, request: Request) -> Result<String, NoMemory>
+    ensures { IfOk result (λ text. (g : Graph) → IsAnswerFrom request g None (string_bytes text)) }
+{
+    match request {
+        Request::Definition => no_locations(alloc),
+        Request::References => no_locations(alloc),
+        Request::Hover => null_text(alloc),
     }
 }
 
 fn no_locations(alloc: Global) -> Result<String, NoMemory>
     ensures { IfOk result (λ text. string_bytes text ≡ locations_text_lem []) }
 {
-    locations_text(alloc, &IndexSet::new(alloc))
+    Ok(String::from_str(alloc, "[]")?)
 }
 
 fn null_text(alloc: Global) -> Result<String, NoMemory>

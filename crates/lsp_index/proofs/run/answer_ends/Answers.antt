@@ -1,5 +1,6 @@
 -- What is said of the transport is said of its two ends.
 use Rattle.std.proofs.Common.{rules}
+use Rattle.std.specs.Prelude.{None}
 use Rattle.lsp_server.specs.ServesSession.{SourceSinkTold}
 use Rattle.lsp_index.specs.Shown.{show_query}
 use Rattle.lsp_index.specs.Ended.{AnswerEnded}
@@ -19,13 +20,5 @@ returns g c =
       writes_failed = g.O.Sink.faults c.args.sink.now;
       writes_failed_after = g.O.Sink.faults c.answer_over.new.io.sink.now;
     } in
-    let ended : AnswerEnded (show_query c.args.query) c.args.reads told c.answer_over.result = record {
-      done = c.answer_over.ensures.done;
-      flushed = c.answer_over.ensures.flushed;
-      faults = c.answer_over.ensures.faults;
-      within = c.answer_over.ensures.within;
-      no_desk = c.answer_over.ensures.no_desk;
-      between = c.answer_over.ensures.between;
-      part = c.answer_over.ensures.part;
-    } in
+    let ended : AnswerEnded (show_query c.args.query) c.args.reads told None None c.answer_over.result = c.answer_over.ensures.ended in
     search rules
