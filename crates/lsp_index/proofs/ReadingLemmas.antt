@@ -14,7 +14,7 @@ use Rattle.lsp_index.specs.Queries.{QueryData, IsAnswer}
 use Rattle.lsp_index.specs.Entries.{value_of_line, AreEntries, HasBadLine, entry_data}
 use Rattle.lsp_index.specs.Shown.{show_query}
 use Rattle.lsp_index.specs.Kept.{IsKept, with_entry}
-use Rattle.lsp_index.specs.Reading.{ended_lines, part_after, HasNoEnd, values_of, shown_all, has_bad, HasBadEnded, TookGood, TookBad, TookText, TookLine, TookMore, TookBadIn, TookBytes, IsAfter, IsFresh, TookDump}
+use Rattle.lsp_index.specs.Reading.{ended_lines, part_after, HasNoEnd, values_of, shown_all, has_bad, HasBadEnded, TookGood, TookBad, TookText, TookLine, TookMore, TookBadIn, TookBytes, IsAfter, TookNothing, TookDump}
 use Rattle.lsp_index.specs.Answered.{IsAnswerLine}
 use Rattle.lsp_index.proofs.KeptLemmas.{graph_of-more}
 use Rattle.lsp_index.proofs.LineLemmas.{ended-append, part-append, ended_none, part_none, no_end, cut_at_end, values-append, bad-append, or_right, all_values, bad_end, bad_stays, bad_ended}
@@ -176,7 +176,7 @@ took_text search new line false filled t = took_none search new line filled t.1 
 
 -- the last line, too, is empty or an entry, or it is bad
 pub took_dump : (lines grown : Lines) (search more new : Search) (bytes : List ℕ) (good : Bool) → lines.part.items ≡ [] → TookMore (lines, search) bytes (grown, more) → TookLine more grown.part.items good new
-    → IsFresh search → TookDump search bytes good new
+    → TookNothing search → TookDump search bytes good new
 took_dump lines grown search more new bytes true empty p t fresh =
     let q = show_query search.query in
     let after : IsAfter q bytes (grown, more) = p q [] (after_none lines search empty fresh.0 fresh.1) in
@@ -187,5 +187,5 @@ took_dump lines grown search more new bytes false empty p t fresh =
     took_last_bad q bytes grown more (p q [] (after_none lines search empty fresh.0 fresh.1)) new t
 
 -- a line of it is bad
-pub took_bad_dump : (lines grown : Lines) (search new : Search) (bytes : List ℕ) → lines.part.items ≡ [] → TookBadIn (lines, search) bytes (grown, new) → IsFresh search → HasBadLine bytes
+pub took_bad_dump : (lines grown : Lines) (search new : Search) (bytes : List ℕ) → lines.part.items ≡ [] → TookBadIn (lines, search) bytes (grown, new) → TookNothing search → HasBadLine bytes
 took_bad_dump lines grown search new bytes empty t fresh = bad_ended bytes (t.1 (show_query search.query) [] (after_none lines search empty fresh.0 fresh.1))

@@ -96,8 +96,8 @@ TookBytes a bytes true b = TookMore a bytes b
 TookBytes a bytes false b = TookBadIn a bytes b
 
 -- nothing was taken
-abbrev pub IsFresh : Search → Type 0
-IsFresh s = (s.is_bad ≡ false) × IsKept (graph_of []) s.index
+abbrev pub TookNothing : Search → Type 0
+TookNothing s = (s.is_bad ≡ false) × IsKept (graph_of []) s.index
 
 -- all the bytes of a dump were taken, or a line is bad
 pub record TookGoodDump (old : Search) (bytes : List ℕ) (new : Search) : Type 0 where

@@ -14,7 +14,7 @@ ghost use Rattle.lsp_index.specs.Graph.{Graph};
 ghost use Rattle.lsp_index.specs.Kept.{IsKept};
 ghost use Rattle.lsp_index.specs.Answered.{AreAnswers, AreLines, IsLine, query_at};
 ghost use Rattle.lsp_index.specs.Shown.{show_query};
-ghost use Rattle.lsp_index.specs.Reading.{HasNoEnd, TookText, TookLine, TookBytes, IsFresh, TookDump};
+ghost use Rattle.lsp_index.specs.Reading.{HasNoEnd, TookText, TookLine, TookBytes, TookNothing, TookDump};
 
 use crate::Query;
 use crate::entry::text_of;
@@ -44,7 +44,7 @@ pub(crate) struct Search {
 impl Search {
     /// The query, with nothing kept for it yet.
     pub(crate) fn new(alloc: Global, query: Query) -> Search
-        ensures { (result.query ≡ query) × IsFresh result }
+        ensures { (result.query ≡ query) × TookNothing result }
     {
         Search {
             query,
@@ -92,7 +92,7 @@ impl Search {
 
     // Takes all the bytes of a dump, or those up to a bad line, and says whether there is none.
     fn take_dump(&mut self, dump: &[u8]) -> Result<bool, NoMemory>
-        ensures { IfOk result (λ good. IsFresh self.old → TookDump self.old dump.now good self.new) }
+        ensures { IfOk result (λ good. TookNothing self.old → TookDump self.old dump.now good self.new) }
     {
         let mut lines = Lines {
             part: Vec::new(self.index.alloc),
@@ -134,7 +134,7 @@ impl Search {
         positions: &[Position],
         dump: &[u8],
     ) -> Result<Option<Vec<String>>, NoMemory>
-        ensures { IfOk result (λ lines. IsFresh self.old → AreAnswers
+        ensures { IfOk result (λ lines. TookNothing self.old → AreAnswers
             (λ p. query_at (show_query self.old.query) p) dump.now positions.now lines) }
     {
         if !self.take_dump(dump)? {

@@ -1,20 +1,26 @@
 //! Random dumps, on which queries are answered as by plain walks.
-use crate::plain::{Entry, Item, Name, Names, Place, Span, Vertex, plain_answer};
+use crate::plain::{Dump, Entry, Item, Names, Place, Query, Span, Vertex, plain_answer};
 use crate::rows::run;
-use crate::text::Text;
+use crate::text::{Name, Part, put};
+use lsp_base::Position;
+use lsp_index::{Request, answer_each};
 use lsp_rows::{RowError, Trial};
+use lsp_uri::Uri;
 use rand_core::utils::NextWord;
 use rand_pcg::Pcg32;
 use std::alloc::{AllocError, Global};
 
 // How many entries a dump has, how many ids there are of each kind, how many lines a document has,
-// how many such dumps there are, and how many queries of each.
+// how many such dumps there are, and how many queries of each: one by one, and in rounds, each of
+// which asks the same at so many positions.
 struct Size {
     entries: u32,
     ids: u32,
     lines: u32,
     dumps: u32,
     queries: u32,
+    rounds: u32,
+    positions: u32,
 }
 
 const SMALL: &[Size] = &[
@@ -24,6 +30,8 @@ const SMALL: &[Size] = &[
         lines: 1,
         dumps: 100,
         queries: 20,
+        rounds: 0,
+        positions: 0,
     },
     Size {
         entries: 40,
@@ -31,6 +39,8 @@ const SMALL: &[Size] = &[
         lines: 1,
         dumps: 200,
         queries: 20,
+        rounds: 0,
+        positions: 0,
     },
     Size {
         entries: 120,
@@ -38,6 +48,8 @@ const SMALL: &[Size] = &[
         lines: 1,
         dumps: 300,
         queries: 20,
+        rounds: 0,
+        positions: 0,
     },
 ];
 
@@ -46,15 +58,19 @@ const MIDDLING: &[Size] = &[Size {
     ids: 8,
     lines: 2,
     dumps: 395,
-    queries: 20,
+    queries: 4,
+    rounds: 4,
+    positions: 4,
 }];
 
 const LARGE: &[Size] = &[Size {
     entries: 10_000,
     ids: 250,
-    lines: 30,
+    lines: 60,
     dumps: 1,
     queries: 100,
+    rounds: 40,
+    positions: 500,
 }];
 
 // The kinds of vertices, each with ids of its own, which are taken for one of another now and then.
@@ -185,121 +201,136 @@ fn some_entry(random: &mut Pcg32, size: &Size) -> Entry {
 
 // ---- The text of a dump.
 
-fn put_id(text: &mut Text, id: Name) {
-    let quote = if id.is_text { "\"" } else { "" };
-    text.put(quote);
-    text.number(id.number);
-    text.put(quote);
+// An entry begins so.
+const ID: Part = Part::Text("{\"id\":");
+
+const VERTEX: Part = Part::Text(",\"type\":\"vertex\",\"label\":\"");
+
+const EDGE: Part = Part::Text(",\"type\":\"edge\",\"label\":\"");
+
+const FROM: Part = Part::Text("\",\"outV\":");
+
+const TARGETS: Part = Part::Text(",\"inVs\":[");
+
+fn put_span(text: &mut String, span: Span) -> Result<(), AllocError> {
+    put(
+        text,
+        &[
+            Part::Text("range\",\"start\":{\"line\":"),
+            Part::Number(span.start.line),
+            Part::Text(",\"character\":"),
+            Part::Number(span.start.character),
+            Part::Text("},\"end\":{\"line\":"),
+            Part::Number(span.end.line),
+            Part::Text(",\"character\":"),
+            Part::Number(span.end.character),
+            Part::Text("}"),
+        ],
+    )
 }
 
-fn put_ids(text: &mut Text, ids: &Names) {
-    text.put(",\"inVs\":[");
-    let mut comma = "";
-    for id in ids.as_slice() {
-        text.put(comma);
-        put_id(text, *id);
-        comma = ",";
-    }
-    text.put("]");
-}
-
-fn put_place(text: &mut Text, name: &str, place: Place) {
-    text.put(name);
-    text.put("{\"line\":");
-    text.number(place.line);
-    text.put(",\"character\":");
-    text.number(place.character);
-    text.put("}");
-}
-
-fn put_vertex(text: &mut Text, vertex: Vertex) {
+fn put_vertex(text: &mut String, vertex: Vertex) -> Result<(), AllocError> {
     match vertex {
-        Vertex::Document(uri) => {
-            text.put("document\",\"languageId\":\"x\",\"uri\":\"file:///");
-            text.put(uri);
-            text.put("\"");
-        }
-        Vertex::Range(span) => {
-            put_place(text, "range\",\"start\":", span.start);
-            put_place(text, ",\"end\":", span.end);
-        }
-        Vertex::Hover(number) => {
-            text.put("hoverResult\",\"result\":{\"contents\":\"h");
-            text.number(number);
-            text.put("\"}");
-        }
-        Vertex::Other(label) => {
-            text.put(label);
-            text.put("\"");
-        }
+        Vertex::Document(uri) => put(
+            text,
+            &[
+                Part::Text("document\",\"languageId\":\"x\",\"uri\":\"file:///"),
+                Part::Text(uri),
+                Part::Text("\""),
+            ],
+        ),
+        Vertex::Range(span) => put_span(text, span),
+        Vertex::Hover(number) => put(
+            text,
+            &[
+                Part::Text("hoverResult\",\"result\":{\"contents\":\"h"),
+                Part::Number(number),
+                Part::Text("\"}"),
+            ],
+        ),
+        Vertex::Other(label) => put(text, &[Part::Text(label), Part::Text("\"")]),
     }
 }
 
-// An edge begins so.
-fn put_edge(text: &mut Text, label: &str, from: Name) {
-    text.put("\"edge\",\"label\":\"");
-    text.put(label);
-    text.put("\",\"outV\":");
-    put_id(text, from);
+fn put_item(text: &mut String, item: &Item) -> Result<(), AllocError> {
+    let (member, end) = if item.property.is_empty() {
+        ("", "")
+    } else {
+        (",\"property\":\"", "\"")
+    };
+    put(
+        text,
+        &[
+            EDGE,
+            Part::Text("item"),
+            FROM,
+            Part::Id(item.from),
+            TARGETS,
+            Part::Ids(item.targets.as_slice()),
+            Part::Text("],\"document\":"),
+            Part::Id(item.document),
+            Part::Text(member),
+            Part::Text(item.property),
+            Part::Text(end),
+        ],
+    )
 }
 
-// An edge has its place in the dump as its id.
-fn put_entry(text: &mut Text, at: u32, entry: &Entry) {
-    let id = match entry {
-        Entry::Vertex(id, _) => *id,
-        _ => Name {
-            number: at,
-            is_text: false,
-        },
-    };
-    text.put("{\"id\":");
-    put_id(text, id);
-    text.put(",\"type\":");
+// What follows the id.
+fn put_entry(text: &mut String, entry: &Entry) -> Result<(), AllocError> {
     match entry {
-        Entry::Vertex(_, vertex) => {
-            text.put("\"vertex\",\"label\":\"");
-            put_vertex(text, *vertex);
-        }
-        Entry::Contains(from, targets) => {
-            put_edge(text, "contains", *from);
-            put_ids(text, targets);
-        }
-        Entry::Link(label, from, to) => {
-            put_edge(text, label, *from);
-            text.put(",\"inV\":");
-            put_id(text, *to);
-        }
+        Entry::Vertex(_, vertex) => put_vertex(text, *vertex),
+        Entry::Contains(from, targets) => put(
+            text,
+            &[
+                EDGE,
+                Part::Text("contains"),
+                FROM,
+                Part::Id(*from),
+                TARGETS,
+                Part::Ids(targets.as_slice()),
+                Part::Text("]"),
+            ],
+        ),
+        Entry::Link(label, from, to) => put(
+            text,
+            &[
+                EDGE,
+                Part::Text(label),
+                FROM,
+                Part::Id(*from),
+                Part::Text(",\"inV\":"),
+                Part::Id(*to),
+            ],
+        ),
         Entry::Item(item) => put_item(text, item),
     }
 }
 
-fn put_item(text: &mut Text, item: &Item) {
-    put_edge(text, "item", item.from);
-    put_ids(text, &item.targets);
-    text.put(",\"document\":");
-    put_id(text, item.document);
-    if !item.property.is_empty() {
-        text.put(",\"property\":\"");
-        text.put(item.property);
-        text.put("\"");
+// An edge has its place in the dump as its id.
+fn begun(at: u32, entry: &Entry) -> [Part; 3] {
+    match entry {
+        Entry::Vertex(id, _) => [ID, Part::Id(*id), VERTEX],
+        _ => [ID, Part::Number(at), Part::Text("")],
     }
 }
 
 // The text of the dump, whose lines end in all ways.
 fn dump_text(alloc: Global, random: &mut Pcg32, dump: &[Entry]) -> Result<String, AllocError> {
-    let mut text = Text::new(alloc);
+    let mut text = String::new(alloc);
     let mut at: u32 = 0;
     for entry in dump {
-        put_entry(&mut text, at, entry);
+        put(&mut text, &begun(at, entry))?;
+        put_entry(&mut text, entry)?;
         let end = match below(random, 8) {
             0 => "}\r\n",
             1 => "}\n\r\n\n",
             _ => "}\n",
         };
-        text.put(end);
+        text.push_str(end)?;
         at = at.saturating_add(1);
     }
-    text.end()
+    Ok(text)
 }
 
 // ---- The queries.
@@ -310,55 +341,121 @@ const REFERENCES: &str = "textDocument/references";
 
 const HOVER: &str = "textDocument/hover";
 
-// The word of a query, and the label of the edges to its results.
-const QUERIES: [[&str; 2]; 3] = [
-    ["definition", DEFINITION],
-    ["references", REFERENCES],
-    ["hover", HOVER],
-];
+fn some_query(random: &mut Pcg32, size: &Size) -> Query {
+    let (word, label) = match below(random, 3) {
+        0 => ("definition", DEFINITION),
+        1 => ("references", REFERENCES),
+        _ => ("hover", HOVER),
+    };
+    Query {
+        word,
+        label,
+        uri: some_uri(random),
+        position: some_place(random, size),
+    }
+}
 
-fn some_dump(alloc: Global, random: &mut Pcg32, size: &Size) -> Result<Vec<Entry>, AllocError> {
+fn some_dump(alloc: Global, random: &mut Pcg32, size: &Size) -> Result<Dump, AllocError> {
     let mut entries = Vec::new(alloc);
     for _ in 0..size.entries {
         entries.push(some_entry(random, size))?;
     }
-    Ok(entries)
+    let text = dump_text(alloc, random, entries.as_slice())?;
+    Dump::new(alloc, entries, text, size.ids.saturating_mul(4))
 }
 
-// What the program gives for the word, over a dump of that text.
-fn answered(
+// What the program gives for the query.
+fn asked(alloc: Global, dump: &Dump, query: &Query) -> Result<String, AllocError> {
+    let mut words = String::from_str(alloc, query.word)?;
+    put(
+        &mut words,
+        &[
+            Part::Text(" file:///"),
+            Part::Text(query.uri),
+            Part::Text(" "),
+            Part::Number(query.position.line),
+            Part::Text(" "),
+            Part::Number(query.position.character),
+        ],
+    )?;
+    run(alloc, words.as_str(), dump.text.as_bytes(), 4096)
+}
+
+// Compares what was given for the query with what plain walks find, and says whether they find
+// something.
+fn compare(
     alloc: Global,
-    text: &str,
-    word: &str,
-    uri: &str,
-    position: Place,
-) -> Result<String, AllocError> {
-    let mut words = Text::new(alloc);
-    words.put(word);
-    words.put(" file:///");
-    words.put(uri);
-    words.put(" ");
-    words.number(position.line);
-    words.put(" ");
-    words.number(position.character);
-    run(alloc, words.end()?.as_str(), text.as_bytes(), 4096)
+    dump: &Dump,
+    query: &Query,
+    given: Result<String, AllocError>,
+    trial: &mut Trial,
+) -> Result<bool, AllocError> {
+    let line = plain_answer(alloc, dump, query)?;
+    trial.text(query.word, given, line.as_str());
+    Ok(line.len() > 7)
 }
 
-// One query of a dump, both ways. It says whether something was found.
-fn try_query(
+fn some_positions(
     alloc: Global,
     random: &mut Pcg32,
     size: &Size,
-    dump: &[Entry],
-    text: &str,
+) -> Result<Vec<Position>, AllocError> {
+    let mut positions = Vec::new(alloc);
+    for _ in 0..size.positions {
+        let place = some_place(random, size);
+        positions.push(Position::new(place.line, place.character))?;
+    }
+    Ok(positions)
+}
+
+// What is given for the query at each of the positions.
+fn asked_each(
+    alloc: Global,
+    dump: &Dump,
+    query: &Query,
+    positions: &[Position],
+) -> Result<Vec<String>, RowError> {
+    let request = match query.word {
+        "definition" => Request::Definition,
+        "references" => Request::References,
+        _ => Request::Hover,
+    };
+    let text = if query.uri == "a" {
+        "file:///a"
+    } else {
+        "file:///b"
+    };
+    let Ok(uri) = Uri::parse(alloc, text) else {
+        return Ok(Vec::new(alloc));
+    };
+    match answer_each(alloc, request, uri, positions, dump.text.as_bytes())? {
+        Some(lines) => Ok(lines),
+        None => Ok(Vec::new(alloc)),
+    }
+}
+
+// A round of queries of a dump. It says how many found something.
+fn try_round(
+    alloc: Global,
+    random: &mut Pcg32,
+    size: &Size,
+    dump: &Dump,
     trial: &mut Trial,
-) -> Result<bool, AllocError> {
-    let query = QUERIES[below(random, 3) as usize % 3];
-    let (uri, position) = (some_uri(random), some_place(random, size));
-    let found = answered(alloc, text, query[0], uri, position);
-    let line = plain_answer(alloc, dump, query, uri, position)?;
-    trial.text(query[0], found, line.as_str());
-    Ok(line.len() > 7)
+) -> Result<u32, RowError> {
+    let mut query = some_query(random, size);
+    let positions = some_positions(alloc, random, size)?;
+    let lines = asked_each(alloc, dump, &query, &positions)?;
+    trial.same("lines", lines.len(), positions.len());
+    let mut found: u32 = 0;
+    for (position, line) in positions.iter().zip(lines.iter()) {
+        query.position = Place {
+            line: position.line,
+            character: position.character,
+        };
+        let given = format!(in alloc; "0 {line}");
+        found = found.saturating_add(u32::from(compare(alloc, dump, &query, given, trial)?));
+    }
+    Ok(found)
 }
 
 // All queries of a random dump. It says how many found something.
@@ -367,14 +464,16 @@ fn try_dump(
     random: &mut Pcg32,
     size: &Size,
     trial: &mut Trial,
-) -> Result<u32, AllocError> {
+) -> Result<u32, RowError> {
     let dump = some_dump(alloc, random, size)?;
-    let text = dump_text(alloc, random, dump.as_slice())?;
     let mut found: u32 = 0;
     for _ in 0..size.queries {
-        if try_query(alloc, random, size, dump.as_slice(), text.as_str(), trial)? {
-            found = found.saturating_add(1);
-        }
+        let query = some_query(random, size);
+        let given = asked(alloc, &dump, &query);
+        found = found.saturating_add(u32::from(compare(alloc, &dump, &query, given, trial)?));
+    }
+    for _ in 0..size.rounds {
+        found = found.saturating_add(try_round(alloc, random, size, &dump, trial)?);
     }
     Ok(found)
 }
@@ -405,8 +504,8 @@ fn plain_walks_over_middling_dumps(rt: HostRuntime) -> Result<(), RowError> {
     walks(rt.alloc(), MIDDLING, 2_800)
 }
 
-// 100 queries.
+// 100 queries one by one, and 20,000 in rounds.
 #[test]
 fn plain_walks_over_a_large_dump(rt: HostRuntime) -> Result<(), RowError> {
-    walks(rt.alloc(), LARGE, 30)
+    walks(rt.alloc(), LARGE, 5_000)
 }

@@ -1,13 +1,6 @@
-//! A dump as a list of entries, and what a query answers of it by plain walks over that list.
-use crate::text::Text;
+//! A dump as a list of entries, and what a query answers of it by plain walks over lists.
+use crate::text::{Name, Part, put};
 use std::alloc::{AllocError, Global};
-
-/// An id. A number and a text are different ids.
-#[derive(Clone, Copy, PartialEq)]
-pub(crate) struct Name {
-    pub(crate) number: u32,
-    pub(crate) is_text: bool,
-}
 
 /// Up to five ids.
 #[derive(Clone, Copy)]
@@ -74,6 +67,96 @@ pub(crate) struct Item {
     pub(crate) property: &'static str,
 }
 
+/// A dump, and two tables of what stands in it.
+#[derive(Drop)]
+pub(crate) struct Dump {
+    entries: Vec<Entry>,
+    /// The same entries, one a line.
+    pub(crate) text: String,
+    firsts: Vec<First>,
+    items: Vec<Item>,
+}
+
+// The first vertex of an id, and its place in the dump.
+#[derive(Clone, Copy)]
+struct First {
+    at: usize,
+    vertex: Vertex,
+}
+
+// No vertex stands under the id.
+const NOTHING: First = First {
+    at: usize::MAX,
+    vertex: Vertex::Other(""),
+};
+
+// The place of an id in the table of vertices.
+fn slot(id: Name) -> usize {
+    let slot = (id.number as usize).saturating_mul(2);
+    if id.is_text {
+        slot
+    } else {
+        slot.saturating_add(1)
+    }
+}
+
+fn keep_first(firsts: &mut Vec<First>, id: Name, at: usize, vertex: Vertex) {
+    if let Some(first) = firsts.get_mut(slot(id)) {
+        if first.at == usize::MAX {
+            *first = First { at, vertex };
+        }
+    }
+}
+
+impl Dump {
+    /// A dump of ids whose numbers are below `ids`.
+    pub(crate) fn new(
+        alloc: Global,
+        entries: Vec<Entry>,
+        text: String,
+        ids: u32,
+    ) -> Result<Dump, AllocError> {
+        let mut firsts = vec![in alloc; NOTHING; (ids as usize).saturating_mul(2)]?;
+        let mut items = Vec::new(alloc);
+        for (at, entry) in entries.iter().enumerate() {
+            match entry {
+                Entry::Vertex(id, vertex) => keep_first(&mut firsts, *id, at, *vertex),
+                Entry::Item(item) => items.push(*item)?,
+                _ => {}
+            }
+        }
+        Ok(Dump {
+            entries,
+            text,
+            firsts,
+            items,
+        })
+    }
+
+    fn first(&self, id: Name) -> First {
+        match self.firsts.get(slot(id)) {
+            Some(first) => *first,
+            None => NOTHING,
+        }
+    }
+
+    // The URI of a document, or nothing.
+    fn document(&self, id: Name) -> &'static str {
+        match self.first(id).vertex {
+            Vertex::Document(uri) => uri,
+            _ => "",
+        }
+    }
+
+    fn range(&self, id: Name) -> Option<Candidate> {
+        let First { at, vertex } = self.first(id);
+        match vertex {
+            Vertex::Range(span) => Some(Candidate { at, id, span }),
+            _ => None,
+        }
+    }
+}
+
 // A range of a document: its place in the dump, its id, and where it is.
 #[derive(Clone, Copy)]
 struct Candidate {
@@ -94,39 +177,13 @@ impl Candidate {
 /// Where something is: in the document whose URI ends so.
 #[derive(Clone, Copy, PartialEq)]
 struct Location {
-    uri: &'static str,
     span: Span,
-}
-
-// Where the first vertex of the id stands in the dump, and what it is.
-fn first(dump: &[Entry], id: Name) -> Option<(usize, Vertex)> {
-    for (at, entry) in dump.iter().enumerate() {
-        if let Entry::Vertex(own, vertex) = entry {
-            if *own == id {
-                return Some((at, *vertex));
-            }
-        }
-    }
-    None
-}
-
-fn document(dump: &[Entry], id: Name) -> Option<&'static str> {
-    match first(dump, id) {
-        Some((_, Vertex::Document(uri))) => Some(uri),
-        _ => None,
-    }
-}
-
-fn range(dump: &[Entry], id: Name) -> Option<(usize, Span)> {
-    match first(dump, id) {
-        Some((at, Vertex::Range(span))) => Some((at, span)),
-        _ => None,
-    }
+    uri: &'static str,
 }
 
 // Where the first edge of the label leads from a vertex.
-fn link(dump: &[Entry], label: &str, from: Name) -> Option<Name> {
-    for entry in dump {
+fn link(entries: &[Entry], label: &str, from: Name) -> Option<Name> {
+    for entry in entries {
         if let Entry::Link(own, out, to) = entry {
             if *out == from && *own == label {
                 return Some(*to);
@@ -136,47 +193,54 @@ fn link(dump: &[Entry], label: &str, from: Name) -> Option<Name> {
     None
 }
 
-// The closer of a candidate and the range of that id, if that holds the position.
-fn closer(dump: &[Entry], best: Option<Candidate>, id: Name, position: Place) -> Option<Candidate> {
-    let Some((at, span)) = range(dump, id) else {
-        return best;
-    };
-    if position.is_before(span.start) || !position.is_before(span.end) {
+// The closer of a candidate and another range, if that holds the position.
+fn closer(best: Option<Candidate>, other: Candidate, position: Place) -> Option<Candidate> {
+    if position.is_before(other.span.start) || !position.is_before(other.span.end) {
         return best;
     }
-    let other = Candidate { at, id, span };
     match best {
         Some(best) if !other.is_closer(best) => Some(best),
         _ => Some(other),
     }
 }
 
+// The closest of a candidate and the ranges of these ids that hold the position.
+fn closest(
+    dump: &Dump,
+    best: Option<Candidate>,
+    ids: &[Name],
+    position: Place,
+) -> Option<Candidate> {
+    let mut best = best;
+    for id in ids {
+        if let Some(other) = dump.range(*id) {
+            best = closer(best, other, position);
+        }
+    }
+    best
+}
+
 // The range at the position.
-fn chosen(dump: &[Entry], uri: &str, position: Place) -> Option<Name> {
+fn chosen(dump: &Dump, query: &Query) -> Option<Candidate> {
     let mut best = None;
-    for entry in dump {
+    for entry in &dump.entries {
         if let Entry::Contains(from, targets) = entry {
-            if document(dump, *from).unwrap_or("") == uri {
-                for id in targets.as_slice() {
-                    best = closer(dump, best, *id, position);
-                }
+            if dump.document(*from) == query.uri {
+                best = closest(dump, best, targets.as_slice(), query.position);
             }
         }
     }
-    match best {
-        Some(best) => Some(best.id),
-        None => None,
-    }
+    best
 }
 
 // The result of that label that a vertex leads to. A walk over more edges than there are goes round.
-fn reached(dump: &[Entry], label: &str, from: Name) -> Option<Name> {
+fn reached(entries: &[Entry], label: &str, from: Name) -> Option<Name> {
     let mut vertex = from;
-    for _ in 0..=dump.len() {
-        if let Some(result) = link(dump, label, vertex) {
+    for _ in 0..=entries.len() {
+        if let Some(result) = link(entries, label, vertex) {
             return Some(result);
         }
-        match link(dump, "next", vertex) {
+        match link(entries, "next", vertex) {
             Some(next) => vertex = next,
             None => return None,
         }
@@ -185,13 +249,14 @@ fn reached(dump: &[Entry], label: &str, from: Name) -> Option<Name> {
 }
 
 // Puts the locations of an item after those that were found, where they are new.
-fn add_locations(dump: &[Entry], item: &Item, found: &mut Vec<Location>) -> Result<(), AllocError> {
-    let Some(uri) = document(dump, item.document) else {
+fn add_item(dump: &Dump, item: &Item, found: &mut Vec<Location>) -> Result<(), AllocError> {
+    let uri = dump.document(item.document);
+    if uri.is_empty() {
         return Ok(());
-    };
+    }
     for id in item.targets.as_slice() {
-        if let Some((_, span)) = range(dump, *id) {
-            let location = Location { uri, span };
+        if let Some(Candidate { span, .. }) = dump.range(*id) {
+            let location = Location { span, uri };
             if !found.contains(&location) {
                 found.push(location)?;
             }
@@ -200,126 +265,151 @@ fn add_locations(dump: &[Entry], item: &Item, found: &mut Vec<Location>) -> Resu
     Ok(())
 }
 
-// Puts the further results of an item after those that were found, where they are new.
-fn add_results(item: &Item, results: &mut Vec<Name>) -> Result<(), AllocError> {
-    if item.property == "referenceResults" {
-        for id in item.targets.as_slice() {
-            if !results.contains(id) {
-                results.push(*id)?;
-            }
+// Puts ids after those that were found, where they are new.
+fn add_names(names: &[Name], found: &mut Vec<Name>) -> Result<(), AllocError> {
+    for name in names {
+        if !found.contains(name) {
+            found.push(*name)?;
+        }
+    }
+    Ok(())
+}
+
+// Puts the further results of a result after those that were found, where they are new.
+fn add_results(items: &[Item], from: Name, results: &mut Vec<Name>) -> Result<(), AllocError> {
+    for item in items {
+        if item.from == from && item.property == "referenceResults" {
+            add_names(item.targets.as_slice(), results)?;
         }
     }
     Ok(())
 }
 
 // The result, and all that it includes.
-fn results_with(alloc: Global, dump: &[Entry], first: Name) -> Result<Vec<Name>, AllocError> {
-    let mut results = Vec::new(alloc);
-    results.push(first)?;
+fn results_with(alloc: Global, items: &[Item], first: Name) -> Result<Vec<Name>, AllocError> {
+    let mut results = vec![in alloc; first]?;
     for i in 0..usize::MAX {
-        let Some(member) = results.get(i) else {
-            return Ok(results);
-        };
-        let member = *member;
-        for entry in dump {
-            if let Entry::Item(item) = entry {
-                if item.from == member {
-                    add_results(item, &mut results)?;
-                }
-            }
+        match results.get(i) {
+            Some(member) => add_results(items, *member, &mut results)?,
+            None => break,
         }
     }
     Ok(results)
 }
 
-// Whether the targets of an edge `item` of that property are places.
-fn is_place(property: &str) -> bool {
-    property == "declarations" || property == "definitions" || property == "references"
+impl Item {
+    // Whether the targets are places.
+    fn is_place(&self) -> bool {
+        self.property == "declarations"
+            || self.property == "definitions"
+            || self.property == "references"
+    }
 }
 
-// The locations of the items of the results: of all, or of places alone.
+// Puts the locations of the items of a result after those that were found: of all, or of places
+// alone.
+fn add_locations(
+    dump: &Dump,
+    from: Name,
+    of_all: bool,
+    found: &mut Vec<Location>,
+) -> Result<(), AllocError> {
+    for item in &dump.items {
+        if item.from == from && (of_all || item.is_place()) {
+            add_item(dump, item, found)?;
+        }
+    }
+    Ok(())
+}
+
+// The locations that a result leads to.
 fn locations(
     alloc: Global,
-    dump: &[Entry],
-    results: &[Name],
-    of_all: bool,
+    dump: &Dump,
+    word: &str,
+    of: Name,
 ) -> Result<Vec<Location>, AllocError> {
     let mut found = Vec::new(alloc);
-    for result in results {
-        for entry in dump {
-            if let Entry::Item(item) = entry {
-                if item.from == *result && (of_all || is_place(item.property)) {
-                    add_locations(dump, item, &mut found)?;
-                }
-            }
+    if word == "definition" {
+        add_locations(dump, of, true, &mut found)?;
+    } else {
+        for result in &results_with(alloc, &dump.items, of)? {
+            add_locations(dump, *result, false, &mut found)?;
         }
     }
     Ok(found)
 }
 
-fn put_place(line: &mut Text, place: Place) {
-    line.put("{\"character\":");
-    line.number(place.character);
-    line.put(",\"line\":");
-    line.number(place.line);
+fn put_location(line: &mut String, location: &Location, comma: &str) -> Result<(), AllocError> {
+    let Span { start, end } = location.span;
+    put(
+        line,
+        &[
+            Part::Text(comma),
+            Part::Text("{\"range\":{\"end\":{\"character\":"),
+            Part::Number(end.character),
+            Part::Text(",\"line\":"),
+            Part::Number(end.line),
+            Part::Text("},\"start\":{\"character\":"),
+            Part::Number(start.character),
+            Part::Text(",\"line\":"),
+            Part::Number(start.line),
+            Part::Text("}},\"uri\":\"file:///"),
+            Part::Text(location.uri),
+            Part::Text("\"}"),
+        ],
+    )
 }
 
 // The status and the line of an answer of these locations.
 fn line_of(alloc: Global, found: &[Location]) -> Result<String, AllocError> {
-    let mut line = Text::new(alloc);
-    line.put("0 [");
+    let mut line = String::from_str(alloc, "0 [")?;
     let mut comma = "";
     for location in found {
-        line.put(comma);
-        line.put("{\"range\":{\"end\":");
-        put_place(&mut line, location.span.end);
-        line.put("},\"start\":");
-        put_place(&mut line, location.span.start);
-        line.put("}},\"uri\":\"file:///");
-        line.put(location.uri);
-        line.put("\"}");
+        put_location(&mut line, location, comma)?;
         comma = ",";
     }
-    line.put("]\n");
-    line.end()
+    line.push_str("]\n")?;
+    Ok(line)
 }
 
 // The status and the line of an answer to a query for a hover.
-fn hover_line(alloc: Global, dump: &[Entry], of: Option<Name>) -> Result<String, AllocError> {
-    if let Some(id) = of {
-        if let Some((_, Vertex::Hover(number))) = first(dump, id) {
-            return format!(in alloc; "0 {{\"contents\":\"h{number}\"}}\n");
-        }
+fn hover_line(alloc: Global, dump: &Dump, of: Name) -> Result<String, AllocError> {
+    match dump.first(of).vertex {
+        Vertex::Hover(number) => format!(in alloc; "0 {{\"contents\":\"h{number}\"}}\n"),
+        _ => String::from_str(alloc, "0 null\n"),
     }
-    String::from_str(alloc, "0 null\n")
 }
 
-/// The status of a query, which is 0, and the line of its answer. The query is what the word and
-/// the label of an edge to a result say.
+/// What is asked: a word, and the label of the edges to its results; and for which position of which
+/// document.
+#[derive(Clone, Copy)]
+pub(crate) struct Query {
+    pub(crate) word: &'static str,
+    pub(crate) label: &'static str,
+    pub(crate) uri: &'static str,
+    pub(crate) position: Place,
+}
+
+// The result that is reached from the range at the position.
+fn result_of(dump: &Dump, query: &Query) -> Option<Name> {
+    match chosen(dump, query) {
+        Some(range) => reached(&dump.entries, query.label, range.id),
+        None => None,
+    }
+}
+
+/// The status of a query, which is 0, and the line of its answer.
 pub(crate) fn plain_answer(
     alloc: Global,
-    dump: &[Entry],
-    query: [&str; 2],
-    uri: &str,
-    position: Place,
+    dump: &Dump,
+    query: &Query,
 ) -> Result<String, AllocError> {
-    let [word, label] = query;
-    let result = match chosen(dump, uri, position) {
-        Some(range) => reached(dump, label, range),
-        None => None,
-    };
-    if word == "hover" {
-        return hover_line(alloc, dump, result);
+    let is_hover = query.word == "hover";
+    match result_of(dump, query) {
+        Some(of) if is_hover => hover_line(alloc, dump, of),
+        Some(of) => line_of(alloc, &locations(alloc, dump, query.word, of)?),
+        None if is_hover => String::from_str(alloc, "0 null\n"),
+        None => String::from_str(alloc, "0 []\n"),
     }
-    let Some(result) = result else {
-        return line_of(alloc, &[]);
-    };
-    let is_definition = word == "definition";
-    let results = if is_definition {
-        vec![in alloc; result]?
-    } else {
-        results_with(alloc, dump, result)?
-    };
-    let found = locations(alloc, dump, results.as_slice(), is_definition)?;
-    line_of(alloc, found.as_slice())
 }

@@ -3,7 +3,7 @@ ghost use Rattle.std.specs.Prelude.{◌<◌};
 
 use lsp_index::answer;
 use lsp_rows::{RowError, Trial};
-use lsp_server::{MemorySink, MemorySource, NeverSink, NeverSource};
+use lsp_server::{MemorySink, MemorySource};
 use std::alloc::{AllocError, Global};
 
 // A document of two ranges, of which the second leads over an edge `next` to its definition, which
@@ -216,9 +216,27 @@ pub(crate) fn run(
 ) -> Result<String, AllocError>
     requires { 0 < piece }
 {
+    run_failing(alloc, words, dump, piece, [0, 0])
+}
+
+// The same where the read and the call of the sink of these numbers fail.
+fn run_failing(
+    alloc: Global,
+    words: &str,
+    dump: &[u8],
+    piece: usize,
+    failing: [u64; 2],
+) -> Result<String, AllocError>
+    requires { 0 < piece }
+{
+    let [read, call] = failing;
+    if read == u64::MAX || call == u64::MAX {
+        return String::from_str(alloc, "no such call");
+    }
     let words = words_of(alloc, words)?;
-    let mut source = NeverSource::new(Vec::from_slice(alloc, dump)?, piece);
-    let mut sink = NeverSink::new(alloc);
+    let dump = Vec::from_slice(alloc, dump)?;
+    let mut source = MemorySource::new(dump, piece, vec![in alloc; read]?);
+    let mut sink = MemorySink::new(alloc, vec![in alloc; call]?);
     let status = answer(alloc, &words, &mut source, &mut sink);
     drop(source);
     shown(alloc, status, sink.bytes())
@@ -309,20 +327,6 @@ const FAILING: &[Failing] = &[
     },
 ];
 
-// The status, and what is written, where the read and the call of the sink of these numbers fail.
-fn run_failing(alloc: Global, read: u64, call: u64) -> Result<String, AllocError> {
-    if read == u64::MAX || call == u64::MAX {
-        return String::from_str(alloc, "no such call");
-    }
-    let words = words_of(alloc, "definition file:///a 1 1")?;
-    let dump = Vec::from_slice(alloc, DUMP.as_bytes())?;
-    let mut source = MemorySource::new(dump, 100, vec![in alloc; read]?);
-    let mut sink = MemorySink::new(alloc, vec![in alloc; call]?);
-    let status = answer(alloc, &words, &mut source, &mut sink);
-    drop(source);
-    shown(alloc, status, sink.bytes())
-}
-
 // Want of memory, status 6, is tried by `.ci/hostile`; no run reaches the last of all reads, status 5.
 #[test]
 fn each_read_write_and_flush_fails(rt: HostRuntime) -> Result<(), RowError> {
@@ -334,7 +338,9 @@ fn each_read_write_and_flush_fails(rt: HostRuntime) -> Result<(), RowError> {
             } else {
                 (0, number)
             };
-            trial.text(number, run_failing(rt.alloc(), read, call), row.expected);
+            let words = "definition file:///a 1 1";
+            let found = run_failing(rt.alloc(), words, DUMP.as_bytes(), 100, [read, call]);
+            trial.text(number, found, row.expected);
         }
     }
     trial.end()
