@@ -16,6 +16,7 @@ import sys
 import bulk
 import docs
 import flood
+import from_tokens
 import frame
 import growth
 import instructions
@@ -30,8 +31,8 @@ import shared_desk
 import start
 import talk
 
-SCRIPTS = (instructions, flood, bulk, growth, mixed, refused, proxy, frame, docs, large_values, lsif, shared_desk, talk,
-           pump, start)
+SCRIPTS = (instructions, flood, bulk, growth, mixed, refused, proxy, frame, docs, large_values, from_tokens, lsif,
+           shared_desk, talk, pump, start)
 
 
 def rows(sizes):

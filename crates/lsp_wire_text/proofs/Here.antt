@@ -4,8 +4,8 @@ use Rattle.json.specs.Token.{Token}
 use Rattle.json.specs.Json.{value}
 use Rattle.serde_json.specs.Data.{Data, null, boolean, number, string, array, object, unsigned}
 use Rattle.serde_json.specs.Read.{converted, number_of}
-use Rattle.lsp_shape.specs.Plain.{Plain, leaf, absent, present, maybe_of}
-use Rattle.lsp_shape.specs.Shape.{Shape, maybe, u32_shape}
+use Rattle.lsp_shape.specs.Plain.{Plain, leaf, absent, present, choice, maybe_of}
+use Rattle.lsp_shape.specs.Shape.{Shape, Shapes, or_shape, maybe, union, u32_shape}
 use Rattle.lsp_shape.specs.Shown.{show_unsigned}
 use Rattle.lsp_shape.specs.Read.{read}
 use Rattle.lsp_text.specs.Floats.{of_json_by, number_by}
@@ -84,3 +84,46 @@ value_is_here way ts rest d e = e
 pub value_of_here : (way : Way) (ts rest : List Token) (d : Data) → value_here way ts ≡ Some (d, rest) → converted (of_json_by way.floats) (value way.depth ts) ≡ Some (d, rest)
 unfolding value_here
 value_of_here way ts rest d e = e
+
+-- ---- what may be null
+
+pub some_here : {W : Type 0} (f : W → Plain) (way : Way) (s : Shape) (ts rest : List Token) (o : Option W) (w : W) → read_here way (maybe s) ts ≡ Some (maybe_of (option_map f o), rest) → o ≡ Some w
+    → read_here way (maybe s) ts ≡ Some (present (f w), rest)
+some_here f way s ts rest o w e is = e ∙ ap (λ x. Some (maybe_of (option_map f x), rest)) is
+
+pub none_here : {W : Type 0} (f : W → Plain) (way : Way) (s : Shape) (ts rest : List Token) (o : Option W) → read_here way (maybe s) ts ≡ Some (maybe_of (option_map f o), rest) → o ≡ None
+    → read_here way (maybe s) ts ≡ Some (absent, rest)
+none_here f way s ts rest o e is = e ∙ ap (λ x. Some (maybe_of (option_map f x), rest)) is
+
+-- ---- a union whose first variant fits
+
+first_fits : (s : Shape) (ss : Shapes) (d : Data) (p : Plain) → read (maybe s) d ≡ Some (present p) → read (maybe (union (or_shape s ss))) d ≡ Some (present (choice 0 p))
+first_fits s ss null p e = absurd (cc)
+first_fits s ss (boolean b) p e = rw (within _ p e) refl
+first_fits s ss (number n) p e = rw (within _ p e) refl
+first_fits s ss (string b) p e = rw (within _ p e) refl
+first_fits s ss (array ds) p e = rw (within _ p e) refl
+first_fits s ss (object ms) p e = rw (within _ p e) refl
+
+pub first_here : (way : Way) (s : Shape) (ss : Shapes) (ts rest : List Token) (p : Plain) → read_here way (maybe s) ts ≡ Some (present p, rest) → read_here way (maybe (union (or_shape s ss))) ts ≡ Some (present (choice 0 p), rest)
+first_here way s ss ts rest p e =
+    let f = found_here way (maybe s) ts rest (present p) e in
+    read_of way (maybe (union (or_shape s ss))) ts rest f.0 (present (choice 0 p)) f.1 (first_fits s ss f.0 p f.2)
+
+never : {A : Type 0} (o : Option Plain) → option_map present o ≡ Some absent → A
+never None e = absurd (cc)
+never (Some p) e = absurd (cc)
+
+null_fits : (s t : Shape) (d : Data) → read (maybe s) d ≡ Some absent → read (maybe t) d ≡ Some absent
+null_fits s t null e = refl
+null_fits s t (boolean b) e = never _ e
+null_fits s t (number n) e = never _ e
+null_fits s t (string b) e = never _ e
+null_fits s t (array ds) e = never _ e
+null_fits s t (object ms) e = never _ e
+
+-- null is null by any shape
+pub absent_here : (way : Way) (s t : Shape) (ts rest : List Token) → read_here way (maybe s) ts ≡ Some (absent, rest) → read_here way (maybe t) ts ≡ Some (absent, rest)
+absent_here way s t ts rest e =
+    let f = found_here way (maybe s) ts rest absent e in
+    read_of way (maybe t) ts rest f.0 absent f.1 (null_fits s t f.0 f.2)

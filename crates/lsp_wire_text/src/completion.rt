@@ -1,6 +1,6 @@
 // Completion items.
 use crate::names::{AdditionalTextEditsName, CommandName, CommitCharactersName, DataName, DeprecatedName, DetailName, DocumentationName, FilterTextName, InsertTextFormatName, InsertTextModeName, InsertTextName, KindName, LabelDetailsName, LabelName, NewTextName, PreselectName, RangeName, SortTextName, TagsName, TextEditName};
-use crate::record::{End, Omitted, Required, read_record};
+use crate::record::{End, Required, read_record};
 use crate::way::Way;
 use crate::wire_text::{WireText, write_by_value};
 use crate::written::{Member, MemberIfSome, write_record};
@@ -69,19 +69,12 @@ impl WireText for CompletionTextEdit {
     }
 }
 
-// The members of a completion item, in the order of its row, and in that of their names.
-type CompletionItemRead = Required<LabelName, String, Omitted<LabelDetailsName, CompletionItemLabelDetails, Omitted<KindName, CompletionItemKind, Omitted<DetailName, String, Omitted<DocumentationName, Documentation, Omitted<DeprecatedName, bool, Omitted<PreselectName, bool, Omitted<SortTextName, String, Omitted<FilterTextName, String, Omitted<InsertTextName, String, Omitted<InsertTextFormatName, InsertTextFormat, Omitted<InsertTextModeName, InsertTextMode, Omitted<TextEditName, CompletionTextEdit, Omitted<AdditionalTextEditsName, Vec<TextEdit>, Omitted<CommandName, Command, Omitted<CommitCharactersName, Vec<String>, Omitted<DataName, Value, Omitted<TagsName, Vec<CompletionItemTag>, End>>>>>>>>>>>>>>>>>>;
+// The members of a completion item, in the order of their names.
 type CompletionItemWritten<'v> = MemberIfSome<'v, AdditionalTextEditsName, Vec<TextEdit>, MemberIfSome<'v, CommandName, Command, MemberIfSome<'v, CommitCharactersName, Vec<String>, MemberIfSome<'v, DataName, Value, MemberIfSome<'v, DeprecatedName, bool, MemberIfSome<'v, DetailName, String, MemberIfSome<'v, DocumentationName, Documentation, MemberIfSome<'v, FilterTextName, String, MemberIfSome<'v, InsertTextName, String, MemberIfSome<'v, InsertTextFormatName, InsertTextFormat, MemberIfSome<'v, InsertTextModeName, InsertTextMode, MemberIfSome<'v, KindName, CompletionItemKind, Member<'v, LabelName, String, MemberIfSome<'v, LabelDetailsName, CompletionItemLabelDetails, MemberIfSome<'v, PreselectName, bool, MemberIfSome<'v, SortTextName, String, MemberIfSome<'v, TagsName, Vec<CompletionItemTag>, MemberIfSome<'v, TextEditName, CompletionTextEdit, End>>>>>>>>>>>>>>>>>>;
 
 #[tactic(auto, unfolding(lsp_lang_item::specs::Completion::completion_item_row, lsp_lang_item::specs::Completion::completion_item_fields))]
 impl WireText for CompletionItem {
-    fn read_from(way: Way, reader: &mut Reader<'_>) -> Result<Option<CompletionItem>, Unread> {
-        match read_record::<CompletionItemRead>(way, reader)? {
-            Some((label, (label_details, (kind, (detail, (documentation, (deprecated, (preselect, (sort_text, (filter_text, (insert_text, (insert_text_format, (insert_text_mode, (text_edit, (additional_text_edits, (command, (commit_characters, (payload, (tags, ()))))))))))))))))))) => Ok(Some(CompletionItem { label, label_details, kind, detail, documentation, deprecated, preselect, sort_text, filter_text, insert_text, insert_text_format, insert_text_mode, text_edit, additional_text_edits, command, commit_characters, payload, tags })),
-            None => Ok(None),
-        }
-    }
-
+    // Each is read by way of a `Value`: a record of 18 members takes the prover too much memory.
     fn write_to(&self, alloc: Global, out: &mut String) -> Result<(), NoMemory> {
         let all: CompletionItemWritten<'_> = MemberIfSome { name: PhantomData, value: &self.additional_text_edits, rest: MemberIfSome { name: PhantomData, value: &self.command, rest: MemberIfSome { name: PhantomData, value: &self.commit_characters, rest: MemberIfSome { name: PhantomData, value: &self.payload, rest: MemberIfSome { name: PhantomData, value: &self.deprecated, rest: MemberIfSome { name: PhantomData, value: &self.detail, rest: MemberIfSome { name: PhantomData, value: &self.documentation, rest: MemberIfSome { name: PhantomData, value: &self.filter_text, rest: MemberIfSome { name: PhantomData, value: &self.insert_text, rest: MemberIfSome { name: PhantomData, value: &self.insert_text_format, rest: MemberIfSome { name: PhantomData, value: &self.insert_text_mode, rest: MemberIfSome { name: PhantomData, value: &self.kind, rest: Member { name: PhantomData, value: &self.label, rest: MemberIfSome { name: PhantomData, value: &self.label_details, rest: MemberIfSome { name: PhantomData, value: &self.preselect, rest: MemberIfSome { name: PhantomData, value: &self.sort_text, rest: MemberIfSome { name: PhantomData, value: &self.tags, rest: MemberIfSome { name: PhantomData, value: &self.text_edit, rest: End } } } } } } } } } } } } } } } } } };
         write_record(alloc, out, &all)
