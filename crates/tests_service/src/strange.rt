@@ -43,8 +43,8 @@ impl Answering for Strange {
 
 // Nothing is offered, and the server has its client's name.
 fn namesake(alloc: Global, call: InitializeCall) -> Result<InitializeReply, NoMemory> {
-    let params = call.params(alloc)?;
-    let server_info = match params.client_info {
+    let client_info = call.params(alloc)?.client_info;
+    let server_info = match client_info {
         Some(client) => Some(ServerInfo {
             name: client.name,
             version: None,
