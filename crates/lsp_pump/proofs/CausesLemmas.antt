@@ -49,6 +49,41 @@ module _ (r0 r1 r2 w0 w1 w2 : ℕ) (exits : Bool) (e : Option ServeError) (kept 
   pump_faults NoMemory rose same counts others p = unfailed (same (λ is. cc)) (others (λ is. cc))
   pump_faults Full rose same counts others p = unfailed (same (λ is. cc)) (others (λ is. cc))
 
+-- an error of a step tells a write that failed
+write_told : (w0 w1 : ℕ) (e : ServeError) → IsInStep e → (LeavesSink e → w1 ≡ w0) → w0 < w1 → Some e ≡ Some WriteFault
+write_told w0 w1 ReadFault at left rose = absurd at
+write_told w0 w1 WriteFault at left rose = refl
+write_told w0 w1 ReadsSpent at left rose = absurd at
+write_told w0 w1 (DeskSpent n) at left rose = absurd (omega (arith, left tt, rose))
+write_told w0 w1 OutOfMemory at left rose = absurd (omega (arith, left tt, rose))
+
+-- where nothing was read, and steps failed or not
+pub unread_faults : {X B : Type 0} (faults_of : X → ℕ) (beside_of : X → B) (old new : X) (r : ℕ) (e : Option ServeError) → IfSome e IsInStep → LeavesFaults faults_of beside_of old new e → TellsFaults r r (faults_of old) (faults_of new) e
+unread_faults faults_of beside_of old new r None at p = record {
+  read = tt;
+  write = tt;
+  counts = (omega arith, p.count);
+  read_told = λ rose. absurd (omega (arith, rose));
+  write_told = λ rose. absurd (omega (arith, p.unfailed, rose));
+}
+unread_faults faults_of beside_of old new r (Some e) at p = record {
+  read = λ is. absurd (subst IsInStep is at);
+  write = p.write;
+  counts = (omega arith, p.count);
+  read_told = λ rose. absurd (omega (arith, rose));
+  write_told = write_told (faults_of old) (faults_of new) e at p.left;
+}
+
+-- where nothing was done, for another error
+pub idle_faults : (r w : ℕ) (e : ServeError) → e ≢ ReadFault → e ≢ WriteFault → TellsFaults r r w w (Some e)
+idle_faults r w e not_read not_write = record {
+  read = λ is. absurd (not_read is);
+  write = λ is. absurd (not_write is);
+  counts = (omega arith, omega arith);
+  read_told = λ rose. absurd (omega (arith, rose));
+  write_told = λ rose. absurd (omega (arith, rose));
+}
+
 -- where nothing is served after the steps beside the reading
 module _ {X B : Type 0} (faults_of : X → ℕ) (beside_of : X → B) (old new : X) (r0 r1 : ℕ) (exits : Bool) (counts : r0 ≤ r1) where
   pub exit_faults : exits ≡ true → LeavesFaults faults_of beside_of old new None → TellsPumpFaults r0 r1 (faults_of old) (faults_of new) exits None
@@ -68,19 +103,12 @@ module _ {X B : Type 0} (faults_of : X → ℕ) (beside_of : X → B) (old new :
     counts = (counts, p.count);
     read_told = λ _. inr at;
     at_end = λ _. tt;
-    write_told = told e at p.left;
+    write_told = write_told (faults_of old) (faults_of new) e at p.left;
   }
-    where
-      told : (e : ServeError) → IsInStep e → (LeavesSink e → faults_of new ≡ faults_of old) → faults_of old < faults_of new → Some e ≡ Some WriteFault
-      told ReadFault at left rose = absurd at
-      told WriteFault at left rose = refl
-      told ReadsSpent at left rose = absurd at
-      told (DeskSpent n) at left rose = absurd (omega (arith, left tt, rose))
-      told OutOfMemory at left rose = absurd (omega (arith, left tt, rose))
 
 -- ---- reads
 
-any_some : {A : Type 0} (o : Option A) (P : A → Type 0) → ((x : A) → P x) → IfSome o P
+pub any_some : {A : Type 0} (o : Option A) (P : A → Type 0) → ((x : A) → P x) → IfSome o P
 any_some None P p = tt
 any_some (Some x) P p = p x
 
@@ -102,6 +130,24 @@ within_read l0 l1 xs made reads e gives few most in_step = record {
     unspent : (k : Option ServeError) → IfSome k IsInStep → IfSome k (λ x. x ≡ ReadsSpent → IfSome l0 (λ bytes. IfSome l1 (λ rest. reads + length rest ≤ length bytes)))
     unspent None h = tt
     unspent (Some x) h = λ is. absurd (subst IsInStep is h)
+
+-- no reads
+pub within_none : (n : ℕ) (l : Option (List ℕ)) (e : ServeError) → (e ≡ ReadsSpent → n ≡ 0) → WithinReads n 4096 l l None None (Some e)
+within_none n l e none = record {
+  few = few l;
+  reads_spent = λ is. spent l (none is);
+  few_reads = tt;
+  all_reads = λ _. tt;
+  fewer_at_fault = λ _. tt;
+}
+  where
+    few : (l : Option (List ℕ)) → IfSome l (λ bytes. IfSome l (λ rest. length bytes ≤ length rest + n * 4096))
+    few None = tt
+    few (Some bytes) = omega arith
+
+    spent : (l : Option (List ℕ)) → n ≡ 0 → IfSome l (λ bytes. IfSome l (λ rest. n + length rest ≤ length bytes))
+    spent None is = tt
+    spent (Some bytes) is = omega (arith, is)
 
 -- reads, and those that were made after them
 pub within_on : (l0 l1 l2 : Option (List ℕ)) (xs : List ℕ) (made reads : ℕ) (ended : Ended) (e : Option ServeError) → Consumes l0 l1 xs → length xs ≤ made * 4096 → made ≤ reads → (LeavesReads ended → made ≤ length xs)

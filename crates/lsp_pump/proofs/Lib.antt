@@ -5,6 +5,7 @@ pub mod SessionLemmas
 pub mod ReadingLemmas
 pub mod PumpedLemmas
 pub mod CausesLemmas
+pub mod OnwardLemmas
 pub mod HandedBack
 pub mod PumpsSessionLemmas
 pub mod Crossing

@@ -2,7 +2,7 @@
 use Rattle.std.proofs.Common.{◌≡◌, ◌∙◌, ℕ, ap, sym, subst, inr}
 use Rattle.std.specs.Prelude.{◌⊎◌, Bool, Option, Some, None, Result, Ok, Err, IfOk, IfErr, IfSome, is_some}
 use Rattle.lsp_desk.specs.Meaning.{Meaning, IsLawfulDesk, Grown}
-use Rattle.lsp_frame.specs.Codec.{start_by}
+use Rattle.lsp_frame.specs.Codec.{At, start_by}
 use Rattle.lsp_session.specs.Semantics.{Semantics, IsLawfulHandlers}
 use Rattle.lsp_session.specs.Run.{Order}
 use Rattle.lsp_session.specs.Session.{SessionView}
@@ -11,7 +11,7 @@ use Rattle.lsp_server.specs.declared.server.Stopped.{Stopped}
 use Rattle.lsp_server.specs.declared.step.ServeError.{ServeError}
 use Rattle.lsp_server.specs.declared.step.ServeError.TheVariants.{ReadFault, WriteFault, NoMemory}
 use Rattle.lsp_server.specs.Items.{stream_items}
-use Rattle.lsp_server.specs.Course.{Course, Setting, codec_of, picked, course}
+use Rattle.lsp_server.specs.Course.{Course, Setting, codec_of, opening_view, picked, course, course_from}
 use Rattle.lsp_server.specs.Errors.{IsBetweenReads, IsFlushedAt, IsInStep, SaysSpent, ComesUnfailed}
 use Rattle.lsp_server.specs.Leaves.{StaysFlushed, WithinReads}
 use Rattle.lsp_server.specs.Served.{ServedView, handed_back}
@@ -79,6 +79,22 @@ module _ {H D C T P : Type 0} {semantics : Semantics H C T} (laws : IsLawfulHand
     part = tt;
     grown = subst (λ (v : ServedView H D). Grown m setting.desk v.desk) (sym is) p.grown;
     grown_stopped = tt;
+  }
+
+  -- where a session that has admitted nothing was pumped on
+  pub comes_to : (start : SessionView H D semantics.Call semantics.Task) (codec : At) → start ≡ opening_view setting → codec ≡ start_by (codec_of setting) → (error : Option ServeError)
+      → IfSome told.left (λ bytes. PumpsOver (course_from semantics m order setting.rounds codec.settings start setting.pick) codec (bytes_told told bytes) (picked view pick) view.desk error)
+      → Grown m start.desk view.desk → IfSome error (λ e. SaysSpent m view.desk e) → StaysFlushed told.taken told.flushed told.taken_after told.flushed_after error
+      → TellsPumpFaults told.reads_failed told.reads_failed_after told.writes_failed told.writes_failed_after (is_some view.state.exited) error → WithinReads reads 4096 told.left told.left_after None None error
+      → PumpComes error
+  comes_to start codec first fresh error pumps grown spent flushed faults within = record {
+    pumps = subst (λ (v : SessionView H D semantics.Call semantics.Task). IfSome told.left (λ bytes. PumpsOver (course_from semantics m order setting.rounds (codec_of setting) v setting.pick) (start_by (codec_of setting)) (bytes_told told bytes) (picked view pick) view.desk error)) first
+        (subst (λ k. IfSome told.left (λ bytes. PumpsOver (course_from semantics m order setting.rounds k.settings start setting.pick) k (bytes_told told bytes) (picked view pick) view.desk error)) fresh pumps);
+    grown = subst (λ (v : SessionView H D semantics.Call semantics.Task). Grown m v.desk view.desk) first grown;
+    spent = spent;
+    flushed = flushed;
+    faults = faults;
+    within = within;
   }
 
   module _ (error : ServeError) (p : PumpComes (Some error)) (stopped : Stopped D) (is : stopped.error ≡ error) (desk : stopped.desk ≡ view.desk) where

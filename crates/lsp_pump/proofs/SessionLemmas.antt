@@ -1,23 +1,22 @@
 -- One step more of a session.
-use Rattle.std.proofs.Common.{◌≡◌, ℕ, List, [], ◌∷◌, refl, sym, ◌∙◌, Bool, true, false}
+use Rattle.std.proofs.Common.{◌≡◌, ℕ, List, [], ◌∷◌, refl, sym, ◌∙◌, Bool, false}
 use Rattle.std.specs.Prelude.{Option, Some, None, is_some}
-use Rattle.lsp_rpc.specs.declared.code.ErrorCode.{ErrorCode}
 use Rattle.lsp_desk.specs.declared.desk.Caller.{Ghosts as CallerGhosts}
 use Rattle.lsp_desk.specs.declared.life.Life.{Life}
 use Rattle.lsp_desk.specs.declared.life.Life.TheVariants.{Exited}
 use Rattle.lsp_desk.specs.Meaning.{Meaning}
 use Rattle.lsp_session.specs.declared.handlers.Handlers.{Ghosts as HandlersGhosts}
 use Rattle.lsp_session.specs.declared.session.Session.{Session}
-use Rattle.lsp_session.specs.Item.{ItemData, fault}
+use Rattle.lsp_session.specs.Item.{ItemData}
 use Rattle.lsp_session.specs.Semantics.{Semantics, IsLawfulHandlers}
 use Rattle.lsp_session.specs.Run.{Order, Step, is_exit}
 use Rattle.lsp_session.specs.SessionView.{session_view}
-use Rattle.lsp_server.specs.ServerView.{standing, IsReady}
+use Rattle.lsp_server.specs.ServerView.{standing}
 use Rattle.lsp_server.specs.Written.{Ran}
 use Rattle.lsp_server.proofs.ItemsLemmas.{run_table}
 use Rattle.lsp_server.proofs.PointLemmas.{Point, find_at}
 use Rattle.lsp_server.proofs.RanLemmas.{ran_notes, ran_lives}
-use Rattle.lsp_pump.specs.Steps.{StepsMade, StandsAfter}
+use Rattle.lsp_pump.specs.Steps.{StepsMade, IsUnexited}
 
 none_of : (o : Option Life) → is_some o ≡ false → o ≡ None
 none_of None h = refl
@@ -34,16 +33,9 @@ module _ {H D C T P : Type 0} (semantics : Semantics H C T) (laws : IsLawfulHand
         → (exits : Bool) → is_some d.state.session.exited ≡ exits → is_exit (find_at semantics a) x ≡ exits
     noted_one d ran unexited exits is = sym (ran_notes semantics m order rounds laws a d x ran unexited) ∙ is
 
-    pub stands_one : {h : HandlersGhosts H D C T} {dg : CallerGhosts D} (session : Session H D C T h dg) (p : P) (taken : Option (List ℕ)) → Ran (Step semantics order rounds) m a (x ∷ []) (standing semantics m session p taken)
-        → a.state.session.exited ≡ None → (exits : Bool) → is_some (session_view semantics m session).state.exited ≡ exits → IsReady semantics m session
-        → (a.state.session.desk.life ≡ Exited → ⊥) → StandsAfter semantics m session exits
-    stands_one session p taken ran unexited true is ready lives = (ready, is)
-    stands_one session p taken ran unexited false is ready lives = record {
-      ready = ready;
+    pub unexited_one : {h : HandlersGhosts H D C T} {dg : CallerGhosts D} (session : Session H D C T h dg) (p : P) (taken : Option (List ℕ)) → Ran (Step semantics order rounds) m a (x ∷ []) (standing semantics m session p taken)
+        → a.state.session.exited ≡ None → (a.state.session.desk.life ≡ Exited → ⊥) → is_some (session_view semantics m session).state.exited ≡ false → IsUnexited semantics m session
+    unexited_one session p taken ran unexited lives is = record {
       unexited = none_of (session_view semantics m session).state.exited is;
       alive = ran_lives semantics m order rounds laws a (standing semantics m session p taken) x ran (noted_one (standing semantics m session p taken) ran unexited false is) lives;
     }
-
-  -- a fault is no exit
-  pub alive_fault : (code : ErrorCode) (b d : Point semantics D P) → Ran (Step semantics order rounds) m b (fault code ∷ []) d → (b.state.session.desk.life ≡ Exited → ⊥) → d.state.session.desk.life ≡ Exited → ⊥
-  alive_fault code b d ran lives = ran_lives semantics m order rounds laws b d (fault code) ran refl lives

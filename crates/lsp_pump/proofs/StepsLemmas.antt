@@ -1,6 +1,6 @@
 -- Steps of items with ticks between them, one after another.
 use Rattle.std.proofs.Common.{◌≡◌, ℕ, List, [], ◌∷◌, ◌++◌, refl, sym, ◌∙◌, ap, subst, arith, Bool, true, false}
-use Rattle.std.specs.Prelude.{◌||◌, Option, Result, Ok, Err, OnOk, OnErr}
+use Rattle.std.specs.Prelude.{◌||◌, Option, Some, Result, Ok, Err}
 use Rattle.std.specs.Result.{result_err}
 use Rattle.lsp_desk.specs.Meaning.{Meaning, Grown}
 use Rattle.lsp_session.specs.declared.table.Entry.{Entry}
@@ -8,15 +8,16 @@ use Rattle.lsp_session.specs.Item.{ItemData, tick}
 use Rattle.lsp_session.specs.Run.{is_exit, has_exit}
 use Rattle.lsp_session.specs.State.{Effect}
 use Rattle.lsp_server.specs.declared.step.ServeError.{ServeError}
+use Rattle.lsp_server.specs.declared.step.ServeError.TheVariants.{NoMemory}
 use Rattle.lsp_server.specs.Leaves.{LeavesFaults}
 use Rattle.lsp_server.specs.SourceSink.{CountRose}
 use Rattle.lsp_server.specs.Written.{Place, Ran, RanPart}
 use Rattle.lsp_server.proofs.KnownLemmas.{if_ok}
 use Rattle.lsp_server.proofs.ItemsLemmas.{has_exit-append, has_exit_same}
-use Rattle.lsp_server.proofs.RanLemmas.{grown_none, ran_none, ran_more, part_more, part_after, part_whole, ran_grown, grown_after}
+use Rattle.lsp_server.proofs.RanLemmas.{grown_none, ran_none, ran_more, part_more, part_after, part_whole, grown_after}
 use Rattle.lsp_server.proofs.TakingLemmas.{flushed_then}
 use Rattle.lsp_pump.specs.Spaced.{unticked, through_exit}
-use Rattle.lsp_pump.specs.Steps.{StepsMade, StepsBegun, StepsAnswered, Way, MakesSteps}
+use Rattle.lsp_pump.specs.Steps.{StepsMade, StepsBegun, StepsAnswered, Way, MayGoOn, StandsAfter, LeavesSteps, MakesSteps}
 use Rattle.lsp_pump.proofs.SpacedLemmas.{unticked-append, through-open, through-none, through-more, through_one, through_tick, through_same}
 
 or_false : (k : Bool) → (k || false) ≡ k
@@ -82,12 +83,6 @@ module _ {S D : Type 0} {step : S → ItemData → Effect → S → Type 0} {m :
     answered_more c (Ok exits) q = steps_more c exits q
     answered_more c (Err e) q = begun_more c.desk c.taken q
 
-module _ {S D : Type 0} {step : S → ItemData → Effect → S → Type 0} {m : Meaning D} where
-  -- the desk has grown by steps and by those after them, also where they failed
-  pub grown_on_any : {A : Type 0} (a b c : Place S D) (xs ys : List ItemData) → Ran step m a xs b → (r : Result A ServeError) → OnOk r (Ran step m b ys c) → OnErr r (Grown m b.desk c.desk) → Grown m a.desk c.desk
-  grown_on_any a b c xs ys p (Ok x) q grown = ran_grown a c (xs ++ ys) (ran_more a b c xs ys p q)
-  grown_on_any a b c xs ys p (Err e) q grown = grown_after a b c.desk xs p grown
-
 module _ {S D : Type 0} (step : S → ItemData → Effect → S → Type 0) (m : Meaning D) (find : List ℕ → Option Entry) where
   -- a tick is no item that came
   pub untick : (a b : Place S D) (items : List ItemData) (r : Result Bool ServeError) → StepsAnswered step m find a (items ++ tick ∷ []) r b → StepsAnswered step m find a items r b
@@ -113,6 +108,11 @@ leaves_more faults_of beside_of a b c (Err e) beside kept q = record {
   left = λ at. q.left at ∙ kept;
 }
 
+-- where it stands after a step, by whether that was an exit
+pub stands_by : {X S D B : Type 0} (way : Way X S D B) (x : X) → way.is_ready x → (exits : Bool) → way.has_exited x ≡ exits → (way.has_exited x ≡ false → way.is_unexited x) → StandsAfter way x exits
+stands_by way x ready true is unexited = (ready, is)
+stands_by way x ready false is unexited = record { ready = ready; unexited = unexited is }
+
 module _ {X S D B : Type 0} (way : Way X S D B) (rounds : ℕ) where
   abbrev find_of : X → List ℕ → Option Entry
   find_of a = way.table (way.place a).state
@@ -120,7 +120,7 @@ module _ {X S D B : Type 0} (way : Way X S D B) (rounds : ℕ) where
   abbrev Answers : X → List ItemData → Result Bool ServeError → X → Type 0
   Answers a items r b = StepsAnswered (way.step rounds) way.meaning (find_of a) (way.place a) items r (way.place b)
 
-  pub makes_none : (a : X) → way.stands a false → MakesSteps way rounds a [] (Ok false) a
+  pub makes_none : (a : X) → MayGoOn way a → MakesSteps way rounds a [] (Ok false) a
   makes_none a stands = record {
     answered = steps_none (find_of a) (way.place a);
     same = λ name. refl;
@@ -157,3 +157,20 @@ module _ {X S D B : Type 0} (way : Way X S D B) (rounds : ℕ) where
 
   pub makes_untick : (a b : X) (items : List ItemData) (r : Result Bool ServeError) → MakesSteps way rounds a (items ++ tick ∷ []) r b → MakesSteps way rounds a items r b
   makes_untick a b items r p = with_answer a b (items ++ tick ∷ []) items r p (untick (way.step rounds) way.meaning (find_of a) (way.place a) (way.place b) items r p.answered)
+
+  -- ---- what steps leave
+
+  pub leaves_of : (a b : X) (items : List ItemData) (r : Result Bool ServeError) → MakesSteps way rounds a items r b → LeavesSteps way a (result_err r) b
+  leaves_of a b items (Ok true) p = record { ready = p.stands.0; fails = tt; grown = p.grown; flushed = p.flushed; sink = p.sink }
+  leaves_of a b items (Ok false) p = record { ready = p.stands.ready; fails = tt; grown = p.grown; flushed = p.flushed; sink = p.sink }
+  leaves_of a b items (Err e) p = record { ready = tt; fails = p.fails; grown = p.grown; flushed = p.flushed; sink = p.sink }
+
+  -- where memory was short before any step
+  pub leaves_none : (a : X) → LeavesSteps way a (Some NoMemory) a
+  leaves_none a = record {
+    ready = tt;
+    fails = record { in_step = tt; spent = tt };
+    grown = grown_none way.meaning (way.place a).desk;
+    flushed = record { flushed = tt; flushed_at = λ bad. absurd bad };
+    sink = record { beside = refl; count = omega arith; write = λ is. absurd (cc); unfailed = tt; left = λ _. refl };
+  }

@@ -1,5 +1,5 @@
 -- The steps of items, with ticks between them.
-use Rattle.std.specs.Prelude.{◌≡◌, ◌≢◌, Bool, true, false, ℕ, List, Option, None, is_some, Result, Ok, Err, IfOk, IfErr}
+use Rattle.std.specs.Prelude.{◌≡◌, ◌≢◌, Bool, true, false, ℕ, List, [], ◌∷◌, Option, None, Result, Ok, Err, IfOk, IfErr, OnOk, OnErr, IfSome, IfNone}
 use Rattle.std.specs.Result.{result_err}
 use Rattle.lsp_desk.specs.declared.desk.Caller.{Ghosts as CallerGhosts}
 use Rattle.lsp_desk.specs.declared.life.Life.TheVariants.{Exited}
@@ -15,7 +15,6 @@ use Rattle.lsp_session.specs.State.{Effect}
 use Rattle.lsp_server.specs.declared.step.ServeError.{ServeError}
 use Rattle.lsp_server.specs.Errors.{IsInStep, SaysSpent}
 use Rattle.lsp_server.specs.Leaves.{LeavesFaults, StaysFlushed}
-use Rattle.lsp_server.specs.ServerView.{IsReady}
 use Rattle.lsp_server.specs.Written.{Place, Ran, RanPart}
 use Rattle.lsp_pump.specs.Spaced.{unticked, through_exit}
 
@@ -38,16 +37,10 @@ module _ {S D : Type 0} (step : S → ItemData → Effect → S → Type 0) (m :
   StepsAnswered a items (Ok exits) b = StepsMade a items exits b
   StepsAnswered a items (Err e) b = StepsBegun a items b.desk b.taken
 
--- a session between two steps in which no exit was admitted
-pub record MayGoOn {H D C T : Type 0} {h : HandlersGhosts H D C T} {d : CallerGhosts D} (semantics : Semantics H C T) (m : Meaning D) (session : Session H D C T h d) : Type 0 where
-  pub ready : IsReady semantics m session
+-- no exit was admitted to a session, and it lives
+pub record IsUnexited {H D C T : Type 0} {h : HandlersGhosts H D C T} {d : CallerGhosts D} (semantics : Semantics H C T) (m : Meaning D) (session : Session H D C T h d) : Type 0 where
   pub unexited : (session_view semantics m session).state.exited ≡ None
   pub alive : life_of m session ≢ Exited
-
--- where the session stands after steps, by whether an exit was among them
-abbrev pub StandsAfter : {H D C T : Type 0} {h : HandlersGhosts H D C T} {d : CallerGhosts D} → (semantics : Semantics H C T) → Meaning D → Session H D C T h d → Bool → Type 0
-StandsAfter semantics m session true = IsReady semantics m session × (is_some (session_view semantics m session).state.exited ≡ true)
-StandsAfter semantics m session false = MayGoOn semantics m session
 
 -- a step fails by these errors, and says that the desk is spent only where it is
 pub record FailsInStep {D : Type 0} (m : Meaning D) (desk : D) (error : ServeError) : Type 0 where
@@ -65,16 +58,44 @@ pub record Way (X S D B : Type 0) : Type 1 where
   pub flushed : X → Option ℕ
   pub faults : X → ℕ
   pub beside : X → B
+  -- it stands between two steps
+  pub is_ready : X → Type 0
+  -- no exit was admitted
+  pub is_unexited : X → Type 0
+  pub has_exited : X → Bool
+
+module _ {X S D B : Type 0} (way : Way X S D B) where
+  -- a step may be made
+  pub record MayGoOn (x : X) : Type 0 where
+    pub ready : way.is_ready x
+    pub unexited : way.is_unexited x
+
   -- where it stands after steps, by whether an exit was among them
-  pub stands : X → Bool → Type 0
+  abbrev pub StandsAfter : X → Bool → Type 0
+  StandsAfter x true = way.is_ready x × (way.has_exited x ≡ true)
+  StandsAfter x false = MayGoOn x
+
+  -- what steps leave, by the error that they answer, if any
+  pub record LeavesSteps (old : X) (error : Option ServeError) (new : X) : Type 0 where
+    pub ready : IfNone error (way.is_ready new)
+    pub fails : IfSome error (FailsInStep way.meaning (way.place new).desk)
+    pub grown : Grown way.meaning (way.place old).desk (way.place new).desk
+    pub flushed : StaysFlushed (way.place old).taken (way.flushed old) (way.place new).taken (way.flushed new) error
+    pub sink : LeavesFaults way.faults way.beside old new error
 
 module _ {X S D B : Type 0} (way : Way X S D B) (rounds : ℕ) where
   -- the steps of these items were made, and this was answered
   pub record MakesSteps (old : X) (items : List ItemData) (result : Result Bool ServeError) (new : X) : Type 0 where
     pub answered : StepsAnswered (way.step rounds) way.meaning (way.table (way.place old).state) (way.place old) items result (way.place new)
     pub same : IfOk result (λ _. (name : List ℕ) → way.table (way.place new).state name ≡ way.table (way.place old).state name)
-    pub stands : IfOk result (way.stands new)
+    pub stands : IfOk result (StandsAfter way new)
     pub fails : IfErr result (FailsInStep way.meaning (way.place new).desk)
     pub grown : Grown way.meaning (way.place old).desk (way.place new).desk
     pub flushed : StaysFlushed (way.place old).taken (way.flushed old) (way.place new).taken (way.flushed new) (result_err result)
     pub sink : LeavesFaults way.faults way.beside old new (result_err result)
+
+  -- the step of this item was made, or what was written begins its frames
+  pub record MakesStep (old : X) (item : ItemData) (result : Result Bool ServeError) (new : X) : Type 0 where
+    pub ran : OnOk result (Ran (way.step rounds) way.meaning (way.place old) (item ∷ []) (way.place new))
+    pub part : OnErr result (RanPart (way.step rounds) way.meaning (way.place old) (item ∷ []) (way.place new).desk (way.place new).taken)
+    pub makes : MakesSteps old (item ∷ []) result new

@@ -31,7 +31,7 @@ pub(crate) struct Reading<I> {
 }
 
 /// How a reading ended.
-#[derive(Clone, Copy, Debug, PartialEq, Eq)]
+#[derive(Clone, Copy)]
 pub(crate) enum Ended {
     /// A request was told whose method has the name `exit`. It may be no exit.
     Exit,

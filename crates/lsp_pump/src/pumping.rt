@@ -1,20 +1,19 @@
 //! A session that is served while a thread of its own reads.
-ghost use Rattle.std.specs.Prelude.{◌≡◌, ◌≤◌, [], ℕ, false, None, is_some, IfOk, IfErr, IfSome, OnOk};
+ghost use Rattle.std.specs.Prelude.{◌≡◌, ◌≤◌, [], false, IfOk, IfErr, OnOk};
 ghost use Rattle.std.specs.Result.{result_err};
 ghost use Rattle.rtrb.specs.Ring.{sent, received, IsPair, SameConsumer};
-ghost use Rattle.lsp_desk.specs.Meaning.{IsOpening, Grown};
-ghost use Rattle.lsp_frame.specs.Codec.{told_at};
+ghost use Rattle.lsp_desk.specs.Meaning.{IsOpening};
+ghost use Rattle.lsp_frame.specs.Codec.{told_at, start_by};
 ghost use Rattle.lsp_session.specs.Run.{order_by};
-ghost use Rattle.lsp_session.specs.SessionView.{session_view, desk_of};
-ghost use Rattle.lsp_server.specs.Course.{course, course_from, picked};
-ghost use Rattle.lsp_server.specs.Errors.{SaysSpent};
-ghost use Rattle.lsp_server.specs.Leaves.{StaysFlushed, WithinReads};
-ghost use Rattle.lsp_server.specs.Served.{call_bytes};
-ghost use Rattle.lsp_server.specs.ServerView.{IsReady, server_desk, setting};
+ghost use Rattle.lsp_session.specs.SessionView.{session_view, has_stopped};
+ghost use Rattle.lsp_session.specs.State.{opening_by};
+ghost use Rattle.lsp_server.specs.Course.{course};
+ghost use Rattle.lsp_server.specs.ServerView.{server_desk, server_limits, server_floats, concurrency, waiting, server_empty_params, setting, IsReady};
 ghost use Rattle.lsp_pump.specs.Pieces.{all_items};
-ghost use Rattle.lsp_pump.specs.Steps.{MakesSteps, MayGoOn};
+ghost use Rattle.lsp_pump.specs.Steps.{MakesSteps, MayGoOn, IsUnexited};
+ghost use Rattle.lsp_pump.specs.SeatWay.{seat_way};
 ghost use Rattle.lsp_pump.specs.Reading.{EndsBy, ReadAndServed, IsReadingOf};
-ghost use Rattle.lsp_pump.specs.Pumped.{PumpsOver, TellsPumpFaults};
+ghost use Rattle.lsp_pump.specs.Onward.{PumpsOn};
 ghost use Rattle.lsp_pump.specs.PumpsSession.{PumpsSession};
 
 use crate::job::{Ended, ReadEnd, Reading, read_job};
@@ -125,7 +124,7 @@ fn serve_beside<R: Threads + Wait, I: Source + Send + Drop + 'static, S: Steps>(
     reads: u64,
     rounds: u64,
 ) -> (Rest<I>, Result<bool, ServeError>)
-    requires going { S.way.stands steps.old false }
+    requires going { MayGoOn S.way steps.old }
     requires told { told_at reading.codec ≡ [] }
     requires fresh { sent reading.sender ≡ [] }
     requires pair { (received lines.pieces ≡ []) × IsPair reading.sender lines.pieces }
@@ -190,7 +189,7 @@ fn serve_started<R: Threads + Wait, I: Source + Send + Drop + 'static, S: Steps>
     reads: u64,
     rounds: u64,
 ) -> (ReadEnd<I>, Result<bool, ServeError>)
-    requires going { S.way.stands steps.old false }
+    requires going { MayGoOn S.way steps.old }
     requires told { told_at reading.codec ≡ [] }
     requires fresh { (sent reading.sender ≡ []) × (received pieces.old ≡ []) }
     ensures reading { IsReadingOf I.left I.faults reading reads result.0 }
@@ -205,6 +204,48 @@ fn serve_started<R: Threads + Wait, I: Source + Send + Drop + 'static, S: Steps>
             (handle.join(rt), served)
         }
         Err(end) => (end, Ok(false)),
+    }
+}
+
+// Makes the steps of all that comes of a codec and the source, which a thread of its own reads.
+fn pump_steps<R: Threads + Wait, I: Source + Send + Drop + 'static, S: Steps>(
+    rt: &R,
+    alloc: Global,
+    source: I,
+    codec: LanguageServerCodec,
+    steps: &mut S,
+    reads: u64,
+    rounds: u64,
+) -> (I, Result<(), ServeError>)
+    requires going { MayGoOn S.way steps.old }
+    requires told { told_at codec ≡ [] }
+    ensures comes { PumpsOn S.way I.left I.faults rounds reads codec source steps.old
+        (result_err result.1) result.0 steps.new }
+    ensures tied { S.tied steps.new ≡ S.tied steps.old }
+{
+    let Ok((sender, lines)) = make_lines(alloc) else {
+        return (source, Err(ServeError::NoMemory));
+    };
+    let reading = Reading {
+        source,
+        codec,
+        sender,
+    };
+    let (rest, served) = serve_beside(rt, alloc, reading, lines, steps, reads, rounds);
+    let Rest {
+        mut source,
+        mut codec,
+        made,
+        ended,
+    } = rest;
+    match served {
+        Ok(false) => {
+            let left = reads - made;
+            let finished = finish(steps, &mut source, &mut codec, ended, left, rounds);
+            (source, finished)
+        }
+        Ok(true) => (source, Ok(())),
+        Err(error) => (source, Err(error)),
     }
 }
 
@@ -227,57 +268,46 @@ fn pump_session<
     reads: u64,
     rounds: u64,
 ) -> (I, Result<(), ServeError>)
-    requires going { MayGoOn H.semantics D.meaning seat.old.held.now.session }
+    requires ready { IsReady H.semantics D.meaning seat.old.held.now.session }
+    requires unexited { IsUnexited H.semantics D.meaning seat.old.held.now.session }
     requires told { told_at codec ≡ [] }
-    ensures pumps { IfSome (I.left source) (λ bytes. PumpsOver
-        (course_from H.semantics D.meaning (order_by P.gives P.later) rounds codec.settings
-        (session_view H.semantics D.meaning seat.old.held.now.session) (P.state seat.old.pick.now))
-        codec
-        (call_bytes bytes (I.left result.0) (O.taken seat.old.sink.now) (O.taken seat.new.sink.now))
-        (picked (session_view H.semantics D.meaning seat.new.held.now.session)
-        (P.state seat.new.pick.now))
-        (desk_of seat.new.held.now.session) (result_err result.1)) }
+    ensures comes { PumpsOn (seat_way H.semantics D.meaning (order_by P.gives P.later) P.state
+        O.taken O.flushed O.faults O.beside) I.left I.faults rounds reads codec source seat.old
+        (result_err result.1) result.0 seat.new }
     ensures ready { OnOk result.1 (IsReady H.semantics D.meaning seat.new.held.now.session) }
-    ensures grown { Grown D.meaning (desk_of seat.old.held.now.session)
-        (desk_of seat.new.held.now.session) }
-    ensures desk_spent { IfErr result.1
-        (λ e. SaysSpent D.meaning (desk_of seat.new.held.now.session) e) }
-    ensures flushed { StaysFlushed (O.taken seat.old.sink.now) (O.flushed seat.old.sink.now)
-        (O.taken seat.new.sink.now) (O.flushed seat.new.sink.now) (result_err result.1) }
-    ensures faults { TellsPumpFaults (I.faults source) (I.faults result.0)
-        (O.faults seat.old.sink.now) (O.faults seat.new.sink.now)
-        (is_some (session_view H.semantics D.meaning seat.new.held.now.session).state.exited)
-        (result_err result.1) }
-    ensures within { WithinReads reads 4096 (I.left source) (I.left result.0) None None
-        (result_err result.1) }
     ensures same_sink { seat.new.sink.ghost_name ≡ seat.old.sink.ghost_name }
     ensures same_held { seat.new.held.ghost_name ≡ seat.old.held.ghost_name }
     ensures same_pick { seat.new.pick.ghost_name ≡ seat.old.pick.ghost_name }
 {
-    let Ok((sender, lines)) = make_lines(seat.alloc) else {
-        return (source, Err(ServeError::NoMemory));
-    };
-    let reading = Reading {
-        source,
-        codec,
-        sender,
-    };
-    let (rest, served) = serve_beside(rt, seat.alloc, reading, lines, seat, reads, rounds);
-    let Rest {
-        mut source,
-        mut codec,
-        made,
-        ended,
-    } = rest;
-    match served {
-        Ok(false) => {
-            let left = reads - made;
-            let finished = finish(seat, &mut source, &mut codec, ended, left, rounds);
-            (source, finished)
-        }
-        Ok(true) => (source, Ok(())),
-        Err(error) => (source, Err(error)),
-    }
+    pump_steps(rt, seat.alloc, source, codec, seat, reads, rounds)
+}
+
+// The codec of a server, and the session that it serves with.
+fn open_server<H: Handlers<D>, D: Desk + Drop>(
+    alloc: Global,
+    server: Server<D>,
+    service: H,
+) -> (LanguageServerCodec, Session<H, D>)
+    requires opening { IsOpening D.meaning (server_desk server) }
+    ensures codec { result.0 ≡ start_by (record {
+      limits = server_limits server;
+      floats = server_floats server;
+    }) }
+    ensures view { session_view H.semantics D.meaning result.1 ≡ record {
+      desk = server_desk server;
+      state = opening_by service (concurrency server) (waiting server) (server_empty_params server);
+      out = [];
+    } }
+    ensures running { has_stopped result.1 ≡ false }
+{
+    let settings = server.codec_settings();
+    let empty_params = server.allows_empty_params();
+    let (socket, max, wait, limits) = server.into_parts();
+    let floats = settings.floats;
+    let codec = LanguageServerCodec::with_settings(alloc, CodecSettings { limits, floats });
+    let desk = socket.into_desk();
+    let session = open(alloc, service, desk, max, wait, empty_params);
+    (codec, session)
 }
 
 /// Serves the messages of the source to the sink, to the end of input or the first `exit`, as
@@ -325,14 +355,9 @@ pub fn pump<
           writes_failed_after = O.faults sink.new;
         }) reads (P.state pick.new) result.1 }
 {
-    let settings = server.codec_settings();
-    let empty_params = server.allows_empty_params();
-    let (socket, max, wait, limits) = server.into_parts();
-    let floats = settings.floats;
-    let codec = LanguageServerCodec::with_settings(alloc, CodecSettings { limits, floats });
-    let desk = socket.into_desk();
+    let (codec, session) = open_server(alloc, server, service);
     let mut held = Held {
-        session: open(alloc, service, desk, max, wait, empty_params),
+        session,
         room: BytesMut::new(alloc),
     };
     let mut seat = Seat {

@@ -1,22 +1,16 @@
 // The steps of a session beside a reading thread.
-ghost use Rattle.std.specs.Prelude.{◌≡◌, ◌≢◌, ◌++◌, [], ◌∷◌, ℕ, List, Some, None, false, Err, IfErr, IfSome, OnOk};
+ghost use Rattle.std.specs.Prelude.{◌≡◌, ◌++◌, [], ◌∷◌, ℕ, List, false};
 ghost use Rattle.std.specs.Result.{result_err};
 ghost use Rattle.rtrb.specs.Ring.{received, known_items, SameConsumer};
-ghost use Rattle.lsp_desk.specs.Meaning.{Grown};
 ghost use Rattle.lsp_frame.specs.Codec.{told_at};
 ghost use Rattle.lsp_session.specs.Item.{ItemData, show_item, item_has_float};
-ghost use Rattle.lsp_session.specs.Run.{Step, Picked, order_by};
-ghost use Rattle.lsp_session.specs.SessionView.{session_view, desk_of};
+ghost use Rattle.lsp_session.specs.Run.{Picked, order_by};
 ghost use Rattle.lsp_session.specs.State.{State};
-ghost use Rattle.lsp_server.specs.Course.{course_from, picked};
-ghost use Rattle.lsp_server.specs.Errors.{SaysSpent};
-ghost use Rattle.lsp_server.specs.Leaves.{LeavesFaults, StaysFlushed, TellsFaults, WithinReads};
-ghost use Rattle.lsp_server.specs.Served.{call_bytes};
-ghost use Rattle.lsp_server.specs.ServesOn.{ServesOn};
-ghost use Rattle.lsp_server.specs.ServerView.{standing, IsReady};
 ghost use Rattle.lsp_pump.specs.Pieces.{piece_items, all_items, back_items, ItemsAreFloatFree};
-ghost use Rattle.lsp_pump.specs.Steps.{Way, MakesSteps, MayGoOn, StandsAfter, FailsInStep};
-ghost use Rattle.lsp_pump.specs.Reading.{KeepsAllBytes, LeavesReads};
+ghost use Rattle.lsp_pump.specs.Steps.{Way, MakesStep, MakesSteps, MayGoOn};
+ghost use Rattle.lsp_pump.specs.SeatWay.{seat_way};
+ghost use Rattle.lsp_pump.specs.Reading.{KeepsAllBytes};
+ghost use Rattle.lsp_pump.specs.Onward.{GoesOn, Finishes, ServesEnd};
 
 use crate::job::Ended;
 use crate::pieces::Pieces;
@@ -50,9 +44,23 @@ pub(crate) trait Steps {
 
     /// Makes the step of an item, and says whether it was an exit.
     fn make_step(&mut self, item: Item, rounds: u64) -> Result<bool, ServeError>
-        requires going { way.stands self.old false }
+        requires going { MayGoOn way self.old }
         requires float_free { item_has_float (show_item item) ≡ false }
-        ensures makes { MakesSteps way rounds self.old (show_item item ∷ []) result self.new }
+        ensures makes { MakesStep way rounds self.old (show_item item) result self.new }
+        ensures tied { tied self.new ≡ tied self.old };
+
+    /// Serves on from source and codec, to the end of input or the first exit.
+    fn serve_on<I: Source>(
+        &mut self,
+        source: &mut I,
+        codec: &mut LanguageServerCodec,
+        reads: u64,
+        rounds: u64,
+    ) -> Result<(), ServeError>
+        requires going { MayGoOn way self.old }
+        requires told { told_at codec.old ≡ [] }
+        ensures goes { GoesOn way I.left I.faults rounds reads codec.old source.old self.old
+            (result_err result) source.new self.new }
         ensures tied { tied self.new ≡ tied self.old };
 }
 
@@ -80,17 +88,8 @@ impl<'a, 'b, 'c, O: Sink, D: Desk + Drop, H: Handlers<D>, P: Pick> Steps
 
     ghost Beside = { O.Beside };
 
-    ghost way = { record {
-      step = λ n. Step H.semantics (order_by P.gives P.later) n;
-      meaning = D.meaning;
-      table = λ state. H.semantics.find state.session.service;
-      place = λ s. standing H.semantics D.meaning s.held.now.session (P.state s.pick.now)
-          (O.taken s.sink.now);
-      flushed = λ s. O.flushed s.sink.now;
-      faults = λ s. O.faults s.sink.now;
-      beside = λ s. O.beside s.sink.now;
-      stands = λ s. StandsAfter H.semantics D.meaning s.held.now.session;
-    } };
+    ghost way = { seat_way H.semantics D.meaning (order_by P.gives P.later) P.state
+        O.taken O.flushed O.faults O.beside };
 
     // Which sink, session and pick they are.
     ghost Tied = { (ℕ × ℕ) × ℕ };
@@ -112,11 +111,34 @@ impl<'a, 'b, 'c, O: Sink, D: Desk + Drop, H: Handlers<D>, P: Pick> Steps
             Err(error) => Err(error),
         }
     }
+
+    fn serve_on<I: Source>(
+        &mut self,
+        source: &mut I,
+        codec: &mut LanguageServerCodec,
+        reads: u64,
+        rounds: u64,
+    ) -> Result<(), ServeError> {
+        let held = &mut *self.held;
+        let mut ends = Ends {
+            source,
+            sink: self.sink,
+        };
+        serve_from(
+            self.alloc,
+            &mut ends,
+            codec,
+            &mut held.session,
+            self.pick,
+            reads,
+            rounds,
+        )
+    }
 }
 
 // Makes the steps of the items of a piece, through the first exit, and says whether there was one.
 fn serve_piece<S: Steps>(steps: &mut S, piece: Vec<Item>, rounds: u64) -> Result<bool, ServeError>
-    requires going { S.way.stands steps.old false }
+    requires going { MayGoOn S.way steps.old }
     requires float_free { ItemsAreFloatFree (piece_items piece) }
     ensures makes { MakesSteps S.way rounds steps.old (piece_items piece) result steps.new }
     ensures tied { S.tied steps.new ≡ S.tied steps.old }
@@ -137,7 +159,7 @@ fn serve_tick<R: Wait, S: Steps>(
     signal: &Signal,
     rounds: u64,
 ) -> Result<bool, ServeError>
-    requires going { S.way.stands steps.old false }
+    requires going { MayGoOn S.way steps.old }
     ensures makes { MakesSteps S.way rounds steps.old [] result steps.new }
     ensures tied { S.tied steps.new ≡ S.tied steps.old }
 {
@@ -161,7 +183,7 @@ fn serve_next<R: Wait, S: Steps>(
     signal: &Signal,
     rounds: u64,
 ) -> Result<bool, ServeError>
-    requires going { S.way.stands steps.old false }
+    requires going { MayGoOn S.way steps.old }
     ensures makes { (items : List ItemData)
         × (all_items (received pieces.new) ≡ all_items (received pieces.old) ++ items)
         × MakesSteps S.way rounds steps.old items result steps.new }
@@ -184,7 +206,7 @@ pub(crate) fn serve_waiting<R: Wait, S: Steps>(
     signal: &Signal,
     rounds: u64,
 ) -> Result<bool, ServeError>
-    requires going { S.way.stands steps.old false }
+    requires going { MayGoOn S.way steps.old }
     requires none { received pieces.old ≡ [] }
     ensures makes { MakesSteps S.way rounds steps.old (all_items (received pieces.new)) result
         steps.new }
@@ -210,7 +232,7 @@ pub(crate) fn serve_rest<S: Steps>(
     back: Option<Vec<Item>>,
     rounds: u64,
 ) -> Result<bool, ServeError>
-    requires going { S.way.stands steps.old false }
+    requires going { MayGoOn S.way steps.old }
     requires float_free { ItemsAreFloatFree (back_items back) }
     ensures makes { MakesSteps S.way rounds steps.old
         (all_items (known_items pieces.old) ++ back_items back) result steps.new }
@@ -231,7 +253,7 @@ fn serve_known<S: Steps>(
     pieces: &mut Pieces,
     rounds: u64,
 ) -> Result<bool, ServeError>
-    requires going { S.way.stands steps.old false }
+    requires going { MayGoOn S.way steps.old }
     ensures makes { MakesSteps S.way rounds steps.old (all_items (known_items pieces.old)) result
         steps.new }
     ensures tied { S.tied steps.new ≡ S.tied steps.old }
@@ -247,112 +269,49 @@ fn serve_known<S: Steps>(
 
 /// Serves what comes after all that a reading gave: on from source and codec, where reading hasn't
 /// ended; the end of input; or the error by which it ended.
-pub(crate) fn finish<'a, 'b, 'c, I: Source, O: Sink, D: Desk + Drop, H: Handlers<D>, P: Pick>(
-    seat: &mut Seat<'a, 'b, 'c, O, Session<H, D>, P>,
+pub(crate) fn finish<I: Source, S: Steps>(
+    steps: &mut S,
     source: &mut I,
     codec: &mut LanguageServerCodec,
     ended: Ended,
     reads: u64,
     rounds: u64,
 ) -> Result<(), ServeError>
-    requires going { MayGoOn H.semantics D.meaning seat.old.held.now.session }
+    requires going { MayGoOn S.way steps.old }
     requires told { KeepsAllBytes ended → told_at codec.old ≡ [] }
-    requires spent { ended ≡ Ended.Spent → reads ≡ 0 }
-    ensures serves { KeepsAllBytes ended
-        → (ended ≡ Ended.End → IfSome (I.left source.old) (λ bytes. bytes ≡ []))
-        → IfSome (I.left source.old) (λ bytes. ServesOn
-        (course_from H.semantics D.meaning (order_by P.gives P.later) rounds codec.old.settings
-        (session_view H.semantics D.meaning seat.old.held.now.session) (P.state seat.old.pick.now))
-        codec.old
-        (call_bytes bytes (I.left source.new) (O.taken seat.old.sink.now)
-        (O.taken seat.new.sink.now))
-        (picked (session_view H.semantics D.meaning seat.new.held.now.session)
-        (P.state seat.new.pick.now))
-        (desk_of seat.new.held.now.session) (result_err result)) }
-    ensures no_memory { ended ≡ Ended.NoMemory → (result ≡ Err ServeError.NoMemory)
-        × (seat.new ≡ seat.old) }
-    ensures ready { OnOk result (IsReady H.semantics D.meaning seat.new.held.now.session) }
-    ensures grown { Grown D.meaning (desk_of seat.old.held.now.session)
-        (desk_of seat.new.held.now.session) }
-    ensures desk_spent { IfErr result
-        (λ e. SaysSpent D.meaning (desk_of seat.new.held.now.session) e) }
-    ensures flushed { StaysFlushed (O.taken seat.old.sink.now) (O.flushed seat.old.sink.now)
-        (O.taken seat.new.sink.now) (O.flushed seat.new.sink.now) (result_err result) }
-    ensures faults { ended ≢ Ended.Failed → TellsFaults (I.faults source.old) (I.faults source.new)
-        (O.faults seat.old.sink.now) (O.faults seat.new.sink.now) (result_err result) }
-    ensures failed { ended ≡ Ended.Failed → (result ≡ Err ServeError.ReadFault)
-        × (source.new ≡ source.old) × (seat.new ≡ seat.old) }
-    ensures within { WithinReads reads 4096 (I.left source.old) (I.left source.new) None None
-        (result_err result) }
-    ensures left { IfErr result (λ e. e ≡ ServeError.ReadsSpent → LeavesReads ended) }
-    ensures same_sink { seat.new.sink.ghost_name ≡ seat.old.sink.ghost_name }
-    ensures same_held { seat.new.held.ghost_name ≡ seat.old.held.ghost_name }
-    ensures same_pick { seat.new.pick.ghost_name ≡ seat.old.pick.ghost_name }
+    ensures finishes { Finishes S.way I.left I.faults rounds reads codec.old source.old steps.old
+        (result_err result) source.new steps.new ended }
+    ensures tied { S.tied steps.new ≡ S.tied steps.old }
 {
-    let held = &mut *seat.held;
     match ended {
-        Ended::End => serve_end(
-            seat.alloc,
-            &mut held.room,
-            codec,
-            seat.sink,
-            &mut held.session,
-            seat.pick,
-            rounds,
-        ),
+        Ended::End => {
+            serve_end(steps, codec, rounds)?;
+            Ok(())
+        }
         Ended::Failed => Err(ServeError::ReadFault),
         Ended::Spent => Err(ServeError::ReadsSpent),
         Ended::NoMemory => Err(ServeError::NoMemory),
-        Ended::Exit | Ended::Full => {
-            let mut ends = Ends {
-                source,
-                sink: seat.sink,
-            };
-            serve_from(
-                seat.alloc,
-                &mut ends,
-                codec,
-                &mut held.session,
-                seat.pick,
-                reads,
-                rounds,
-            )
-        }
+        Ended::Exit | Ended::Full => steps.serve_on(source, codec, reads, rounds),
     }
 }
 
 // Makes the steps of the end of input: that of the fault of an input that ends inside a frame, and
-// a tick.
-fn serve_end<O: Sink, D: Desk + Drop, H: Handlers<D>, P: Pick>(
-    alloc: Global,
-    room: &mut BytesMut,
+// a tick. It says whether there was an exit, as all of these do: there is none.
+fn serve_end<S: Steps>(
+    steps: &mut S,
     codec: &mut LanguageServerCodec,
-    sink: &mut O,
-    session: &mut Session<H, D>,
-    pick: &mut P,
     rounds: u64,
-) -> Result<(), ServeError>
-    requires going { MayGoOn H.semantics D.meaning session.old }
+) -> Result<bool, ServeError>
+    requires going { MayGoOn S.way steps.old }
     requires told { told_at codec.old ≡ [] }
-    ensures serves { ServesOn
-        (course_from H.semantics D.meaning (order_by P.gives P.later) rounds codec.old.settings
-        (session_view H.semantics D.meaning session.old) (P.state pick.old)) codec.old
-        (call_bytes [] (Some []) (O.taken sink.old) (O.taken sink.new))
-        (picked (session_view H.semantics D.meaning session.new) (P.state pick.new))
-        (desk_of session.new) (result_err result) }
-    ensures ready { OnOk result (IsReady H.semantics D.meaning session.new) }
-    ensures fails { IfErr result (FailsInStep D.meaning (desk_of session.new)) }
-    ensures grown { Grown D.meaning (desk_of session.old) (desk_of session.new) }
-    ensures flushed { StaysFlushed (O.taken sink.old) (O.flushed sink.old)
-        (O.taken sink.new) (O.flushed sink.new) (result_err result) }
-    ensures sink { LeavesFaults O.faults O.beside sink.old sink.new (result_err result) }
+    ensures ends { ServesEnd S.way rounds codec.old steps.old (result_err result) steps.new }
+    ensures tied { S.tied steps.new ≡ S.tied steps.old }
 {
     match codec.finish()? {
         Some(fault) => {
-            let item = Item::Fault(fault.code());
-            serve_item(alloc, room, sink, session, item, pick, rounds)?;
-            serve_item(alloc, room, sink, session, Item::Tick, pick, rounds)
+            steps.make_step(Item::Fault(fault.code()), rounds)?;
+            steps.make_step(Item::Tick, rounds)
         }
-        None => serve_item(alloc, room, sink, session, Item::Tick, pick, rounds),
+        None => steps.make_step(Item::Tick, rounds),
     }
 }

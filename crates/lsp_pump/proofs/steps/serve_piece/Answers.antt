@@ -27,7 +27,7 @@ items-preserved g c =
     let x = show_item c.in-Some.item in
     let rest = map show_item c.pop_front.new.self.items in
     let here : map show_item c.items.rest.items ≡ x ∷ rest = ap (map show_item) c.in-Some.ensures.items in
-    let makes : MakesSteps way c.args.rounds c.items.steps (x ∷ []) (Ok false) c.make_step.new.self = rw c.if-branch.false at c.in_ok-make_step.ensures.makes in
+    let makes : MakesSteps way c.args.rounds c.items.steps (x ∷ []) (Ok false) c.make_step.new.self = rw c.if-branch.false at c.in_ok-make_step.ensures.makes.makes in
     record {
       made = (
         inv.made.0 ++ x ∷ [],
@@ -52,7 +52,7 @@ returns-in_err-make_step-clause-makes g c =
     let made : MakesSteps way c.args.rounds a (piece_items c.args.piece) (Err e) b =
     subst (λ (l : List ItemData). MakesSteps way c.args.rounds a l (Err e) b) whole
     (makes_failed way c.args.rounds a b (inv.made.0 ++ x ∷ []) rest e
-    (makes_more way c.args.rounds a c.items.steps b inv.made.0 (x ∷ []) (Err e) inv.made.2 c.in_err-make_step.ensures.makes)) in
+    (makes_more way c.args.rounds a c.items.steps b inv.made.0 (x ∷ []) (Err e) inv.made.2 c.in_err-make_step.ensures.makes.makes)) in
     search rules
 
 pub returns-then-branch-clause-makes : goal.returns-then-branch-clause-makes
@@ -66,4 +66,4 @@ returns-then-branch-clause-makes g c =
     let b = c.make_step.new.self in
     subst (λ (l : List ItemData). MakesSteps way c.args.rounds a l (Ok true) b) whole
     (makes_ended way c.args.rounds a b (inv.made.0 ++ x ∷ []) rest
-    (makes_more way c.args.rounds a c.items.steps b inv.made.0 (x ∷ []) (Ok true) inv.made.2 (rw c.if-branch.true at c.in_ok-make_step.ensures.makes)))
+    (makes_more way c.args.rounds a c.items.steps b inv.made.0 (x ∷ []) (Ok true) inv.made.2 (rw c.if-branch.true at c.in_ok-make_step.ensures.makes.makes)))

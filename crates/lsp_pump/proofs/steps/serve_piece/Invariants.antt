@@ -3,13 +3,13 @@ use Rattle.std.proofs.Common.{◌≡◌, List, ◌++◌, map, length, false}
 use Rattle.std.specs.Prelude.{Ok}
 use Rattle.lsp_session.specs.Item.{ItemData, show_item}
 use Rattle.lsp_pump.specs.Pieces.{piece_items, ItemsAreFloatFree}
-use Rattle.lsp_pump.specs.Steps.{MakesSteps}
+use Rattle.lsp_pump.specs.Steps.{MakesSteps, MayGoOn}
 use Rattle.lsp_pump.proofs.steps.serve_piece.Given as goal
 
 abbrev pub invariant-items : goal.invariant-items
 invariant-items g l = record {
   made : (first : List ItemData) × (first ++ map show_item l.rest.items ≡ piece_items l.fn.piece) × MakesSteps g.S.Steps.way l.fn.rounds l.initial.steps first (Ok false) l.steps;
-  going : g.S.Steps.way.stands l.steps false;
+  going : MayGoOn g.S.Steps.way l.steps;
   free : ItemsAreFloatFree (map show_item l.rest.items);
   tied : g.S.Steps.tied l.steps ≡ g.S.Steps.tied l.initial.steps;
 }

@@ -3,13 +3,13 @@ use Rattle.std.proofs.Common.{◌≡◌, false}
 use Rattle.std.specs.Prelude.{Ok}
 use Rattle.rtrb.specs.Ring.{received, SameConsumer}
 use Rattle.lsp_pump.specs.Pieces.{all_items}
-use Rattle.lsp_pump.specs.Steps.{MakesSteps}
+use Rattle.lsp_pump.specs.Steps.{MakesSteps, MayGoOn}
 use Rattle.lsp_pump.proofs.steps.serve_waiting.Given as goal
 
 abbrev pub invariant-loop : goal.invariant-loop
 invariant-loop g l = record {
   made : MakesSteps g.S.Steps.way l.fn.rounds l.initial.steps (all_items (received l.pieces)) (Ok false) l.steps;
   ring : SameConsumer l.initial.pieces l.pieces;
-  going : g.S.Steps.way.stands l.steps false;
+  going : MayGoOn g.S.Steps.way l.steps;
   tied : g.S.Steps.tied l.steps ≡ g.S.Steps.tied l.initial.steps;
 }

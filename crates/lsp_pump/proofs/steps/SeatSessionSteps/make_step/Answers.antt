@@ -7,8 +7,9 @@ use Rattle.lsp_session.specs.SessionView.{session_view}
 use Rattle.lsp_server.specs.ServerView.{standing}
 use Rattle.lsp_server.proofs.PointLemmas.{find_at}
 use Rattle.lsp_server.proofs.RanLemmas.{ran_grown}
-use Rattle.lsp_pump.proofs.StepsLemmas.{steps_one, begun_one}
-use Rattle.lsp_pump.proofs.SessionLemmas.{table_after, noted_one, stands_one}
+use Rattle.lsp_pump.specs.SeatWay.{seat_way}
+use Rattle.lsp_pump.proofs.StepsLemmas.{steps_one, begun_one, stands_by}
+use Rattle.lsp_pump.proofs.SessionLemmas.{table_after, noted_one, unexited_one}
 use Rattle.lsp_pump.proofs.steps.SeatSessionSteps.make_step.Goals as goal
 
 pub returns-in-Ok-clause-makes : goal.returns-in-Ok-clause-makes
@@ -24,15 +25,19 @@ returns-in-Ok-clause-makes g c =
     let ready = rw c.in-Ok.is at c.serve_item.ensures.ready in
     let sink = rw c.in-Ok.is at c.serve_item.ensures.sink in
     let noted : is_some (session_view sem m c.serve_item.new.session).state.exited ≡ c.is_some.result = search rules in
-    let made = steps_one (find_at sem a) a d x c.is_some.result (noted_one sem g.met.H.Handlers.laws m order c.args.rounds a x d ran c.requires.going.unexited c.is_some.result noted) ran in
+    let made = steps_one (find_at sem a) a d x c.is_some.result (noted_one sem g.met.H.Handlers.laws m order c.args.rounds a x d ran c.requires.going.unexited.unexited c.is_some.result noted) ran in
     record {
-      answered = made;
-      same = table_after sem g.met.H.Handlers.laws m order c.args.rounds a d (x ∷ []) c.is_some.result made;
-      stands = stands_one sem g.met.H.Handlers.laws m order c.args.rounds a x c.serve_item.new.session (g.P.Pick.state c.serve_item.new.pick) (g.O.Sink.taken c.serve_item.new.sink) ran c.requires.going.unexited c.is_some.result noted ready c.requires.going.alive;
-      fails = tt;
-      grown = ran_grown a d (x ∷ []) ran;
-      flushed = rw c.in-Ok.is at c.serve_item.ensures.flushed;
-      sink = record { beside = sink.beside; count = sink.count; write = sink.write; unfailed = sink.unfailed; left = sink.left };
+      ran = ran;
+      part = tt;
+      makes = record {
+        answered = made;
+        same = table_after sem g.met.H.Handlers.laws m order c.args.rounds a d (x ∷ []) c.is_some.result made;
+        stands = stands_by (seat_way sem m order g.P.Pick.state g.O.Sink.taken g.O.Sink.flushed g.O.Sink.faults g.O.Sink.beside) _ ready c.is_some.result noted (unexited_one sem g.met.H.Handlers.laws m order c.args.rounds a x c.serve_item.new.session (g.P.Pick.state c.serve_item.new.pick) (g.O.Sink.taken c.serve_item.new.sink) ran c.requires.going.unexited.unexited c.requires.going.unexited.alive);
+        fails = tt;
+        grown = ran_grown a d (x ∷ []) ran;
+        flushed = rw c.in-Ok.is at c.serve_item.ensures.flushed;
+        sink = record { beside = sink.beside; count = sink.count; write = sink.write; unfailed = sink.unfailed; left = sink.left };
+      };
     }
 
 pub returns-in-Err-clause-makes : goal.returns-in-Err-clause-makes
@@ -43,12 +48,23 @@ returns-in-Err-clause-makes g c =
     let a = standing sem m seat.held.now.session (g.P.Pick.state seat.pick.now) (g.O.Sink.taken seat.sink.now) in
     let x = show_item c.args.item in
     let sink = rw c.in-Err.is at c.serve_item.ensures.sink in
+    let part = rw c.in-Err.is at c.serve_item.ensures.part in
     record {
-      answered = begun_one (find_at sem a) a x _ _ (rw c.in-Err.is at c.serve_item.ensures.part);
-      same = tt;
-      stands = tt;
-      fails = record { in_step = rw c.in-Err.is at c.serve_item.ensures.others; spent = rw c.in-Err.is at c.serve_item.ensures.spent };
-      grown = rw c.in-Err.is at c.serve_item.ensures.grown;
-      flushed = rw c.in-Err.is at c.serve_item.ensures.flushed;
-      sink = record { beside = sink.beside; count = sink.count; write = sink.write; unfailed = sink.unfailed; left = sink.left };
+      ran = tt;
+      part = part;
+      makes = record {
+        answered = begun_one (find_at sem a) a x _ _ part;
+        same = tt;
+        stands = tt;
+        fails = record { in_step = rw c.in-Err.is at c.serve_item.ensures.others; spent = rw c.in-Err.is at c.serve_item.ensures.spent };
+        grown = rw c.in-Err.is at c.serve_item.ensures.grown;
+        flushed = rw c.in-Err.is at c.serve_item.ensures.flushed;
+        sink = record { beside = sink.beside; count = sink.count; write = sink.write; unfailed = sink.unfailed; left = sink.left };
+      };
     }
+
+pub serve_item-requires-clause-ready : goal.serve_item-requires-clause-ready
+serve_item-requires-clause-ready g c = c.requires.going.ready
+
+pub serve_item-requires-clause-alive : goal.serve_item-requires-clause-alive
+serve_item-requires-clause-alive g c = c.requires.going.unexited.alive

@@ -1,0 +1,18 @@
+-- What serving on from source and codec comes to.
+use Rattle.std.proofs.Common.{rules}
+use Rattle.std.specs.Result.{result_err}
+use Rattle.lsp_session.specs.Run.{Order}
+use Rattle.lsp_pump.specs.SeatWay.{seat_way}
+use Rattle.lsp_pump.proofs.OnwardLemmas.{goes_by, kept_ok, told_err}
+use Rattle.lsp_pump.proofs.steps.SeatSessionSteps.serve_on.Goals as goal
+
+pub serve_from-requires-clause-may : goal.serve_from-requires-clause-may
+serve_from-requires-clause-may g c = record { ready = c.requires.going.ready; alive = c.requires.going.unexited.alive; unexited = c.requires.going.unexited.unexited }
+
+pub returns-clause-goes : goal.returns-clause-goes
+returns-clause-goes g c =
+    let order : Order g.P.Pick.State = record { gives = g.P.Pick.gives; later = g.P.Pick.later } in
+    let way = seat_way g.H.Handlers.semantics g.D.Caller.meaning order g.P.Pick.state g.O.Sink.taken g.O.Sink.flushed g.O.Sink.faults g.O.Sink.beside in
+    let f = c.serve_from.ensures in
+    goes_by way g.I.Source.left g.I.Source.faults c.args.rounds c.args.reads c.args.codec.now c.args.source.now c.args.self.now (result_err c.serve_from.result) c.serve_from.new.io.source.now _ _ (search rules)
+    f.serves (kept_ok c.serve_from.result f.session.ready) f.session.grown (told_err c.serve_from.result _ f.session.desk_spent) f.transport.flushed f.transport.faults f.transport.within
