@@ -4,10 +4,12 @@ use crate::worker::{Found, Jobs};
 use lsp_desk::{Caller, DeskFault};
 use lsp_rpc::{Error, ErrorCode};
 use lsp_service::{
-    Asking, Call, InitializeCall, InitializeReply, LifeCall, LifeReply, NoMemory, Reply, Started,
-    WorkCall, WorkReply, not_found_for,
+    Asking, Call, LifeCall, LifeReply, NoMemory, Params, Reply, Started, WorkCall, WorkReply,
+    Written, let_go, not_found_for, offering,
 };
-use lsp_types::{ExecuteCommandOptions, ExecuteCommandParams, ServerCapabilities};
+use lsp_types::{
+    ExecuteCommandOptions, ExecuteCommandParams, InitializeResult, ServerCapabilities,
+};
 use serde_json::Value;
 use std::alloc::Global;
 use std::sync::atomic::Ordering;
@@ -24,7 +26,7 @@ pub(crate) struct Counts {
 /// A command that the thread has.
 #[derive(Drop)]
 pub(crate) struct Counting {
-    params: ExecuteCommandParams,
+    params: Params<ExecuteCommandParams>,
     found: Found,
 }
 
@@ -46,8 +48,9 @@ impl<D: Caller> Asking<D> for Counts {
                 Ok(found) => Ok(Started::Later(Counting { params, found })),
                 Err(error) => Ok(Started::Now(Reply::Error(error))),
             },
-            Call::Life(LifeCall::Initialize(params)) => {
-                let offered = initialize(alloc, params)?;
+            Call::Life(LifeCall::Initialize(_)) => {
+                let_go(call);
+                let offered = initialize(alloc)?;
                 Ok(Started::Now(Reply::Life(LifeReply::Initialize(Ok(offered)))))
             }
             Call::Life(LifeCall::Shutdown) => {
@@ -78,9 +81,9 @@ impl Counts {
     fn begin(
         &mut self,
         alloc: Global,
-        params: &ExecuteCommandParams,
+        params: &Params<ExecuteCommandParams>,
     ) -> Result<Result<Found, Error>, NoMemory> {
-        match number_of(params) {
+        match number_of(&params.read(alloc)?) {
             Some(below) => match self.jobs.begin(alloc, below)? {
                 Some(found) => Ok(Ok(found)),
                 None => Ok(Err(Error::new(alloc, ErrorCode::ServerError(-32803))?)),
@@ -102,10 +105,10 @@ fn number_of(params: &ExecuteCommandParams) -> Option<u64> {
 }
 
 // The command is offered, so that an editor asks for it.
-fn initialize(alloc: Global, _params: InitializeCall) -> Result<InitializeReply, NoMemory> {
+fn initialize(alloc: Global) -> Result<Written<InitializeResult>, NoMemory> {
     let mut offered = ExecuteCommandOptions::default(alloc);
     offered.commands.push(String::from_str(alloc, "primes")?)?;
     let mut capabilities = ServerCapabilities::default();
     capabilities.execute_command_provider = Some(offered);
-    InitializeReply::offering(alloc, capabilities)
+    offering(alloc, capabilities)
 }

@@ -1,4 +1,6 @@
 pub mod Data
+pub mod Fitting
+pub mod Params
 pub mod Reads
 pub mod Calls
 pub mod Incoming

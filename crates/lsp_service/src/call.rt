@@ -2,7 +2,8 @@
 ghost use Rattle.std.specs.Prelude.{◌≡◌};
 ghost use Rattle.lsp_service.specs.Calls.{show_call, target_of, life_method, sync_method, goto_method, hierarchy_method, show_method, token_method, edit_method, work_method};
 
-use crate::initialize::InitializeCall;
+use crate::held::{CodeActionCall, CodeActionItem, InitializeCall};
+use crate::params::Params;
 use lsp_base::TextDocumentPositionParams;
 use lsp_caps_work::InitializedParams;
 use lsp_lang_goto::{
@@ -14,8 +15,7 @@ use lsp_lang_goto::{
     WorkspaceSymbolParams,
 };
 use lsp_lang_item::{
-    CodeAction, CodeActionParams, CompletionItem, CompletionParams, InlayHint, InlayHintParams,
-    InlineValueParams, RenameParams,
+    CompletionItem, CompletionParams, InlayHint, InlayHintParams, InlineValueParams, RenameParams,
 };
 use lsp_methods::{
     EditMethod, GotoMethod, HierarchyMethod, LifeMethod, Method, ShowMethod, SyncMethod,
@@ -38,8 +38,6 @@ use lsp_work::{
 use serde_json::Value;
 
 /// The calls of the life of a session.
-///
-/// The params of `initialize` are held as they came, and read where they are wanted.
 #[derive(Drop)]
 pub enum LifeCall {
     /// `initialize`.
@@ -54,156 +52,155 @@ pub enum LifeCall {
 #[derive(Drop)]
 pub enum SyncCall {
     /// `textDocument/didOpen`.
-    DidOpen(DidOpenTextDocumentParams),
+    DidOpen(Params<DidOpenTextDocumentParams>),
     /// `textDocument/didChange`.
-    DidChange(DidChangeTextDocumentParams),
+    DidChange(Params<DidChangeTextDocumentParams>),
     /// `textDocument/willSave`.
-    WillSave(WillSaveTextDocumentParams),
+    WillSave(Params<WillSaveTextDocumentParams>),
     /// `textDocument/willSaveWaitUntil`.
-    WillSaveWaitUntil(WillSaveTextDocumentParams),
+    WillSaveWaitUntil(Params<WillSaveTextDocumentParams>),
     /// `textDocument/didSave`.
-    DidSave(DidSaveTextDocumentParams),
+    DidSave(Params<DidSaveTextDocumentParams>),
     /// `textDocument/didClose`.
-    DidClose(DidCloseTextDocumentParams),
+    DidClose(Params<DidCloseTextDocumentParams>),
 }
 
 /// The calls of places to go to.
 #[derive(Drop)]
 pub enum GotoCall {
     /// `textDocument/declaration`.
-    GotoDeclaration(GotoDeclarationParams),
+    GotoDeclaration(Params<GotoDeclarationParams>),
     /// `textDocument/definition`.
-    GotoDefinition(GotoDefinitionParams),
+    GotoDefinition(Params<GotoDefinitionParams>),
     /// `textDocument/typeDefinition`.
-    GotoTypeDefinition(GotoTypeDefinitionParams),
+    GotoTypeDefinition(Params<GotoTypeDefinitionParams>),
     /// `textDocument/implementation`.
-    GotoImplementation(GotoImplementationParams),
+    GotoImplementation(Params<GotoImplementationParams>),
     /// `textDocument/references`.
-    References(ReferenceParams),
+    References(Params<ReferenceParams>),
     /// `textDocument/documentHighlight`.
-    DocumentHighlight(DocumentHighlightParams),
+    DocumentHighlight(Params<DocumentHighlightParams>),
 }
 
 /// The calls of hierarchies of calls and types.
 #[derive(Drop)]
 pub enum HierarchyCall {
     /// `textDocument/prepareCallHierarchy`.
-    PrepareCallHierarchy(CallHierarchyPrepareParams),
+    PrepareCallHierarchy(Params<CallHierarchyPrepareParams>),
     /// `callHierarchy/incomingCalls`.
-    IncomingCalls(CallHierarchyIncomingCallsParams),
+    IncomingCalls(Params<CallHierarchyIncomingCallsParams>),
     /// `callHierarchy/outgoingCalls`.
-    OutgoingCalls(CallHierarchyOutgoingCallsParams),
+    OutgoingCalls(Params<CallHierarchyOutgoingCallsParams>),
     /// `textDocument/prepareTypeHierarchy`.
-    PrepareTypeHierarchy(TypeHierarchyPrepareParams),
+    PrepareTypeHierarchy(Params<TypeHierarchyPrepareParams>),
     /// `typeHierarchy/supertypes`.
-    Supertypes(TypeHierarchySupertypesParams),
+    Supertypes(Params<TypeHierarchySupertypesParams>),
     /// `typeHierarchy/subtypes`.
-    Subtypes(TypeHierarchySubtypesParams),
+    Subtypes(Params<TypeHierarchySubtypesParams>),
 }
 
 /// The calls of what is shown in a document.
 #[derive(Drop)]
 pub enum ShowCall {
     /// `textDocument/documentLink`.
-    DocumentLink(DocumentLinkParams),
+    DocumentLink(Params<DocumentLinkParams>),
     /// `documentLink/resolve`.
-    DocumentLinkResolve(DocumentLink),
+    DocumentLinkResolve(Params<DocumentLink>),
     /// `textDocument/hover`.
-    Hover(HoverParams),
+    Hover(Params<HoverParams>),
     /// `textDocument/codeLens`.
-    CodeLens(CodeLensParams),
+    CodeLens(Params<CodeLensParams>),
     /// `codeLens/resolve`.
-    CodeLensResolve(CodeLens),
+    CodeLensResolve(Params<CodeLens>),
     /// `textDocument/foldingRange`.
-    FoldingRange(FoldingRangeParams),
+    FoldingRange(Params<FoldingRangeParams>),
     /// `textDocument/selectionRange`.
-    SelectionRange(SelectionRangeParams),
+    SelectionRange(Params<SelectionRangeParams>),
     /// `textDocument/documentSymbol`.
-    DocumentSymbol(DocumentSymbolParams),
+    DocumentSymbol(Params<DocumentSymbolParams>),
     /// `textDocument/moniker`.
-    Moniker(MonikerParams),
+    Moniker(Params<MonikerParams>),
 }
 
 /// The calls of tokens, hints and values in a document.
 #[derive(Drop)]
 pub enum TokenCall {
     /// `textDocument/semanticTokens/full`.
-    SemanticTokensFull(SemanticTokensParams),
+    SemanticTokensFull(Params<SemanticTokensParams>),
     /// `textDocument/semanticTokens/full/delta`.
-    SemanticTokensFullDelta(SemanticTokensDeltaParams),
+    SemanticTokensFullDelta(Params<SemanticTokensDeltaParams>),
     /// `textDocument/semanticTokens/range`.
-    SemanticTokensRange(SemanticTokensRangeParams),
+    SemanticTokensRange(Params<SemanticTokensRangeParams>),
     /// `textDocument/inlineValue`.
-    InlineValue(InlineValueParams),
+    InlineValue(Params<InlineValueParams>),
     /// `textDocument/inlayHint`.
-    InlayHint(InlayHintParams),
+    InlayHint(Params<InlayHintParams>),
     /// `inlayHint/resolve`.
-    InlayHintResolve(InlayHint),
+    InlayHintResolve(Params<InlayHint>),
 }
 
 /// The calls of completion, edits and diagnostics.
-///
-/// The widest params are in a box, so that no other call is as wide.
 #[derive(Drop)]
 pub enum EditCall {
     /// `textDocument/completion`.
-    Completion(CompletionParams),
+    Completion(Params<CompletionParams>),
     /// `completionItem/resolve`.
-    CompletionResolve(Box<CompletionItem>),
+    CompletionResolve(Params<CompletionItem>),
     /// `textDocument/signatureHelp`.
-    SignatureHelp(SignatureHelpParams),
+    SignatureHelp(Params<SignatureHelpParams>),
     /// `textDocument/codeAction`.
-    CodeAction(CodeActionParams),
+    CodeAction(CodeActionCall),
     /// `codeAction/resolve`.
-    CodeActionResolve(Box<CodeAction>),
+    CodeActionResolve(CodeActionItem),
     /// `textDocument/formatting`.
-    Formatting(DocumentFormattingParams),
+    Formatting(Params<DocumentFormattingParams>),
     /// `textDocument/rangeFormatting`.
-    RangeFormatting(DocumentRangeFormattingParams),
+    RangeFormatting(Params<DocumentRangeFormattingParams>),
     /// `textDocument/onTypeFormatting`.
-    OnTypeFormatting(DocumentOnTypeFormattingParams),
+    OnTypeFormatting(Params<DocumentOnTypeFormattingParams>),
     /// `textDocument/rename`.
-    Rename(RenameParams),
+    Rename(Params<RenameParams>),
     /// `textDocument/prepareRename`.
-    PrepareRename(TextDocumentPositionParams),
+    PrepareRename(Params<TextDocumentPositionParams>),
     /// `textDocument/linkedEditingRange`.
-    LinkedEditingRange(LinkedEditingRangeParams),
+    LinkedEditingRange(Params<LinkedEditingRangeParams>),
     /// `textDocument/diagnostic`.
-    Diagnostic(DocumentDiagnosticParams),
+    Diagnostic(Params<DocumentDiagnosticParams>),
 }
 
 /// The calls of the workspace.
 #[derive(Drop)]
 pub enum WorkCall {
     /// `workspace/diagnostic`.
-    WorkspaceDiagnostic(WorkspaceDiagnosticParams),
+    WorkspaceDiagnostic(Params<WorkspaceDiagnosticParams>),
     /// `workspace/symbol`.
-    Symbol(WorkspaceSymbolParams),
+    Symbol(Params<WorkspaceSymbolParams>),
     /// `workspaceSymbol/resolve`.
-    SymbolResolve(WorkspaceSymbol),
+    SymbolResolve(Params<WorkspaceSymbol>),
     /// `workspace/didChangeConfiguration`.
-    DidChangeConfiguration(DidChangeConfigurationParams),
+    DidChangeConfiguration(Params<DidChangeConfigurationParams>),
     /// `workspace/didChangeWorkspaceFolders`.
-    DidChangeWorkspaceFolders(DidChangeWorkspaceFoldersParams),
+    DidChangeWorkspaceFolders(Params<DidChangeWorkspaceFoldersParams>),
     /// `workspace/willCreateFiles`.
-    WillCreateFiles(CreateFilesParams),
+    WillCreateFiles(Params<CreateFilesParams>),
     /// `workspace/didCreateFiles`.
-    DidCreateFiles(CreateFilesParams),
+    DidCreateFiles(Params<CreateFilesParams>),
     /// `workspace/willRenameFiles`.
-    WillRenameFiles(RenameFilesParams),
+    WillRenameFiles(Params<RenameFilesParams>),
     /// `workspace/didRenameFiles`.
-    DidRenameFiles(RenameFilesParams),
+    DidRenameFiles(Params<RenameFilesParams>),
     /// `workspace/willDeleteFiles`.
-    WillDeleteFiles(DeleteFilesParams),
+    WillDeleteFiles(Params<DeleteFilesParams>),
     /// `workspace/didDeleteFiles`.
-    DidDeleteFiles(DeleteFilesParams),
+    DidDeleteFiles(Params<DeleteFilesParams>),
     /// `workspace/didChangeWatchedFiles`.
-    DidChangeWatchedFiles(DidChangeWatchedFilesParams),
+    DidChangeWatchedFiles(Params<DidChangeWatchedFilesParams>),
     /// `workspace/executeCommand`.
-    ExecuteCommand(ExecuteCommandParams),
+    ExecuteCommand(Params<ExecuteCommandParams>),
 }
 
-/// A call of a client: a method with its params.
+/// A call of a client: a method with its params, which fit its type and are read where they are
+/// wanted ([`Params`]).
 #[derive(Drop)]
 pub enum Call {
     Life(LifeCall),

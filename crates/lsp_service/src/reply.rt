@@ -1,6 +1,7 @@
 // What a server answers.
-use crate::initialize::InitializeReply;
+use crate::written::Written;
 use lsp_base::{Location, TextEdit, WorkspaceEdit};
+use lsp_initialize::InitializeResult;
 use lsp_lang_goto::{
     CallHierarchyIncomingCall, CallHierarchyItem, CallHierarchyOutgoingCall, CodeLens,
     DocumentHighlight, DocumentLink, DocumentSymbolResponse, GotoDeclarationResponse,
@@ -23,7 +24,7 @@ use serde_json::Value;
 #[derive(Drop)]
 pub enum LifeReply {
     /// To `initialize`.
-    Initialize(Result<InitializeReply, Error>),
+    Initialize(Result<Written<InitializeResult>, Error>),
     /// To `shutdown`.
     Shutdown(Result<(), Error>),
 }
@@ -32,127 +33,127 @@ pub enum LifeReply {
 #[derive(Drop)]
 pub enum SyncReply {
     /// To `textDocument/willSaveWaitUntil`.
-    WillSaveWaitUntil(Result<Option<Vec<TextEdit>>, Error>),
+    WillSaveWaitUntil(Result<Written<Option<Vec<TextEdit>>>, Error>),
 }
 
 /// The answers to requests of places to go to.
 #[derive(Drop)]
 pub enum GotoReply {
     /// To `textDocument/declaration`.
-    GotoDeclaration(Result<Option<GotoDeclarationResponse>, Error>),
+    GotoDeclaration(Result<Written<Option<GotoDeclarationResponse>>, Error>),
     /// To `textDocument/definition`.
-    GotoDefinition(Result<Option<GotoDefinitionResponse>, Error>),
+    GotoDefinition(Result<Written<Option<GotoDefinitionResponse>>, Error>),
     /// To `textDocument/typeDefinition`.
-    GotoTypeDefinition(Result<Option<GotoTypeDefinitionResponse>, Error>),
+    GotoTypeDefinition(Result<Written<Option<GotoTypeDefinitionResponse>>, Error>),
     /// To `textDocument/implementation`.
-    GotoImplementation(Result<Option<GotoImplementationResponse>, Error>),
+    GotoImplementation(Result<Written<Option<GotoImplementationResponse>>, Error>),
     /// To `textDocument/references`.
-    References(Result<Option<Vec<Location>>, Error>),
+    References(Result<Written<Option<Vec<Location>>>, Error>),
     /// To `textDocument/documentHighlight`.
-    DocumentHighlight(Result<Option<Vec<DocumentHighlight>>, Error>),
+    DocumentHighlight(Result<Written<Option<Vec<DocumentHighlight>>>, Error>),
 }
 
 /// The answers to requests of hierarchies of calls and types.
 #[derive(Drop)]
 pub enum HierarchyReply {
     /// To `textDocument/prepareCallHierarchy`.
-    PrepareCallHierarchy(Result<Option<Vec<CallHierarchyItem>>, Error>),
+    PrepareCallHierarchy(Result<Written<Option<Vec<CallHierarchyItem>>>, Error>),
     /// To `callHierarchy/incomingCalls`.
-    IncomingCalls(Result<Option<Vec<CallHierarchyIncomingCall>>, Error>),
+    IncomingCalls(Result<Written<Option<Vec<CallHierarchyIncomingCall>>>, Error>),
     /// To `callHierarchy/outgoingCalls`.
-    OutgoingCalls(Result<Option<Vec<CallHierarchyOutgoingCall>>, Error>),
+    OutgoingCalls(Result<Written<Option<Vec<CallHierarchyOutgoingCall>>>, Error>),
     /// To `textDocument/prepareTypeHierarchy`.
-    PrepareTypeHierarchy(Result<Option<Vec<TypeHierarchyItem>>, Error>),
+    PrepareTypeHierarchy(Result<Written<Option<Vec<TypeHierarchyItem>>>, Error>),
     /// To `typeHierarchy/supertypes`.
-    Supertypes(Result<Option<Vec<TypeHierarchyItem>>, Error>),
+    Supertypes(Result<Written<Option<Vec<TypeHierarchyItem>>>, Error>),
     /// To `typeHierarchy/subtypes`.
-    Subtypes(Result<Option<Vec<TypeHierarchyItem>>, Error>),
+    Subtypes(Result<Written<Option<Vec<TypeHierarchyItem>>>, Error>),
 }
 
 /// The answers to requests of what is shown in a document.
 #[derive(Drop)]
 pub enum ShowReply {
     /// To `textDocument/documentLink`.
-    DocumentLink(Result<Option<Vec<DocumentLink>>, Error>),
+    DocumentLink(Result<Written<Option<Vec<DocumentLink>>>, Error>),
     /// To `documentLink/resolve`.
-    DocumentLinkResolve(Result<DocumentLink, Error>),
+    DocumentLinkResolve(Result<Written<DocumentLink>, Error>),
     /// To `textDocument/hover`.
-    Hover(Result<Option<Hover>, Error>),
+    Hover(Result<Written<Option<Hover>>, Error>),
     /// To `textDocument/codeLens`.
-    CodeLens(Result<Option<Vec<CodeLens>>, Error>),
+    CodeLens(Result<Written<Option<Vec<CodeLens>>>, Error>),
     /// To `codeLens/resolve`.
-    CodeLensResolve(Result<CodeLens, Error>),
+    CodeLensResolve(Result<Written<CodeLens>, Error>),
     /// To `textDocument/foldingRange`.
-    FoldingRange(Result<Option<Vec<FoldingRange>>, Error>),
+    FoldingRange(Result<Written<Option<Vec<FoldingRange>>>, Error>),
     /// To `textDocument/selectionRange`.
-    SelectionRange(Result<Option<Vec<SelectionRange>>, Error>),
+    SelectionRange(Result<Written<Option<Vec<SelectionRange>>>, Error>),
     /// To `textDocument/documentSymbol`.
-    DocumentSymbol(Result<Option<DocumentSymbolResponse>, Error>),
+    DocumentSymbol(Result<Written<Option<DocumentSymbolResponse>>, Error>),
     /// To `textDocument/moniker`.
-    Moniker(Result<Option<Vec<Moniker>>, Error>),
+    Moniker(Result<Written<Option<Vec<Moniker>>>, Error>),
 }
 
 /// The answers to requests of tokens, hints and values in a document.
 #[derive(Drop)]
 pub enum TokenReply {
     /// To `textDocument/semanticTokens/full`.
-    SemanticTokensFull(Result<Option<SemanticTokensResult>, Error>),
+    SemanticTokensFull(Result<Written<Option<SemanticTokensResult>>, Error>),
     /// To `textDocument/semanticTokens/full/delta`.
-    SemanticTokensFullDelta(Result<Option<SemanticTokensFullDeltaResult>, Error>),
+    SemanticTokensFullDelta(Result<Written<Option<SemanticTokensFullDeltaResult>>, Error>),
     /// To `textDocument/semanticTokens/range`.
-    SemanticTokensRange(Result<Option<SemanticTokensRangeResult>, Error>),
+    SemanticTokensRange(Result<Written<Option<SemanticTokensRangeResult>>, Error>),
     /// To `textDocument/inlineValue`.
-    InlineValue(Result<Option<Vec<InlineValue>>, Error>),
+    InlineValue(Result<Written<Option<Vec<InlineValue>>>, Error>),
     /// To `textDocument/inlayHint`.
-    InlayHint(Result<Option<Vec<InlayHint>>, Error>),
+    InlayHint(Result<Written<Option<Vec<InlayHint>>>, Error>),
     /// To `inlayHint/resolve`.
-    InlayHintResolve(Result<InlayHint, Error>),
+    InlayHintResolve(Result<Written<InlayHint>, Error>),
 }
 
 /// The answers to requests of completion, edits and diagnostics.
 #[derive(Drop)]
 pub enum EditReply {
     /// To `textDocument/completion`.
-    Completion(Result<Option<CompletionResponse>, Error>),
+    Completion(Result<Written<Option<CompletionResponse>>, Error>),
     /// To `completionItem/resolve`.
-    CompletionResolve(Result<Box<CompletionItem>, Error>),
+    CompletionResolve(Result<Written<CompletionItem>, Error>),
     /// To `textDocument/signatureHelp`.
-    SignatureHelp(Result<Option<SignatureHelp>, Error>),
+    SignatureHelp(Result<Written<Option<SignatureHelp>>, Error>),
     /// To `textDocument/codeAction`.
-    CodeAction(Result<Option<CodeActionResponse>, Error>),
+    CodeAction(Result<Written<Option<CodeActionResponse>>, Error>),
     /// To `codeAction/resolve`.
-    CodeActionResolve(Result<Box<CodeAction>, Error>),
+    CodeActionResolve(Result<Written<CodeAction>, Error>),
     /// To `textDocument/formatting`.
-    Formatting(Result<Option<Vec<TextEdit>>, Error>),
+    Formatting(Result<Written<Option<Vec<TextEdit>>>, Error>),
     /// To `textDocument/rangeFormatting`.
-    RangeFormatting(Result<Option<Vec<TextEdit>>, Error>),
+    RangeFormatting(Result<Written<Option<Vec<TextEdit>>>, Error>),
     /// To `textDocument/onTypeFormatting`.
-    OnTypeFormatting(Result<Option<Vec<TextEdit>>, Error>),
+    OnTypeFormatting(Result<Written<Option<Vec<TextEdit>>>, Error>),
     /// To `textDocument/rename`.
-    Rename(Result<Option<WorkspaceEdit>, Error>),
+    Rename(Result<Written<Option<WorkspaceEdit>>, Error>),
     /// To `textDocument/prepareRename`.
-    PrepareRename(Result<Option<PrepareRenameResponse>, Error>),
+    PrepareRename(Result<Written<Option<PrepareRenameResponse>>, Error>),
     /// To `textDocument/linkedEditingRange`.
-    LinkedEditingRange(Result<Option<LinkedEditingRanges>, Error>),
+    LinkedEditingRange(Result<Written<Option<LinkedEditingRanges>>, Error>),
     /// To `textDocument/diagnostic`.
-    Diagnostic(Result<DocumentDiagnosticReportResult, Error>),
+    Diagnostic(Result<Written<DocumentDiagnosticReportResult>, Error>),
 }
 
 /// The answers to requests of the workspace.
 #[derive(Drop)]
 pub enum WorkReply {
     /// To `workspace/diagnostic`.
-    WorkspaceDiagnostic(Result<WorkspaceDiagnosticReportResult, Error>),
+    WorkspaceDiagnostic(Result<Written<WorkspaceDiagnosticReportResult>, Error>),
     /// To `workspace/symbol`.
-    Symbol(Result<Option<Vec<SymbolInformation>>, Error>),
+    Symbol(Result<Written<Option<Vec<SymbolInformation>>>, Error>),
     /// To `workspaceSymbol/resolve`.
-    SymbolResolve(Result<WorkspaceSymbol, Error>),
+    SymbolResolve(Result<Written<WorkspaceSymbol>, Error>),
     /// To `workspace/willCreateFiles`.
-    WillCreateFiles(Result<Option<WorkspaceEdit>, Error>),
+    WillCreateFiles(Result<Written<Option<WorkspaceEdit>>, Error>),
     /// To `workspace/willRenameFiles`.
-    WillRenameFiles(Result<Option<WorkspaceEdit>, Error>),
+    WillRenameFiles(Result<Written<Option<WorkspaceEdit>>, Error>),
     /// To `workspace/willDeleteFiles`.
-    WillDeleteFiles(Result<Option<WorkspaceEdit>, Error>),
+    WillDeleteFiles(Result<Written<Option<WorkspaceEdit>>, Error>),
     /// To `workspace/executeCommand`.
     ExecuteCommand(Result<Option<Value>, Error>),
 }

@@ -4,7 +4,7 @@ ghost use Rattle.lsp_rpc.specs.Shown.{show_body};
 ghost use Rattle.lsp_service.specs.Data.{outcome_by};
 ghost use Rattle.lsp_service.specs.Replies.{show_reply, show_life_reply, show_sync_reply, show_goto_reply, show_hierarchy_reply, show_show_reply, show_token_reply, show_edit_reply, show_work_reply};
 
-use crate::answer::{answered, custom_answered, initialize_answered, noted, unless_float};
+use crate::answer::{answered, custom_answered, noted, unless_float, written_answered};
 use crate::call::Target;
 use crate::reply::{
     EditReply, GotoReply, HierarchyReply, LifeReply, Reply, ShowReply, SyncReply, TokenReply,
@@ -27,7 +27,12 @@ fn write_life(
         ≡ outcome_by target (show_life_reply reply)) }
 {
     match reply {
-        LifeReply::Initialize(body) => initialize_answered(alloc, target, body),
+        LifeReply::Initialize(body) => written_answered(
+            alloc,
+            target,
+            Method::Life(LifeMethod::Initialize),
+            body,
+        ),
         LifeReply::Shutdown(body) => answered(
             alloc,
             target,
@@ -46,7 +51,7 @@ fn write_sync(
         ≡ outcome_by target (show_sync_reply reply)) }
 {
     match reply {
-        SyncReply::WillSaveWaitUntil(body) => answered(
+        SyncReply::WillSaveWaitUntil(body) => written_answered(
             alloc,
             target,
             Method::Sync(SyncMethod::WillSaveWaitUntil),
@@ -64,37 +69,37 @@ fn write_goto(
         ≡ outcome_by target (show_goto_reply reply)) }
 {
     match reply {
-        GotoReply::GotoDeclaration(body) => answered(
+        GotoReply::GotoDeclaration(body) => written_answered(
             alloc,
             target,
             Method::Goto(GotoMethod::GotoDeclaration),
             body,
         ),
-        GotoReply::GotoDefinition(body) => answered(
+        GotoReply::GotoDefinition(body) => written_answered(
             alloc,
             target,
             Method::Goto(GotoMethod::GotoDefinition),
             body,
         ),
-        GotoReply::GotoTypeDefinition(body) => answered(
+        GotoReply::GotoTypeDefinition(body) => written_answered(
             alloc,
             target,
             Method::Goto(GotoMethod::GotoTypeDefinition),
             body,
         ),
-        GotoReply::GotoImplementation(body) => answered(
+        GotoReply::GotoImplementation(body) => written_answered(
             alloc,
             target,
             Method::Goto(GotoMethod::GotoImplementation),
             body,
         ),
-        GotoReply::References(body) => answered(
+        GotoReply::References(body) => written_answered(
             alloc,
             target,
             Method::Goto(GotoMethod::References),
             body,
         ),
-        GotoReply::DocumentHighlight(body) => answered(
+        GotoReply::DocumentHighlight(body) => written_answered(
             alloc,
             target,
             Method::Goto(GotoMethod::DocumentHighlight),
@@ -112,37 +117,37 @@ fn write_hierarchy(
         ≡ outcome_by target (show_hierarchy_reply reply)) }
 {
     match reply {
-        HierarchyReply::PrepareCallHierarchy(body) => answered(
+        HierarchyReply::PrepareCallHierarchy(body) => written_answered(
             alloc,
             target,
             Method::Hierarchy(HierarchyMethod::PrepareCallHierarchy),
             body,
         ),
-        HierarchyReply::IncomingCalls(body) => answered(
+        HierarchyReply::IncomingCalls(body) => written_answered(
             alloc,
             target,
             Method::Hierarchy(HierarchyMethod::IncomingCalls),
             body,
         ),
-        HierarchyReply::OutgoingCalls(body) => answered(
+        HierarchyReply::OutgoingCalls(body) => written_answered(
             alloc,
             target,
             Method::Hierarchy(HierarchyMethod::OutgoingCalls),
             body,
         ),
-        HierarchyReply::PrepareTypeHierarchy(body) => answered(
+        HierarchyReply::PrepareTypeHierarchy(body) => written_answered(
             alloc,
             target,
             Method::Hierarchy(HierarchyMethod::PrepareTypeHierarchy),
             body,
         ),
-        HierarchyReply::Supertypes(body) => answered(
+        HierarchyReply::Supertypes(body) => written_answered(
             alloc,
             target,
             Method::Hierarchy(HierarchyMethod::Supertypes),
             body,
         ),
-        HierarchyReply::Subtypes(body) => answered(
+        HierarchyReply::Subtypes(body) => written_answered(
             alloc,
             target,
             Method::Hierarchy(HierarchyMethod::Subtypes),
@@ -160,50 +165,55 @@ fn write_show(
         ≡ outcome_by target (show_show_reply reply)) }
 {
     match reply {
-        ShowReply::DocumentLink(body) => answered(
+        ShowReply::DocumentLink(body) => written_answered(
             alloc,
             target,
             Method::Show(ShowMethod::DocumentLink),
             body,
         ),
-        ShowReply::DocumentLinkResolve(body) => answered(
+        ShowReply::DocumentLinkResolve(body) => written_answered(
             alloc,
             target,
             Method::Show(ShowMethod::DocumentLinkResolve),
             body,
         ),
-        ShowReply::Hover(body) => answered(alloc, target, Method::Show(ShowMethod::Hover), body),
-        ShowReply::CodeLens(body) => answered(
+        ShowReply::Hover(body) => written_answered(
+            alloc,
+            target,
+            Method::Show(ShowMethod::Hover),
+            body,
+        ),
+        ShowReply::CodeLens(body) => written_answered(
             alloc,
             target,
             Method::Show(ShowMethod::CodeLens),
             body,
         ),
-        ShowReply::CodeLensResolve(body) => answered(
+        ShowReply::CodeLensResolve(body) => written_answered(
             alloc,
             target,
             Method::Show(ShowMethod::CodeLensResolve),
             body,
         ),
-        ShowReply::FoldingRange(body) => answered(
+        ShowReply::FoldingRange(body) => written_answered(
             alloc,
             target,
             Method::Show(ShowMethod::FoldingRange),
             body,
         ),
-        ShowReply::SelectionRange(body) => answered(
+        ShowReply::SelectionRange(body) => written_answered(
             alloc,
             target,
             Method::Show(ShowMethod::SelectionRange),
             body,
         ),
-        ShowReply::DocumentSymbol(body) => answered(
+        ShowReply::DocumentSymbol(body) => written_answered(
             alloc,
             target,
             Method::Show(ShowMethod::DocumentSymbol),
             body,
         ),
-        ShowReply::Moniker(body) => answered(
+        ShowReply::Moniker(body) => written_answered(
             alloc,
             target,
             Method::Show(ShowMethod::Moniker),
@@ -221,37 +231,37 @@ fn write_token(
         ≡ outcome_by target (show_token_reply reply)) }
 {
     match reply {
-        TokenReply::SemanticTokensFull(body) => answered(
+        TokenReply::SemanticTokensFull(body) => written_answered(
             alloc,
             target,
             Method::Token(TokenMethod::SemanticTokensFull),
             body,
         ),
-        TokenReply::SemanticTokensFullDelta(body) => answered(
+        TokenReply::SemanticTokensFullDelta(body) => written_answered(
             alloc,
             target,
             Method::Token(TokenMethod::SemanticTokensFullDelta),
             body,
         ),
-        TokenReply::SemanticTokensRange(body) => answered(
+        TokenReply::SemanticTokensRange(body) => written_answered(
             alloc,
             target,
             Method::Token(TokenMethod::SemanticTokensRange),
             body,
         ),
-        TokenReply::InlineValue(body) => answered(
+        TokenReply::InlineValue(body) => written_answered(
             alloc,
             target,
             Method::Token(TokenMethod::InlineValue),
             body,
         ),
-        TokenReply::InlayHint(body) => answered(
+        TokenReply::InlayHint(body) => written_answered(
             alloc,
             target,
             Method::Token(TokenMethod::InlayHint),
             body,
         ),
-        TokenReply::InlayHintResolve(body) => answered(
+        TokenReply::InlayHintResolve(body) => written_answered(
             alloc,
             target,
             Method::Token(TokenMethod::InlayHintResolve),
@@ -269,68 +279,73 @@ fn write_edit(
         ≡ outcome_by target (show_edit_reply reply)) }
 {
     match reply {
-        EditReply::Completion(body) => answered(
+        EditReply::Completion(body) => written_answered(
             alloc,
             target,
             Method::Edit(EditMethod::Completion),
             body,
         ),
-        EditReply::CompletionResolve(body) => answered(
+        EditReply::CompletionResolve(body) => written_answered(
             alloc,
             target,
             Method::Edit(EditMethod::CompletionResolve),
             body,
         ),
-        EditReply::SignatureHelp(body) => answered(
+        EditReply::SignatureHelp(body) => written_answered(
             alloc,
             target,
             Method::Edit(EditMethod::SignatureHelp),
             body,
         ),
-        EditReply::CodeAction(body) => answered(
+        EditReply::CodeAction(body) => written_answered(
             alloc,
             target,
             Method::Edit(EditMethod::CodeAction),
             body,
         ),
-        EditReply::CodeActionResolve(body) => answered(
+        EditReply::CodeActionResolve(body) => written_answered(
             alloc,
             target,
             Method::Edit(EditMethod::CodeActionResolve),
             body,
         ),
-        EditReply::Formatting(body) => answered(
+        EditReply::Formatting(body) => written_answered(
             alloc,
             target,
             Method::Edit(EditMethod::Formatting),
             body,
         ),
-        EditReply::RangeFormatting(body) => answered(
+        EditReply::RangeFormatting(body) => written_answered(
             alloc,
             target,
             Method::Edit(EditMethod::RangeFormatting),
             body,
         ),
-        EditReply::OnTypeFormatting(body) => answered(
+        EditReply::OnTypeFormatting(body) => written_answered(
             alloc,
             target,
             Method::Edit(EditMethod::OnTypeFormatting),
             body,
         ),
-        EditReply::Rename(body) => answered(alloc, target, Method::Edit(EditMethod::Rename), body),
-        EditReply::PrepareRename(body) => answered(
+        EditReply::Rename(body) => written_answered(
+            alloc,
+            target,
+            Method::Edit(EditMethod::Rename),
+            body,
+        ),
+        EditReply::PrepareRename(body) => written_answered(
             alloc,
             target,
             Method::Edit(EditMethod::PrepareRename),
             body,
         ),
-        EditReply::LinkedEditingRange(body) => answered(
+        EditReply::LinkedEditingRange(body) => written_answered(
             alloc,
             target,
             Method::Edit(EditMethod::LinkedEditingRange),
             body,
         ),
-        EditReply::Diagnostic(body) => answered(
+        EditReply::Diagnostic(body) => written_answered(
             alloc,
             target,
             Method::Edit(EditMethod::Diagnostic),
@@ -348,32 +363,37 @@ fn write_work(
         ≡ outcome_by target (show_work_reply reply)) }
 {
     match reply {
-        WorkReply::WorkspaceDiagnostic(body) => answered(
+        WorkReply::WorkspaceDiagnostic(body) => written_answered(
             alloc,
             target,
             Method::Work(WorkMethod::WorkspaceDiagnostic),
             body,
         ),
-        WorkReply::Symbol(body) => answered(alloc, target, Method::Work(WorkMethod::Symbol), body),
-        WorkReply::SymbolResolve(body) => answered(
+        WorkReply::Symbol(body) => written_answered(
+            alloc,
+            target,
+            Method::Work(WorkMethod::Symbol),
+            body,
+        ),
+        WorkReply::SymbolResolve(body) => written_answered(
             alloc,
             target,
             Method::Work(WorkMethod::SymbolResolve),
             body,
         ),
-        WorkReply::WillCreateFiles(body) => answered(
+        WorkReply::WillCreateFiles(body) => written_answered(
             alloc,
             target,
             Method::Work(WorkMethod::WillCreateFiles),
             body,
         ),
-        WorkReply::WillRenameFiles(body) => answered(
+        WorkReply::WillRenameFiles(body) => written_answered(
             alloc,
             target,
             Method::Work(WorkMethod::WillRenameFiles),
             body,
         ),
-        WorkReply::WillDeleteFiles(body) => answered(
+        WorkReply::WillDeleteFiles(body) => written_answered(
             alloc,
             target,
             Method::Work(WorkMethod::WillDeleteFiles),
