@@ -14,7 +14,7 @@ use Rattle.lsp_server.specs.Served.{call_bytes}
 use Rattle.lsp_server.specs.ServesSession.{SourceSinkTold}
 use Rattle.lsp_server.specs.Written.{IsPrefixOf}
 use Rattle.lsp_server.specs.Consuming.{Given, piece, end, ConsumerOutcome, goes_on, done, stops, IsLawfulConsumer, Did, Took, bytes_of, IsTimely, TookLast, consumer_outcome, last_outcome}
-use Rattle.lsp_server.proofs.KnownLemmas.{if_told, appends_none, appends_more, consumes_more, what_is_left, all_read, end_before, prefix_all}
+use Rattle.lsp_server.proofs.KnownLemmas.{if_told, appends_none, appends_more, consumes_more, what_is_left, all_read, end_before, prefix_all, prefix_more, prefix_none}
 use Rattle.lsp_index.specs.declared.lines.Lines.{Lines}
 use Rattle.lsp_index.specs.declared.lines.Search.{Search}
 use Rattle.lsp_index.specs.Graph.{Graph}
@@ -46,13 +46,18 @@ end_part q bytes written false p = inr (written, p, prefix_all written)
 pub took_end_part : (a b : Lines × Search) (written : List ℕ) → TookEnd a written b → TookEndPart a written
 took_end_part a b written p = λ q bytes after. end_part q bytes written b.1.is_bad (p q bytes after)
 
-reads_refused : (a b : Lines × Search) (given : Given) (outcome : ConsumerOutcome) (written : List ℕ) (e : ServeError) → Reads a given outcome written b → ComesOfSink e → Reads a given (stops e) written b
-reads_refused a b (piece bytes) goes_on written e p sink = (sink, p.0)
-reads_refused a b (piece bytes) done written e p sink = (sink, p.0)
-reads_refused a b (piece bytes) (stops e0) written e p sink = (sink, p.1)
-reads_refused a b end goes_on written e p sink = absurd p
-reads_refused a b end done written e p sink = (sink, took_end_part a b written p)
-reads_refused a b end (stops e0) written e p sink = (sink, p.1)
+-- and so was what begins it
+part_short : (q : QueryData) (bytes written part : List ℕ) → IsPrefixOf part written → EndPart q bytes written → EndPart q bytes part
+part_short q bytes written part some (inl none) = inl (prefix_none part written some none)
+part_short q bytes written part some (inr p) = inr (p.0, p.1, prefix_more part written p.0 some p.2)
+
+reads_refused : (a b : Lines × Search) (given : Given) (outcome : ConsumerOutcome) (written part : List ℕ) (e : ServeError) → Reads a given outcome written b → IsPrefixOf part written → ComesOfSink e → Reads a given (stops e) part b
+reads_refused a b (piece bytes) goes_on written part e p some sink = (sink, prefix_none part written some p.0)
+reads_refused a b (piece bytes) done written part e p some sink = (sink, prefix_none part written some p.0)
+reads_refused a b (piece bytes) (stops e0) written part e p some sink = (sink, prefix_none part written some p.1)
+reads_refused a b end goes_on written part e p some sink = absurd p
+reads_refused a b end done written part e p some sink = (sink, λ q bytes after. part_short q bytes written part some (took_end_part a b written p q bytes after))
+reads_refused a b end (stops e0) written part e p some sink = (sink, λ q bytes after. part_short q bytes written part some (p.1 q bytes after))
 
 pub reading_lawful : IsLawfulConsumer dump_reading
 reading_lawful = record { opens = λ a b given written p. tt; none = λ a is. reads_none a; more = reads_more; refused = reads_refused }

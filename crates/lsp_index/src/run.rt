@@ -169,7 +169,7 @@ fn answer_over<T: Transport>(
         part: Vec::new(alloc),
     };
     let mut search = Search::new(alloc, query);
-    let ended = over_reads(io, &mut lines, &mut search, reads);
+    let ended = over_reads(alloc, io, &mut lines, &mut search, reads);
     drop(lines);
     let good = is_good(search);
     ended_with(ended, good)

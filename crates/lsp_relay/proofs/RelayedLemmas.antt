@@ -12,7 +12,7 @@ use Rattle.lsp_server.specs.Served.{call_bytes}
 use Rattle.lsp_server.specs.Reads.{Moment}
 use Rattle.lsp_server.specs.Written.{IsPrefixOf}
 use Rattle.lsp_server.specs.Consuming.{Given, piece, end, ConsumerOutcome, done, stops, last_outcome, Did, Took as TookBytes, AllTook, bytes_of, IsTimely, TookLast}
-use Rattle.lsp_server.proofs.KnownLemmas.{appends_none, appends_more, consumes_none, end_before}
+use Rattle.lsp_server.proofs.KnownLemmas.{appends_none, appends_more, consumes_none, end_before, prefix_all}
 use Rattle.lsp_server.proofs.TakingLemmas.{did_none}
 use Rattle.lsp_relay.specs.Relay.{RelayPlace, opening_place, events, TookItems, IsRelayed, RelayWroteTold, AllPassed, RelayWrotePart}
 use Rattle.lsp_relay.specs.Relaying.{Stand, IsOpen, frames_from, Relays, relays}
@@ -109,7 +109,7 @@ module _ (editors : ℕ) (a : Stand) (opening : a.place ≡ opening_place editor
     last_part : (outcome : ConsumerOutcome) → TookLast relays a begin now size outcome b → RelayWrotePart editors (call_bytes bytes now.left begin.taken now.taken) size
     last_part outcome t =
         part_at t.mid t.middle t.took b now size t.last NoMemory t.gives t.short t.did.written
-        (relays_lawful.refused t.mid b t.last outcome t.did.written NoMemory t.did.does tt) t.did.writes
+        (relays_lawful.refused t.mid b t.last outcome t.did.written t.did.written NoMemory t.did.does (prefix_all t.did.written) tt) t.did.writes
 
     between_part : TookBytes relays a begin now b → RelayWrotePart editors (call_bytes bytes now.left begin.taken now.taken) size
     between_part t =

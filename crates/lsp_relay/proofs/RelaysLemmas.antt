@@ -8,6 +8,7 @@ use Rattle.lsp_server.specs.Errors.{ComesOfSink}
 use Rattle.lsp_server.specs.Items.{Decodes}
 use Rattle.lsp_server.specs.Written.{IsPrefixOf}
 use Rattle.lsp_server.specs.Consuming.{Given, piece, end, ConsumerOutcome, goes_on, done, stops, IsLawfulConsumer, Did}
+use Rattle.lsp_server.proofs.KnownLemmas.{prefix_more, prefix_none}
 use Rattle.lsp_server.proofs.CodecLemmas.{decodes_nothing, decodes_more, decodes_fed, more_nothing, more_more}
 use Rattle.lsp_proxy.specs.Law.{sent_over, state_after}
 use Rattle.lsp_relay.specs.Relay.{RelayPlace, TookItems, TookTold, events, sent_frames, counted}
@@ -56,13 +57,13 @@ told_begins a b bytes written p c =
     let written_is : written ≡ frames_from a.place p.given = p.took.waiting ∙ ap (λ l. l ++ frames_from a.place p.given) p.before in
     (rest, ap (λ l. l ++ rest) written_is ∙ sym (frames_on a.place p.given after) ∙ ap (frames_from a.place) (sym (p.decodes.items c)))
 
-relays_refused : (a b : Stand) (given : Given) (outcome : ConsumerOutcome) (written : List ℕ) (e : ServeError) → Relays a given outcome written b → ComesOfSink e → Relays a given (stops e) written b
-relays_refused a b (piece bytes) goes_on written e p sink = (sink, told_begins a b bytes written p)
-relays_refused a b (piece bytes) done written e p sink = absurd p
-relays_refused a b (piece bytes) (stops e0) written e p sink = (sink, p.1)
-relays_refused a b end goes_on written e p sink = absurd p
-relays_refused a b end done written e p sink = (sink, p.none)
-relays_refused a b end (stops e0) written e p sink = (sink, p.1)
+relays_refused : (a b : Stand) (given : Given) (outcome : ConsumerOutcome) (written part : List ℕ) (e : ServeError) → Relays a given outcome written b → IsPrefixOf part written → ComesOfSink e → Relays a given (stops e) part b
+relays_refused a b (piece bytes) goes_on written part e p some sink = (sink, λ c. prefix_more part written (frames_from a.place (items_at (more (more a.codec bytes) c))) some (told_begins a b bytes written p c))
+relays_refused a b (piece bytes) done written part e p some sink = absurd p
+relays_refused a b (piece bytes) (stops e0) written part e p some sink = (sink, λ c. prefix_more part written (frames_from a.place (items_at (more (more a.codec bytes) c))) some (p.1 c))
+relays_refused a b end goes_on written part e p some sink = absurd p
+relays_refused a b end done written part e p some sink = (sink, prefix_none part written some p.none)
+relays_refused a b end (stops e0) written part e p some sink = (sink, prefix_none part written some p.1)
 
 relays_opens : (a b : Stand) (given : Given) (written : List ℕ) → Relays a given goes_on written b → IsOpen b
 relays_opens a b (piece bytes) written p = p.opened

@@ -154,6 +154,6 @@ pub fn relay_over<T: Transport>(
 {
     let codec = LanguageServerCodec::default(alloc);
     let mut carrier = Carrier::new(alloc, editors)?;
-    over_reads(io, &mut Relaying { codec }, &mut carrier, reads)?;
+    over_reads(alloc, io, &mut Relaying { codec }, &mut carrier, reads)?;
     Ok(carrier.relayed)
 }

@@ -9,6 +9,7 @@ pub mod RanLemmas
 pub mod GoingLemmas
 pub mod OrderLemmas
 pub mod TakingLemmas
+pub mod GatheringLemmas
 pub mod ServesLemmas
 pub mod ServingLemmas
 pub mod ServedLemmas

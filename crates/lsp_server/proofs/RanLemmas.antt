@@ -18,7 +18,7 @@ use Rattle.lsp_session.proofs.StepLemmas.{run_on, grown_on}
 use Rattle.lsp_session.proofs.LifeLemmas.{Notes, step_notes, step_lives}
 use Rattle.lsp_server.specs.Course.{picked}
 use Rattle.lsp_server.specs.Written.{IsPrefixOf, IsPartOf, Place, place, Ran, RanPart}
-use Rattle.lsp_server.proofs.KnownLemmas.{appends_none, appends_more, appends_kept}
+use Rattle.lsp_server.proofs.KnownLemmas.{appends_none, appends_more, appends_kept, prefix_more}
 use Rattle.lsp_server.proofs.FramesLemmas.{frames-append}
 use Rattle.lsp_server.proofs.PointLemmas.{Point}
 use Rattle.lsp_server.proofs.ItemsLemmas.{not_exited, alive}
@@ -64,6 +64,21 @@ module _ {S D : Type 0} {step : S → ItemData → Effect → S → Type 0} {m :
   pub part_alone : {old : S} {old_desk desk : D} {items : List ItemData} {written : List ℕ} → RanPart step m (record { state = old; desk = old_desk; taken = Some [] }) items desk (Some written)
       → IsPartOf step m old old_desk items written desk
   part_alone {old = old} {old_desk = old_desk} {desk = desk} {items = items} {written = written} p = subst (λ l. IsPartOf step m old old_desk items l desk) (sym p.writes) p.part
+
+  -- what begins a part is one too
+  pub part_short : {old : S} {old_desk desk : D} {items : List ItemData} {written short : List ℕ} → IsPrefixOf short written → IsPartOf step m old old_desk items written desk → IsPartOf step m old old_desk items short desk
+  part_short {written = written} {short = short} some p = record {
+    given = p.given;
+    rest = p.rest;
+    split = p.split;
+    effect = p.effect;
+    last = p.last;
+    run = p.run;
+    desk = p.desk;
+    grows = p.grows;
+    further = p.further;
+    part = prefix_more short written (frames p.effect.out) some p.part;
+  }
 
 module _ {S D : Type 0} {step : S → ItemData → Effect → S → Type 0} {m : Meaning D} where
   pub ran_none : (a : Place S D) → Ran step m a [] a

@@ -19,7 +19,7 @@ use Rattle.lsp_server.specs.Served.{ServedTold, call_bytes, RanFrom, ReadEnough,
 use Rattle.lsp_server.specs.Reads.{Moment, Made, InOrder}
 use Rattle.lsp_server.specs.Consuming.{Given, piece, end, ConsumerOutcome, goes_on, done, stops, last_outcome, Did, Took, AllTook, bytes_of, IsTimely, TookLast}
 use Rattle.lsp_server.specs.Serving.{after_taking, IsIdle, Here, find_here, Serves, serves}
-use Rattle.lsp_server.proofs.KnownLemmas.{consumes_none, end_before}
+use Rattle.lsp_server.proofs.KnownLemmas.{consumes_none, end_before, prefix_all}
 use Rattle.lsp_server.proofs.OrderLemmas.{made_in_order}
 use Rattle.lsp_server.proofs.RanLemmas.{ran_onto, ran_grown, grown_after}
 use Rattle.lsp_server.proofs.ServesLemmas.{told_onto, serves_lawful}
@@ -184,7 +184,7 @@ module _ {H D C T P : Type 0} (semantics : Semantics H C T) (laws : IsLawfulHand
       last_part : (outcome : ConsumerOutcome) → TookLast (serves semantics m order) a start now size outcome b → WrotePart way (call_bytes bytes now.left start.taken now.taken) size b.desk
       last_part outcome t =
           part_at t.mid t.middle t.took b now size t.last NoMemory t.gives t.short t.timely t.did.written
-          ((serves_lawful semantics laws m order).refused t.mid b t.last outcome t.did.written NoMemory t.did.does tt) t.did.writes
+          ((serves_lawful semantics laws m order).refused t.mid b t.last outcome t.did.written t.did.written NoMemory t.did.does (prefix_all t.did.written) tt) t.did.writes
 
       between_part : Took (serves semantics m order) a start now b → WrotePart way (call_bytes bytes now.left start.taken now.taken) size b.desk
       between_part t =

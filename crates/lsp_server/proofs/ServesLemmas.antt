@@ -17,7 +17,7 @@ use Rattle.lsp_server.specs.declared.step.ServeError.{ServeError}
 use Rattle.lsp_server.specs.declared.step.ServeError.TheVariants.{DeskSpent, NoMemory}
 use Rattle.lsp_server.specs.Errors.{SaysSpent, ComesOfSink}
 use Rattle.lsp_server.specs.Items.{admitted, all_admitted, Decodes}
-use Rattle.lsp_server.specs.Written.{Ran, RanPart}
+use Rattle.lsp_server.specs.Written.{IsPrefixOf, Ran, RanPart}
 use Rattle.lsp_server.specs.Served.{ServedTold}
 use Rattle.lsp_server.specs.Consuming.{Given, piece, end, ConsumerOutcome, goes_on, done, stops, consumer_outcome, last_outcome, IsLawfulConsumer, Did}
 use Rattle.lsp_server.specs.Serving.{Spot, after_taking, IsIdle, PartTold, Here, find_here, StepHere, IsOpen, ServesTold, Serves, serves}
@@ -25,7 +25,7 @@ use Rattle.lsp_server.proofs.KnownLemmas.{appends_none}
 use Rattle.lsp_server.proofs.PointLemmas.{Point, find_at}
 use Rattle.lsp_server.proofs.ItemsLemmas.{has_exit-append, has_exit_same, run_table}
 use Rattle.lsp_server.proofs.CodecLemmas.{decodes_nothing, decodes_more, decodes_fed, more_nothing, more_more}
-use Rattle.lsp_server.proofs.RanLemmas.{ran_none, ran_more, ran_alone, ran_onto, part_alone, part_whole, ran_grown, grown_none}
+use Rattle.lsp_server.proofs.RanLemmas.{ran_none, ran_more, ran_alone, ran_onto, part_alone, part_short, part_whole, ran_grown, grown_none}
 use Rattle.lsp_server.proofs.GoingLemmas.{told_any}
 
 spent_of_sink : {D : Type 0} (m : Meaning D) (desk : D) (e : ServeError) → ComesOfSink e → SaysSpent m desk e
@@ -101,26 +101,26 @@ module _ {H D C T P : Type 0} (semantics : Semantics H C T) (laws : sessions.IsL
         q.1,
       )
 
-  told_refused : (a b : Here semantics m order) (bytes : List ℕ) (exits : Bool) (written : List ℕ) (e : ServeError) → ServesTold semantics m order a bytes exits written b → ComesOfSink e
-      → Serves semantics m order a (piece bytes) (stops e) written b
-  told_refused a b bytes exits written e p sink = record {
-    part = λ c. part_alone (told_any exits (find_here semantics m order a) (after_taking (Some []) a) (more a.codec bytes) (after_taking (Some written) b) b.codec p.told c);
+  told_refused : (a b : Here semantics m order) (bytes : List ℕ) (exits : Bool) (written part : List ℕ) (e : ServeError) → ServesTold semantics m order a bytes exits written b → IsPrefixOf part written → ComesOfSink e
+      → Serves semantics m order a (piece bytes) (stops e) part b
+  told_refused a b bytes exits written part e p some sink = record {
+    part = λ c. part_short some (part_alone (told_any exits (find_here semantics m order a) (after_taking (Some []) a) (more a.codec bytes) (after_taking (Some written) b) b.codec p.told c));
     grown = ran_grown (after_taking (Some []) a) (after_taking (Some written) b) (all_admitted p.told.given) p.told.ran;
     spent = spent_of_sink m b.desk e sink;
   }
 
-  serves_refused : (a b : Here semantics m order) (given : Given) (outcome : ConsumerOutcome) (written : List ℕ) (e : ServeError) → Serves semantics m order a given outcome written b → ComesOfSink e
-      → Serves semantics m order a given (stops e) written b
-  serves_refused a b (piece bytes) goes_on written e p sink = told_refused a b bytes false written e p.0 sink
-  serves_refused a b (piece bytes) done written e p sink = told_refused a b bytes true written e p sink
-  serves_refused a b (piece bytes) (stops e0) written e p sink = record { part = p.part; grown = p.grown; spent = spent_of_sink m b.desk e sink }
-  serves_refused a b end goes_on written e p sink = absurd p
-  serves_refused a b end done written e p sink = record {
-    part = part_alone (part_whole (after_taking (Some []) a) (after_taking (Some written) b) (served (find_here semantics m order a) (all_admitted (items_at a.codec))) p.ran);
+  serves_refused : (a b : Here semantics m order) (given : Given) (outcome : ConsumerOutcome) (written part : List ℕ) (e : ServeError) → Serves semantics m order a given outcome written b → IsPrefixOf part written → ComesOfSink e
+      → Serves semantics m order a given (stops e) part b
+  serves_refused a b (piece bytes) goes_on written part e p some sink = told_refused a b bytes false written part e p.0 some sink
+  serves_refused a b (piece bytes) done written part e p some sink = told_refused a b bytes true written part e p some sink
+  serves_refused a b (piece bytes) (stops e0) written part e p some sink = record { part = λ c. part_short some (p.part c); grown = p.grown; spent = spent_of_sink m b.desk e sink }
+  serves_refused a b end goes_on written part e p some sink = absurd p
+  serves_refused a b end done written part e p some sink = record {
+    part = part_short some (part_alone (part_whole (after_taking (Some []) a) (after_taking (Some written) b) (served (find_here semantics m order a) (all_admitted (items_at a.codec))) p.ran));
     grown = ran_grown (after_taking (Some []) a) (after_taking (Some written) b) (served (find_here semantics m order a) (all_admitted (items_at a.codec))) p.ran;
     spent = spent_of_sink m b.desk e sink;
   }
-  serves_refused a b end (stops e0) written e p sink = record { part = p.part; grown = p.grown; spent = spent_of_sink m b.desk e sink }
+  serves_refused a b end (stops e0) written part e p some sink = record { part = part_short some p.part; grown = p.grown; spent = spent_of_sink m b.desk e sink }
 
   serves_opens : (a b : Here semantics m order) (given : Given) (written : List ℕ) → Serves semantics m order a given goes_on written b → IsOpen semantics m order b
   serves_opens a b (piece bytes) written p = p.1

@@ -23,7 +23,7 @@ use Rattle.lsp_server.specs.ServesOn.{coming, coming_told, ServesOn}
 use Rattle.lsp_server.specs.Reads.{Moment}
 use Rattle.lsp_server.specs.Consuming.{Given, piece, end, ConsumerOutcome, done, stops, last_outcome, Did, Took, bytes_of, IsTimely, TookLast}
 use Rattle.lsp_server.specs.Serving.{after_taking, Here, find_here, StepHere, Serves, serves}
-use Rattle.lsp_server.proofs.KnownLemmas.{consumes_more, what_is_left, all_read, end_before}
+use Rattle.lsp_server.proofs.KnownLemmas.{consumes_more, what_is_left, all_read, end_before, prefix_all}
 use Rattle.lsp_server.proofs.ItemsLemmas.{served_same, has_exit_same, has_exit-append, served-open, served-closed, run_table}
 use Rattle.lsp_server.proofs.CodecLemmas.{decodes_more, decodes_fed, told_now, more_nothing, more_more}
 use Rattle.lsp_server.proofs.RanLemmas.{ran_more, ran_onto, part_after, part_all}
@@ -189,7 +189,7 @@ module _ {H D C T P : Type 0} (semantics : Semantics H C T) (laws : IsLawfulHand
           }
 
       refused : (t : TookLast (serves semantics m order) a start now size done b) → Did (serves semantics m order) t.mid t.last (stops NoMemory) t.middle.taken now.taken b
-      refused t = record { written = t.did.written; does = (serves_lawful semantics laws m order).refused t.mid b t.last done t.did.written NoMemory t.did.does tt; writes = t.did.writes }
+      refused t = record { written = t.did.written; does = (serves_lawful semantics laws m order).refused t.mid b t.last done t.did.written t.did.written NoMemory t.did.does (prefix_all t.did.written) tt; writes = t.did.writes }
 
       at_done : TookLast (serves semantics m order) a start now size done b → ServesOn way a.codec (call_bytes bytes now.left start.taken now.taken) b.state b.desk None
       at_done t = record {

@@ -4,6 +4,7 @@ use Rattle.std.specs.Io.KnownBytes.{Consumes, Appends}
 use Rattle.lsp_server.specs.declared.step.ServeError.{ServeError}
 use Rattle.lsp_server.specs.Errors.{ComesOfSink}
 use Rattle.lsp_server.specs.SourceSink.{IsFlushed}
+use Rattle.lsp_server.specs.Written.{IsPrefixOf}
 use Rattle.lsp_server.specs.Reads.{Moment}
 
 -- what a consumer is given: bytes, or word that no more come
@@ -31,8 +32,9 @@ pub record IsLawfulConsumer {C : Type 0} (m : Consuming C) : Type 0 where
   pub none : (a : C) → m.is_open a → m.does a (piece []) goes_on [] a
   -- bytes after bytes are as all of them at once
   pub more : (a b c : C) (xs ys ws vs : List ℕ) → m.does a (piece xs) goes_on ws b → m.does b (piece ys) goes_on vs c → m.does a (piece (xs ++ ys)) goes_on (ws ++ vs) c
-  -- a sink that then refuses to flush stops it, whatever came of it
-  pub refused : (a b : C) (given : Given) (outcome : ConsumerOutcome) (written : List ℕ) (e : ServeError) → m.does a given outcome written b → ComesOfSink e → m.does a given (stops e) written b
+  -- a sink that then refuses stops it, whatever came of it, and may have taken any first part of what it wrote
+  pub refused : (a b : C) (given : Given) (outcome : ConsumerOutcome) (written part : List ℕ) (e : ServeError) → m.does a given outcome written b → IsPrefixOf part written → ComesOfSink e
+      → m.does a given (stops e) part b
 
 -- what holds of a consumer where one sees of it what another is
 abbrev pub through : {A B : Type 0} → (A → B) → Consuming B → Consuming A

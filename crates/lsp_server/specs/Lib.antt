@@ -13,6 +13,7 @@ pub mod Reads
 pub mod ReadAt
 pub mod MemoryTransport
 pub mod Leaves
+pub mod Gathering
 pub mod Consuming
 pub mod Serving
 pub mod ServerView

@@ -2,6 +2,7 @@
 #![tactic(auto)]
 
 mod consumer;
+mod gathered;
 pub mod law;
 mod memory;
 mod memory_transport;

@@ -1,13 +1,17 @@
 // The loop over the reads, whatever is done with their bytes.
-ghost use Rattle.std.specs.Prelude.{◌≡◌, ◌≤◌, IfErr};
+ghost use Rattle.std.specs.Prelude.{◌≡◌, ◌≤◌, [], OnOk, IfErr};
 ghost use Rattle.std.specs.Result.{result_err};
 ghost use Rattle.lsp_server.specs.Consuming.{IsLawfulConsumer, Did, Took, TookLast, AllTook, piece as a_piece, end as the_end, consumer_outcome, last_outcome};
 ghost use Rattle.lsp_server.specs.Leaves.{LeavesFaults, StaysFlushed, TellsFaults, WithinReads};
 ghost use Rattle.lsp_server.specs.Reads.{moment, Made, InOrder};
 ghost use Rattle.lsp_server.specs.Errors.{IsBetweenReads, IsInStep, EndsInStep};
 
+use crate::gathered::{Gathered, write_held, write_held_after};
 use crate::step::{flush, flush_after};
 use crate::{Consumer, Failed, ServeError, Sink, Transport};
+use bytes::BytesMut;
+use std::alloc::Global;
+use std::snapshot::Snapshot;
 
 // How many bytes are read at most at a time.
 const READ_SIZE: usize = 4096;
@@ -16,8 +20,10 @@ const READ_SIZE: usize = 4096;
 /// reads.
 ///
 /// It reads pieces of at most 4,096 bytes, at most `reads` of them. Before each read the consumer
-/// has taken all bytes that were read, and what it wrote is flushed.
+/// has taken all bytes that were read, and what it wrote is flushed. Until then it is held in one
+/// buffer, and written to the transport where this would hold more than 64 KiB.
 pub fn over_reads<T: Transport, S, C: Consumer<S>>(
+    alloc: Global,
     io: &mut T,
     consumer: &mut C,
     state: &mut S,
@@ -52,15 +58,16 @@ pub fn over_reads<T: Transport, S, C: Consumer<S>>(
     ensures tied { (T.tied io.new ≡ T.tied io.old) × (C.tied consumer.new ≡ C.tied consumer.old) }
 {
     let mut piece = [0; READ_SIZE];
+    let mut held = BytesMut::new(alloc);
     for _ in 0..reads {
         let n = match io.read(&mut piece) {
             Ok(n) => n,
             Err(Failed) => return Err(ServeError::ReadFault),
         };
         if n == 0 {
-            return end_flushed(consumer, state, io);
+            return end_flushed(consumer, state, io, &mut held);
         }
-        if take_flushed(consumer, state, &piece[..n], io)? {
+        if take_flushed(consumer, state, &piece[..n], io, &mut held)? {
             return Ok(());
         }
     }
@@ -73,18 +80,21 @@ fn take_flushed<O: Sink, S, C: Consumer<S>>(
     state: &mut S,
     piece: &[u8],
     sink: &mut O,
+    held: &mut BytesMut,
 ) -> Result<bool, ServeError>
     requires lawful { IsLawfulConsumer C.meaning }
     requires opened { C.meaning.is_open (consumer.old, state.old) }
+    requires empty { held.old.items ≡ [] }
     ensures did { Did C.meaning (consumer.old, state.old) (a_piece piece.now) (consumer_outcome result)
         (O.taken sink.old) (O.taken sink.new) (consumer.new, state.new) }
+    ensures empty { OnOk result (held.new.items ≡ []) }
     ensures flushed { StaysFlushed (O.taken sink.old) (O.flushed sink.old)
         (O.taken sink.new) (O.flushed sink.new) (result_err result) }
     ensures sink { LeavesFaults O.faults O.beside sink.old sink.new (result_err result) }
     ensures others { IfErr result IsInStep }
     ensures tied { C.tied consumer.new ≡ C.tied consumer.old }
 {
-    match consumer.take(state, piece, sink) {
+    match take_written(consumer, state, piece, sink, held) {
         Ok(done) => {
             flush(sink)?;
             Ok(done)
@@ -98,9 +108,11 @@ fn end_flushed<O: Sink, S, C: Consumer<S>>(
     consumer: &mut C,
     state: &mut S,
     sink: &mut O,
+    held: &mut BytesMut,
 ) -> Result<(), ServeError>
     requires lawful { IsLawfulConsumer C.meaning }
     requires opened { C.meaning.is_open (consumer.old, state.old) }
+    requires empty { held.old.items ≡ [] }
     ensures did { Did C.meaning (consumer.old, state.old) the_end (last_outcome result)
         (O.taken sink.old) (O.taken sink.new) (consumer.new, state.new) }
     ensures flushed { StaysFlushed (O.taken sink.old) (O.flushed sink.old)
@@ -109,8 +121,78 @@ fn end_flushed<O: Sink, S, C: Consumer<S>>(
     ensures others { IfErr result IsInStep }
     ensures tied { C.tied consumer.new ≡ C.tied consumer.old }
 {
-    match consumer.end(state, sink) {
+    match end_written(consumer, state, sink, held) {
         Ok(()) => flush(sink),
         Err(error) => Err(flush_after(sink, error)),
+    }
+}
+
+// Gives a piece, and writes what is held of what was written for it, also where the consumer fails,
+// but not after a failed write.
+fn take_written<O: Sink, S, C: Consumer<S>>(
+    consumer: &mut C,
+    state: &mut S,
+    piece: &[u8],
+    sink: &mut O,
+    held: &mut BytesMut,
+) -> Result<bool, ServeError>
+    requires lawful { IsLawfulConsumer C.meaning }
+    requires opened { C.meaning.is_open (consumer.old, state.old) }
+    requires empty { held.old.items ≡ [] }
+    ensures did { Did C.meaning (consumer.old, state.old) (a_piece piece.now) (consumer_outcome result)
+        (O.taken sink.old) (O.taken sink.new) (consumer.new, state.new) }
+    ensures empty { OnOk result (held.new.items ≡ []) }
+    ensures flushed { O.flushed sink.new ≡ O.flushed sink.old }
+    ensures sink { LeavesFaults O.faults O.beside sink.old sink.new (result_err result) }
+    ensures others { IfErr result IsInStep }
+    ensures tied { C.tied consumer.new ≡ C.tied consumer.old }
+{
+    let start = Snapshot::of(&*sink);
+    let taken = {
+        let mut gathered = Gathered {
+            sink: &mut *sink,
+            held: &mut *held,
+            start,
+        };
+        consumer.take(state, piece, &mut gathered)
+    };
+    match taken {
+        Ok(done) => {
+            write_held(sink, held)?;
+            Ok(done)
+        }
+        Err(error) => Err(write_held_after(sink, held, error)),
+    }
+}
+
+// Tells the end, and writes what is held of what was written for it, as `take_written` does.
+fn end_written<O: Sink, S, C: Consumer<S>>(
+    consumer: &mut C,
+    state: &mut S,
+    sink: &mut O,
+    held: &mut BytesMut,
+) -> Result<(), ServeError>
+    requires lawful { IsLawfulConsumer C.meaning }
+    requires opened { C.meaning.is_open (consumer.old, state.old) }
+    requires empty { held.old.items ≡ [] }
+    ensures did { Did C.meaning (consumer.old, state.old) the_end (last_outcome result)
+        (O.taken sink.old) (O.taken sink.new) (consumer.new, state.new) }
+    ensures flushed { O.flushed sink.new ≡ O.flushed sink.old }
+    ensures sink { LeavesFaults O.faults O.beside sink.old sink.new (result_err result) }
+    ensures others { IfErr result IsInStep }
+    ensures tied { C.tied consumer.new ≡ C.tied consumer.old }
+{
+    let start = Snapshot::of(&*sink);
+    let ended = {
+        let mut gathered = Gathered {
+            sink: &mut *sink,
+            held: &mut *held,
+            start,
+        };
+        consumer.end(state, &mut gathered)
+    };
+    match ended {
+        Ok(()) => write_held(sink, held),
+        Err(error) => Err(write_held_after(sink, held, error)),
     }
 }

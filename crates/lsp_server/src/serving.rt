@@ -140,7 +140,7 @@ pub fn serve_over<T: Transport, D: Desk + Drop, H: Handlers<D>, P: Pick>(
         pick,
         rounds,
     };
-    over_reads(io, &mut serving, session, reads)
+    over_reads(alloc, io, &mut serving, session, reads)
 }
 
 /// Serves a session on over a transport, from where it and the codec stand, to the end of input or
@@ -188,7 +188,7 @@ pub fn serve_from<T: Transport, D: Desk + Drop, H: Handlers<D>, P: Pick>(
         pick,
         rounds,
     };
-    over_reads(io, &mut serving, session, reads)
+    over_reads(alloc, io, &mut serving, session, reads)
 }
 
 /// Makes the step of one item by way of the room, and flushes what was written, also where the step

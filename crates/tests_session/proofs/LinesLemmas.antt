@@ -40,7 +40,7 @@ counting_lawful = record {
   opens = opens;
   none = λ a is. (counted_none a.1.lines is, refl);
   more = λ a b c. more a.1.lines b.1.lines c.1.lines;
-  refused = λ a b given outcome written e p sink. refused a.1.lines b.1.lines given outcome written e;
+  refused = λ a b given outcome written part e p some sink. refused a.1.lines b.1.lines given outcome part e;
 }
 
 -- at the end all lines were counted

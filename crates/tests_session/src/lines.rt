@@ -7,6 +7,7 @@ use lsp_rows::Trial;
 #[cfg(test)]
 use lsp_server::MemoryTransport;
 use lsp_server::{Consumer, ServeError, Sink, Transport, over_reads};
+use std::alloc::Global;
 #[cfg(test)]
 use std::test::Fail;
 
@@ -58,11 +59,15 @@ impl Consumer<Count> for Lines {
 }
 
 // How many lines end in what is left of the transport.
-pub fn count_lines<T: Transport>(io: &mut T, reads: u64) -> Result<u64, ServeError>
+pub fn count_lines<T: Transport>(
+    alloc: Global,
+    io: &mut T,
+    reads: u64,
+) -> Result<u64, ServeError>
     ensures { IfOk result (λ n. IfSome (T.left io.old) (λ bytes. n ≡ counted (lines_in bytes))) }
 {
     let mut count = Count { lines: 0 };
-    over_reads(io, &mut Lines, &mut count, reads)?;
+    over_reads(alloc, io, &mut Lines, &mut count, reads)?;
     Ok(count.lines)
 }
 
@@ -80,7 +85,7 @@ fn lines_are_counted_over_reads(rt: HostRuntime) -> Result<(), Fail> {
         }
         let bytes = Vec::from_slice(alloc, b"a\nbc\n\nd")?;
         let mut io = MemoryTransport::new(alloc, bytes, *piece);
-        trial.same(*piece, count_lines(&mut io, 1000), Ok(3));
+        trial.same(*piece, count_lines(alloc, &mut io, 1000), Ok(3));
         trial.same(*piece, io.bytes().len(), 0);
     }
     Ok(trial.end()?)

@@ -14,6 +14,7 @@ loop-init g c = record {
   reading = reading_start c.requires.lawful (c.args.consumer.now, c.args.state.now) (moment (g.T.Transport.left c.args.io.now) (g.T.Sink.taken c.args.io.now) (g.T.Sink.flushed c.args.io.now)) c.requires.opened;
   opened = c.requires.opened;
   size = refl;
+  empty = search rules;
   flushed = λ was. was;
   reads_count = refl;
   writes_count = refl;
@@ -195,6 +196,7 @@ loop-preserved g c =
           (omega (arith, c.in-Ok.ensures.within, length-take c.in-Ok.n c.read.new.piece, c.if-n-eq0.false)) (omega (arith, c.in-Ok.ensures.within, length-take c.in-Ok.n c.read.new.piece));
       opened = c.requires.lawful.opens (c.loop.consumer, c.loop.state) (c.take_flushed.new.consumer, c.take_flushed.new.state) (piece (take c.in-Ok.n c.read.new.piece)) did.written did.does;
       size = search rules;
+      empty = search rules;
       flushed = λ was. c.in_ok-take_flushed.ensures.flushed.flushed (rw (c.in-Ok.ensures.taken, c.in-Ok.ensures.flushed) (c.loop.invariant.flushed was));
       reads_count = apart.1 ∙ c.in-Ok.ensures.unfailed ∙ c.loop.invariant.reads_count;
       writes_count = c.in_ok-take_flushed.ensures.sink.unfailed ∙ c.in-Ok.ensures.write_faults ∙ c.loop.invariant.writes_count;

@@ -1,5 +1,5 @@
 -- The bytes read were given, and the consumer goes on.
-use Rattle.std.proofs.Common.{◌≡◌, length}
+use Rattle.std.proofs.Common.{◌≡◌, length, []}
 use Rattle.lsp_server.specs.SourceSink.{IsFlushed}
 use Rattle.lsp_server.specs.Consuming.{AllTook}
 use Rattle.lsp_server.specs.Reads.{moment, Made}
@@ -16,6 +16,7 @@ invariant-loop g l =
       reading : Reading m (l.initial.consumer, l.initial.state) start now (l.consumer, l.state) l.counter;
       opened : m.is_open (l.consumer, l.state);
       size : length l.piece ≡ 4096;
+      empty : l.held.items ≡ [];
       flushed : IsFlushed (g.T.Sink.taken l.initial.io) (g.T.Sink.flushed l.initial.io) → IsFlushed (g.T.Sink.taken l.io) (g.T.Sink.flushed l.io);
       reads_count : g.T.Transport.read_faults l.io ≡ g.T.Transport.read_faults l.initial.io;
       writes_count : g.T.Sink.faults l.io ≡ g.T.Sink.faults l.initial.io;
