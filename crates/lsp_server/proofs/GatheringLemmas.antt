@@ -1,16 +1,16 @@
 -- What a sink that gathers what it is given comes to.
 use Rattle.std.proofs.Common.{◌≡◌, ◌≤◌, ◌+◌, ◌-◌, ℕ, List, [], ◌++◌, length, take, drop, refl, sym, ◌∙◌, ap, subst, append_assoc, take-append-drop, inl, inr, arith}
-use Rattle.std.specs.Prelude.{◌⊎◌, Option, Some, None, IfSome, IfNone}
+use Rattle.std.specs.Prelude.{◌⊎◌, Option, Some, None, Result, Ok, Err, OnOk, IfErr, IfSome, IfNone}
 use Rattle.std.specs.Io.KnownBytes.{Appends, Keeps, append_known}
 use Rattle.std.proofs.lemmas.List.{append-nil, take_all, take-append-le, length-take, append_cancel_left}
 use Rattle.lsp_server.specs.declared.step.ServeError.{ServeError}
-use Rattle.lsp_server.specs.declared.step.ServeError.TheVariants.{ReadFault, WriteFault, ReadsSpent, DeskSpent, NoMemory}
+use Rattle.lsp_server.specs.declared.step.ServeError.TheVariants.{WriteFault}
 use Rattle.lsp_server.specs.SourceSink.{CountRose, Flushes}
 use Rattle.lsp_server.specs.Errors.{ComesOfSink, LeavesSink}
 use Rattle.lsp_server.specs.Written.{IsPrefixOf}
 use Rattle.lsp_server.specs.Gathering.{bytes_told, IsBegunBy, Moves}
 use Rattle.lsp_server.specs.Leaves.{LeavesFaults}
-use Rattle.lsp_server.specs.Consuming.{Given, ConsumerOutcome, stops, Consuming, IsLawfulConsumer, Did}
+use Rattle.lsp_server.specs.Consuming.{Given, ConsumerOutcome, done, stops, last_outcome, Consuming, IsLawfulConsumer, Did}
 use Rattle.lsp_server.proofs.KnownLemmas.{appends_none, appends_more, appends_kept}
 
 -- ---- what was moved
@@ -69,9 +69,6 @@ moves_flush (Some t) (Some u) held0 held1 (Some n) (Some k) flushed2 p none same
 
 -- ---- what the sink had taken when gathering began
 
-take_none : (n : ℕ) → take n [] ≡ []
-take_none n = grind arith
-
 pub begun_self : (taken : Option (List ℕ)) → IsBegunBy taken taken
 begun_self None = refl
 begun_self (Some t) = take_all (length t) t (omega arith)
@@ -80,7 +77,8 @@ begun_self (Some t) = take_all (length t) t (omega arith)
 pub begun_more : (then taken0 taken1 : Option (List ℕ)) (part : List ℕ) → IsBegunBy then taken0 → Appends taken0 taken1 part → IsBegunBy then taken1
 begun_more None taken0 taken1 part p q = refl
 begun_more (Some t) None taken1 part p q =
-    let none : t ≡ [] = sym p ∙ take_none (length t) in
+    let empty : List ℕ = [] in
+    let none : t ≡ [] = sym p ∙ take_all (length t) empty (omega arith) in
     rw none refl
 begun_more (Some t) (Some u) None part p q = absurd q
 begun_more (Some t) (Some u) (Some v) part p q =
@@ -129,3 +127,52 @@ module _ {C : Type 0} (m : Consuming C) (a b : C) (given : Given) (outcome : Con
   pub did_stands : IsLawfulConsumer m → IsBegunBy taken0 taken1 → (error result : ServeError) → outcome ≡ stops error → ((result ≡ error) × (held2 ≡ [])) ⊎ ComesOfSink result → Did m a given (stops result) taken0 taken2 b
   did_stands laws begun error result is (inl same) = subst (λ o. Did m a given o taken0 taken2 b) (is ∙ ap stops (sym same.0)) (did_written same.1)
   did_stands laws begun error result is (inr sink) = did_part laws begun result sink
+
+  -- the end was told
+  pub did_ended : {A : Type 0} → IsLawfulConsumer m → IsBegunBy taken0 taken1 → (r : Result A ServeError) → outcome ≡ done → OnOk r (held2 ≡ []) → IfErr r ComesOfSink → Did m a given (last_outcome r) taken0 taken2 b
+  did_ended laws begun (Ok x) is none sink = subst (λ o. Did m a given o taken0 taken2 b) is (did_written none)
+  did_ended laws begun (Err e) is none sink = did_part laws begun e sink
+
+-- ---- the count of faults, over both
+
+rose_on : (a b c : ℕ) → CountRose a b → b ≤ c → CountRose a c
+rose_on a b c (inl rose) more = inl (omega (arith, rose, more))
+rose_on a b c (inr last) more = inr (omega (arith, last, more))
+
+rose_from : (a b c : ℕ) → a ≤ b → CountRose b c → CountRose a c
+rose_from a b c more (inl rose) = inl (omega (arith, more, rose))
+rose_from a b c more (inr last) = inr last
+
+module _ {O B : Type 0} (faults_of : O → ℕ) (beside_of : O → B) (old mid new : O) where
+  -- what a call of what gathers leaves of the sink, which is known by its name
+  pub leaves_seen : (seen : O) (error : Option ServeError) → mid ≡ seen → beside_of seen ≡ beside_of old → faults_of old ≤ faults_of seen → IfSome error (λ e. e ≡ WriteFault → CountRose (faults_of old) (faults_of seen))
+      → IfNone error (faults_of seen ≡ faults_of old) → IfSome error (λ e. LeavesSink e → faults_of seen ≡ faults_of old) → LeavesFaults faults_of beside_of old mid error
+  leaves_seen seen error same beside count write unfailed left =
+      subst (λ v. LeavesFaults faults_of beside_of old v error) (sym same) (record { beside = beside; count = count; write = write; unfailed = unfailed; left = left })
+
+  -- nothing failed before
+  pub leaves_more : (error : Option ServeError) → LeavesFaults faults_of beside_of old mid None → LeavesFaults faults_of beside_of mid new error → LeavesFaults faults_of beside_of old new error
+  leaves_more None before p = record { beside = p.beside ∙ before.beside; count = omega (arith, before.count, p.count); write = tt; unfailed = p.unfailed ∙ before.unfailed; left = tt }
+  leaves_more (Some e) before p = record {
+    beside = p.beside ∙ before.beside;
+    count = omega (arith, before.count, p.count);
+    write = λ is. subst (λ n. CountRose n (faults_of new)) before.unfailed (p.write is);
+    unfailed = tt;
+    left = λ at. p.left at ∙ before.unfailed;
+  }
+
+  -- an error came before, and it stands, or one of the sink takes its place
+  pub leaves_after : (error result : ServeError) → LeavesFaults faults_of beside_of old mid (Some error) → beside_of new ≡ beside_of mid → faults_of mid ≤ faults_of new
+      → (result ≡ WriteFault → (error ≡ WriteFault) ⊎ CountRose (faults_of mid) (faults_of new)) → (LeavesSink result → (faults_of new ≡ faults_of mid) × LeavesSink error)
+      → LeavesFaults faults_of beside_of old new (Some result)
+  leaves_after error result before beside count write left = record {
+    beside = beside ∙ before.beside;
+    count = omega (arith, before.count, count);
+    write = λ is. rose (write is);
+    unfailed = tt;
+    left = λ at. (left at).0 ∙ before.left (left at).1;
+  }
+    where
+      rose : (error ≡ WriteFault) ⊎ CountRose (faults_of mid) (faults_of new) → CountRose (faults_of old) (faults_of new)
+      rose (inl failed) = rose_on (faults_of old) (faults_of mid) (faults_of new) (before.write failed) count
+      rose (inr later) = rose_from (faults_of old) (faults_of mid) (faults_of new) before.count later

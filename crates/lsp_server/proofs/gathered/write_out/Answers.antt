@@ -8,7 +8,7 @@ loop-sink-init g c = record { moves = moves_none (g.O.Sink.taken c.args.sink.now
 
 pub loop-sink-preserved : goal.loop-sink-preserved
 loop-sink-preserved g c =
-    let more = moves_more (g.O.Sink.taken c.args.sink.now) (g.O.Sink.taken c.loop-sink.sink) (g.O.Sink.taken c.write-n.new.self) c.args.held.now.items c.loop-sink.held.items c.in_ok-n.field-0 c.loop-sink.invariant.moves c.in_ok-n.ensures.takes in
+    let more = moves_more (g.O.Sink.taken c.args.sink.now) (g.O.Sink.taken c.loop-sink.sink) (g.O.Sink.taken c.write.new.self) c.args.held.now.items c.loop-sink.held.items c.in_ok-n.n c.loop-sink.invariant.moves (rw c.as_slice.ensures at c.in_ok-n.ensures.takes) in
     record {
       moves = rw c.advance.ensures.items more;
       flushed = search rules;
@@ -18,4 +18,4 @@ loop-sink-preserved g c =
 
 pub returns-in_err-n-clause-moves : goal.returns-in_err-n-clause-moves
 returns-in_err-n-clause-moves g c =
-    moves_kept (g.O.Sink.taken c.args.sink.now) (g.O.Sink.taken c.loop-sink.sink) (g.O.Sink.taken c.write-n.new.self) c.args.held.now.items c.loop-sink.held.items c.loop-sink.invariant.moves c.in_err-n.ensures.kept
+    moves_kept (g.O.Sink.taken c.args.sink.now) (g.O.Sink.taken c.loop-sink.sink) (g.O.Sink.taken c.write.new.self) c.args.held.now.items c.loop-sink.held.items c.loop-sink.invariant.moves c.in_err-n.ensures.kept
