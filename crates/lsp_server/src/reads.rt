@@ -148,14 +148,13 @@ fn take_written<O: Sink, S, C: Consumer<S>>(
     ensures tied { C.tied consumer.new ≡ C.tied consumer.old }
 {
     let start = Snapshot::of(&*sink);
-    let taken = {
-        let mut gathered = Gathered {
-            sink: &mut *sink,
-            held: &mut *held,
-            start,
-        };
-        consumer.take(state, piece, &mut gathered)
-    };
+    let mut gathered = Gathered { sink, held, start };
+    let taken = consumer.take(state, piece, &mut gathered);
+    let Gathered {
+        sink,
+        held,
+        start: _,
+    } = gathered;
     match taken {
         Ok(done) => {
             write_held(sink, held)?;
@@ -183,14 +182,13 @@ fn end_written<O: Sink, S, C: Consumer<S>>(
     ensures tied { C.tied consumer.new ≡ C.tied consumer.old }
 {
     let start = Snapshot::of(&*sink);
-    let ended = {
-        let mut gathered = Gathered {
-            sink: &mut *sink,
-            held: &mut *held,
-            start,
-        };
-        consumer.end(state, &mut gathered)
-    };
+    let mut gathered = Gathered { sink, held, start };
+    let ended = consumer.end(state, &mut gathered);
+    let Gathered {
+        sink,
+        held,
+        start: _,
+    } = gathered;
     match ended {
         Ok(()) => write_held(sink, held),
         Err(error) => Err(write_held_after(sink, held, error)),
