@@ -150,11 +150,8 @@ fn take_written<O: Sink, S, C: Consumer<S>>(
     let start = Snapshot::of(&*sink);
     let mut gathered = Gathered { sink, held, start };
     let taken = consumer.take(state, piece, &mut gathered);
-    let Gathered {
-        sink,
-        held,
-        start: _,
-    } = gathered;
+    let Gathered { sink, held, start } = gathered;
+    drop(start);
     match taken {
         Ok(done) => {
             write_held(sink, held)?;
@@ -184,11 +181,8 @@ fn end_written<O: Sink, S, C: Consumer<S>>(
     let start = Snapshot::of(&*sink);
     let mut gathered = Gathered { sink, held, start };
     let ended = consumer.end(state, &mut gathered);
-    let Gathered {
-        sink,
-        held,
-        start: _,
-    } = gathered;
+    let Gathered { sink, held, start } = gathered;
+    drop(start);
     match ended {
         Ok(()) => write_held(sink, held),
         Err(error) => Err(write_held_after(sink, held, error)),
