@@ -1,5 +1,5 @@
 //! What the server sends, row by row.
-ghost use Rattle.std.specs.Prelude.{◌≡◌, ◌<◌, ◌^◌, [], ◌∷◌, length, Some, IfOk, OnErr, option_map, map, if◌then◌else◌};
+ghost use Rattle.std.specs.Prelude.{◌≡◌, ◌<◌, ◌^◌, [], ◌∷◌, length, Some, IfOk, option_map, map, if◌then◌else◌};
 ghost use Rattle.lsp_rpc.specs.Message.{request};
 ghost use Rattle.lsp_rpc.specs.Shown.{show_id, show_body, show_request, show_response};
 ghost use Rattle.std.specs.List.{filter};
@@ -7,7 +7,7 @@ ghost use Rattle.lsp_proxy.specs.Proxy.{waiting_sent, opening_after, initialize_
 ghost use Rattle.lsp_proxy.specs.Outgoing.{GivesOutgoing, KeepsAtBroadcast};
 ghost use Rattle.lsp_proxy.specs.Sent.{all_sent};
 ghost use Rattle.lsp_proxy.specs.Tables.{show_asker};
-ghost use Rattle.lsp_proxy.specs.Shown.{show_opening, show_proxy, MakesSent, IsSame};
+ghost use Rattle.lsp_proxy.specs.Shown.{show_opening, show_proxy, MakesSent, DoneOrSame};
 
 use crate::outgoing::{Outgoing, here};
 use crate::parts::{
@@ -91,9 +91,8 @@ impl Proxy {
     // The response to `initialize`, or to an editor's request.
     #[tactic(auto, unfolding(crate::specs::Proxy::initialize_answered))]
     fn initialize_answered(&mut self, n: u64, body: Result<Value, Error>) -> Result<Sent, NoMemory>
-        ensures ok { IfOk result
+        ensures { DoneOrSame self.old self.new result
             (MakesSent self.old self.new (initialize_answered n (show_body body))) }
-        ensures err { OnErr result (IsSame self.old self.new) }
     {
         match self.waiting_sent(n, &body)? {
             Some(sent) => {
@@ -107,8 +106,8 @@ impl Proxy {
     // The response to an editor's request goes to that editor, under its own id.
     #[tactic(auto, unfolding(crate::specs::Proxy::answer_heard))]
     fn answered(&mut self, n: u64, body: Result<Value, Error>) -> Result<Sent, NoMemory>
-        ensures ok { IfOk result (MakesSent self.old self.new (answer_heard n (show_body body))) }
-        ensures err { OnErr result (IsSame self.old self.new) }
+        ensures { DoneOrSame self.old self.new result
+            (MakesSent self.old self.new (answer_heard n (show_body body))) }
     {
         let Some(asker) = self.asked.asker(n) else {
             return Ok(Vec::new(self.alloc));
@@ -120,8 +119,8 @@ impl Proxy {
 
     #[tactic(auto, unfolding(crate::specs::Proxy::server_response))]
     pub(crate) fn server_response(&mut self, reply: Response) -> Result<Sent, NoMemory>
-        ensures ok { IfOk result (MakesSent self.old self.new (server_response (show_response reply))) }
-        ensures err { OnErr result (IsSame self.old self.new) }
+        ensures { DoneOrSame self.old self.new result
+            (MakesSent self.old self.new (server_response (show_response reply))) }
     {
         let (id, body) = reply.into_parts();
         let Some(n) = answered_id(&id) else {
@@ -140,9 +139,8 @@ impl Proxy {
     fn pass_to(&mut self, k: u32, request: Request, id: Id) -> Result<Sent, NoMemory>
         requires lowest { lowest (show_proxy self.old).editors ≡ Some k }
         requires left { (show_proxy self.old).next < last_id }
-        ensures ok { IfOk result
+        ensures { DoneOrSame self.old self.new result
             (MakesSent self.old self.new (pass_to k (show_request request) (show_id id))) }
-        ensures err { OnErr result (IsSame self.old self.new) }
     {
         let n = self.next;
         let sent = one(self.alloc, Side::Editor(k), under_drawn(n, request))?;
@@ -161,9 +159,8 @@ impl Proxy {
 
     #[tactic(auto, unfolding(crate::specs::Proxy::server_request))]
     fn server_request(&mut self, request: Request, id: Id) -> Result<Sent, NoMemory>
-        ensures ok { IfOk result
+        ensures { DoneOrSame self.old self.new result
             (MakesSent self.old self.new (server_request (show_request request) (show_id id))) }
-        ensures err { OnErr result (IsSame self.old self.new) }
     {
         match lowest_of(&self.editors) {
             Some(k) => {
@@ -217,11 +214,9 @@ impl Proxy {
     }
 
     pub(crate) fn server_called(&mut self, request: Request) -> Result<Outgoing, NoMemory>
-        ensures ok { IfOk result
-            (GivesOutgoing self.old self.new (server_called (show_request request)
-            (show_request request).id)) }
+        ensures done { DoneOrSame self.old self.new result (GivesOutgoing self.old self.new
+            (server_called (show_request request) (show_request request).id)) }
         ensures broadcast { IfOk result (KeepsAtBroadcast self.old self.new) }
-        ensures err { OnErr result (IsSame self.old self.new) }
     {
         let (request, id) = split(request);
         match id {

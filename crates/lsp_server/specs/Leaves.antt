@@ -36,3 +36,21 @@ pub record WithinReads (count size : ℕ) (left left_after : Option (List ℕ)) 
   pub all_reads : IfSome error (λ e. e ≡ ReadsSpent → Made reads reads_after (λ made. length made ≡ count))
   -- a read that fails is one of them too
   pub fewer_at_fault : IfSome error (λ e. e ≡ ReadFault → Made reads reads_after (λ made. length made < count))
+
+-- a call writes to a sink, and flushes nothing
+pub record OnlyWrites {O B : Type 0} (flushed_of : O → Option ℕ) (faults_of : O → ℕ) (beside_of : O → B) (old new : O) (error : Option ServeError) : Type 0 where
+  pub flushed : flushed_of new ≡ flushed_of old
+  pub faults : LeavesFaults faults_of beside_of old new error
+
+-- a call writes to a sink, and flushes all that it took, if all was flushed before
+pub record WritesFlushed {O B : Type 0} (taken_of : O → Option (List ℕ)) (flushed_of : O → Option ℕ) (faults_of : O → ℕ) (beside_of : O → B) (old new : O) (error : Option ServeError) : Type 0 where
+  pub flushed : IfNone error (IsFlushed (taken_of old) (flushed_of old) → IsFlushed (taken_of new) (flushed_of new))
+  pub faults : LeavesFaults faults_of beside_of old new error
+
+-- what a call over reads leaves of its transport: all is flushed, each failure is told and has its cause, at most so many
+-- reads are made, and it is the same transport
+pub record LeavesTransport {T B : Type 0} (left_of taken_of : T → Option (List ℕ)) (flushed_of : T → Option ℕ) (reads_of : T → Option (List Moment)) (read_faults_of faults_of : T → ℕ) (tied_of : T → B) (count size : ℕ) (old new : T) (error : Option ServeError) : Type 0 where
+  pub flushed : StaysFlushed (taken_of old) (flushed_of old) (taken_of new) (flushed_of new) error
+  pub faults : TellsFaults (read_faults_of old) (read_faults_of new) (faults_of old) (faults_of new) error
+  pub within : WithinReads count size (left_of old) (left_of new) (reads_of old) (reads_of new) error
+  pub tied : tied_of new ≡ tied_of old

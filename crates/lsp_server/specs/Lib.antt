@@ -1,5 +1,6 @@
 pub mod SourceSink
 pub mod Memory
+pub mod Calls
 pub mod MemorySource
 pub mod MemorySink
 pub mod ReadWrite
@@ -16,6 +17,7 @@ pub mod Leaves
 pub mod Consuming
 pub mod Serving
 pub mod ServerView
+pub mod Steps
 pub mod ServedView
 pub mod ServesSession
 pub mod History

@@ -1,5 +1,5 @@
 -- What the transport in memory tells.
-use Rattle.std.specs.Prelude.{ℕ, List, Option, Some, drop, map}
+use Rattle.std.specs.Prelude.{◌≡◌, ℕ, List, Option, Some, drop, map}
 use Rattle.lsp_server.specs.declared.memory_transport.MemoryTransport.{MemoryTransport}
 use Rattle.lsp_server.specs.Reads.{Moment}
 use Rattle.lsp_server.specs.ReadAt.{moment_at}
@@ -27,3 +27,10 @@ reads_failed t = t.faults
 -- what stood as each read was made
 abbrev pub reads_made : MemoryTransport → List Moment
 reads_made t = map (moment_at t.bytes.items t.taken.items) t.reads.items
+
+-- what no write and no flush changes
+pub record KeepsReads (old new : MemoryTransport) : Type 0 where
+  pub left : bytes_left new ≡ bytes_left old
+  pub reads : reads_made new ≡ reads_made old
+  pub piece : read_size new ≡ read_size old
+  pub faults : reads_failed new ≡ reads_failed old

@@ -40,6 +40,27 @@ server_floats s = s.settings.floats
 abbrev pub server_empty_params : {D : Type 0} {d : CallerGhosts D} → Server D d → Bool
 server_empty_params s = s.empty_params
 
+-- a server's desk and its settings
+pub record SetUp (D : Type 0) : Type 0 where
+  pub desk : D
+  pub concurrency : ℕ
+  pub waiting : ℕ
+  pub limits : Limits
+  pub floats : Floats
+  pub empty_params : Bool
+
+abbrev pub set_up : {D : Type 0} {d : CallerGhosts D} → Server D d → SetUp D
+set_up s = record { desk = server_desk s; concurrency = concurrency s; waiting = waiting s; limits = server_limits s; floats = server_floats s; empty_params = server_empty_params s }
+
+-- a server has this desk and these settings
+pub record IsSetUp {D : Type 0} {d : CallerGhosts D} (server : Server D d) (so : SetUp D) : Type 0 where
+  pub desk : server_desk server ≡ so.desk
+  pub concurrency : concurrency server ≡ so.concurrency
+  pub waiting : waiting server ≡ so.waiting
+  pub limits : server_limits server ≡ so.limits
+  pub floats : server_floats server ≡ so.floats
+  pub empty_params : server_empty_params server ≡ so.empty_params
+
 -- what the server runs a session with
 abbrev pub setting : {H D P : Type 0} {d : CallerGhosts D} → Server D d → H → P → ℕ → Setting H D P
 setting server service pick rounds = record { service = service; desk = server_desk server; max = concurrency server; wait = waiting server; rounds = rounds; limits = server_limits server; floats = server_floats server; empty_params = server_empty_params server; pick = pick }

@@ -1,10 +1,9 @@
 // A transport in memory.
-ghost use Rattle.std.specs.Prelude.{◌≡◌, ◌<◌, ◌≤◌, ℕ, List, Option, [], Some, IsTrue, IfOk, IsOk, IsErrOf, OnOk, OnErr, length, map, take};
+ghost use Rattle.std.specs.Prelude.{◌≡◌, ◌<◌, ◌≤◌, ℕ, List, Option, [], Some, IsTrue, IfOk, IsOk, IsErrOf, OnOk, OnErr, length, map};
 ghost use Rattle.std.specs.List.{list_all};
 ghost use Rattle.std.proofs.Common.{ap};
-ghost use Rattle.std.specs.Io.KnownBytes.{Consumes, Appends, Keeps};
-ghost use Rattle.lsp_server.specs.SourceSink.{CountRose, ReadsEnd, Flushes};
 ghost use Rattle.lsp_server.specs.Memory.{Fills};
+ghost use Rattle.lsp_server.specs.Calls.{GivesBytes, CountsRead, TakesBytes, FlushesBytes};
 ghost use Rattle.lsp_server.specs.Reads.{Moment, moment, Notes};
 ghost use Rattle.lsp_server.specs.ReadAt.{is_within, moment_at};
 
@@ -77,7 +76,7 @@ impl MemoryTransport {
 }
 
 impl Sink for MemoryTransport {
-    ghost use Rattle.lsp_server.specs.MemoryTransport.{bytes_left, bytes_taken, bytes_flushed, read_size, reads_failed, reads_made};
+    ghost use Rattle.lsp_server.specs.MemoryTransport.{bytes_left, bytes_taken, bytes_flushed, read_size, reads_failed, reads_made, KeepsReads};
 
     ghost taken = { λ t. Some (bytes_taken t) };
 
@@ -91,16 +90,9 @@ impl Sink for MemoryTransport {
 
     fn write(&mut self, piece: &[u8]) -> Result<usize, Refused>
         requires { 0 < length piece.now }
-        ensures some { IfOk result (λ n. 0 < n) }
-        ensures takes { IfOk result (λ n. Appends (Some (bytes_taken self.old))
-            (Some (bytes_taken self.new)) (take n piece.now)) }
-        ensures kept { OnErr result (Keeps (Some (bytes_taken self.old))
-            (Some (bytes_taken self.new))) }
-        ensures flushed { bytes_flushed self.new ≡ bytes_flushed self.old }
-        ensures left { bytes_left self.new ≡ bytes_left self.old }
-        ensures reads { reads_made self.new ≡ reads_made self.old }
-        ensures piece { read_size self.new ≡ read_size self.old }
-        ensures faults { reads_failed self.new ≡ reads_failed self.old }
+        ensures takes { TakesBytes (λ t. Some (bytes_taken t)) bytes_flushed self.old self.new
+            piece.now result }
+        ensures reads { KeepsReads self.old self.new }
 
         // It takes the whole piece, and only want of memory refuses it.
         ensures whole { IfOk result (λ n. n ≡ length piece.now) }
@@ -113,13 +105,9 @@ impl Sink for MemoryTransport {
     }
 
     fn flush(&mut self) -> Result<(), Refused>
-        ensures taken { Keeps (Some (bytes_taken self.old)) (Some (bytes_taken self.new)) }
-        ensures flushes { OnOk result (Flushes (Some (bytes_taken self.old))
-            (Some (bytes_flushed self.old)) (Some (bytes_flushed self.new))) }
-        ensures left { bytes_left self.new ≡ bytes_left self.old }
-        ensures reads { reads_made self.new ≡ reads_made self.old }
-        ensures piece { read_size self.new ≡ read_size self.old }
-        ensures faults { reads_failed self.new ≡ reads_failed self.old }
+        ensures flushes { FlushesBytes (λ t. Some (bytes_taken t)) (λ t. Some (bytes_flushed t))
+            self.old self.new result }
+        ensures reads { KeepsReads self.old self.new }
 
         // It never fails, and takes no memory.
         ensures never { IsOk result }
@@ -144,20 +132,14 @@ impl Transport for MemoryTransport {
 
     fn read(&mut self, piece: &mut [u8]) -> Result<usize, Failed>
         requires { 0 < length piece.old }
-        ensures within { IfOk result (λ n. n ≤ length piece.new) }
-        ensures gives { IfOk result (λ n. Consumes (bytes_left self.old) (bytes_left self.new)
-            (take n piece.new)) }
-        ensures ends { IfOk result (λ n. ReadsEnd (bytes_left self.old) n) }
-        ensures kept { OnErr result (Keeps (bytes_left self.old) (bytes_left self.new)) }
+        ensures gives { GivesBytes bytes_left self.old self.new piece.new result }
         ensures notes { OnOk result (Notes (Some (reads_made self.old))
             (moment (bytes_left self.old) (Some (bytes_taken self.old))
             (Some (bytes_flushed self.old))) (Some (reads_made self.new))) }
         ensures unnoted { OnErr result (Some (reads_made self.new) ≡ Some (reads_made self.old)) }
         ensures taken { Some (bytes_taken self.new) ≡ Some (bytes_taken self.old) }
         ensures flushed { Some (bytes_flushed self.new) ≡ Some (bytes_flushed self.old) }
-        ensures count { reads_failed self.old ≤ reads_failed self.new }
-        ensures cause { OnErr result (CountRose (reads_failed self.old) (reads_failed self.new)) }
-        ensures unfailed { OnOk result (reads_failed self.new ≡ reads_failed self.old) }
+        ensures counts { CountsRead reads_failed self.old self.new result }
 
         // It gives all that is left, as far as the piece has room and its size allows.
         ensures full { IfOk result (Fills (bytes_left self.old) (length piece.old)

@@ -1,8 +1,7 @@
 // A reader and a writer of std as a source and a sink: the edge of what is proved.
-ghost use Rattle.std.specs.Prelude.{◌≡◌, ◌≤◌, ◌<◌, length, take, IfOk, OnOk, OnErr, IsErrOf};
-ghost use Rattle.std.specs.Io.KnownBytes.{Consumes, Appends, Keeps};
-ghost use Rattle.lsp_server.specs.SourceSink.{CountRose, ReadsEnd, Flushes};
+ghost use Rattle.std.specs.Prelude.{◌≡◌, ◌<◌, length, OnErr};
 ghost use Rattle.lsp_server.specs.Memory.{next_number};
+ghost use Rattle.lsp_server.specs.Calls.{GivesBytes, CountsRead, TakesBytes, FlushesBytes, CountsWrite, CountsRefused};
 
 use crate::{Failed, Refused, Sink, Source};
 use std::io::{Read, Write};
@@ -35,15 +34,9 @@ impl<R: Read> Source for ReadSource<R> {
 
     fn read(&mut self, piece: &mut [u8]) -> Result<usize, Failed>
         requires { 0 < length piece.old }
-        ensures within { IfOk result (λ n. n ≤ length piece.new) }
-        ensures gives { IfOk result (λ n. Consumes (R.remaining (reader_of self.old))
-            (R.remaining (reader_of self.new)) (take n piece.new)) }
-        ensures ends { IfOk result (λ n. ReadsEnd (R.remaining (reader_of self.old)) n) }
-        ensures kept { OnErr result (Keeps (R.remaining (reader_of self.old))
-            (R.remaining (reader_of self.new))) }
-        ensures count { failed_reads self.old ≤ failed_reads self.new }
-        ensures cause { OnErr result (CountRose (failed_reads self.old) (failed_reads self.new)) }
-        ensures unfailed { OnOk result (failed_reads self.new ≡ failed_reads self.old) }
+        ensures gives { GivesBytes (λ s. R.remaining (reader_of s)) self.old self.new piece.new
+            result }
+        ensures counts { CountsRead failed_reads self.old self.new result }
 
         // A failed read is counted once, up to the count's last value.
         ensures one_more { OnErr result (failed_reads self.new
@@ -91,24 +84,12 @@ impl<W: Write> Sink for WriteSink<W> {
 
     fn write(&mut self, piece: &[u8]) -> Result<usize, Refused>
         requires { 0 < length piece.now }
-        ensures within { IfOk result (λ n. n ≤ length piece.now) }
-        ensures some { IfOk result (λ n. 0 < n) }
-        ensures takes { IfOk result (λ n. Appends (W.contents (writer_of self.old))
-            (W.contents (writer_of self.new)) (take n piece.now)) }
-        ensures kept { OnErr result (Keeps (W.contents (writer_of self.old))
-            (W.contents (writer_of self.new))) }
-        ensures flushed { known_flushed self.new ≡ known_flushed self.old }
-        ensures count { failed_writes self.old ≤ failed_writes self.new }
-        ensures cause { IsErrOf result Refused.Failed
-            → CountRose (failed_writes self.old) (failed_writes self.new) }
-        ensures unfailed { OnOk result (failed_writes self.new ≡ failed_writes self.old) }
-        ensures no_memory { IsErrOf result Refused.NoMemory → failed_writes self.new
-            ≡ failed_writes self.old }
+        ensures takes { TakesBytes (λ s. W.contents (writer_of s)) known_flushed self.old self.new
+            piece.now result }
+        ensures counts { CountsWrite failed_writes self.old self.new result }
 
         // A refused write failed, and is counted once, up to the count's last value.
-        ensures only { OnErr result (IsErrOf result Refused.Failed) }
-        ensures one_more { OnErr result (failed_writes self.new
-            ≡ next_number (failed_writes self.old)) }
+        ensures refused { CountsRefused failed_writes self.old self.new result }
     {
         match self.writer.write(piece) {
             Ok(n) if n > 0 => Ok(n),
@@ -120,21 +101,12 @@ impl<W: Write> Sink for WriteSink<W> {
     }
 
     fn flush(&mut self) -> Result<(), Refused>
-        ensures taken { Keeps (W.contents (writer_of self.old)) (W.contents (writer_of self.new)) }
-        ensures flushes { OnOk result (Flushes (W.contents (writer_of self.old))
-            (known_flushed self.old) (known_flushed self.new)) }
-        ensures kept { OnErr result (known_flushed self.new ≡ known_flushed self.old) }
-        ensures count { failed_writes self.old ≤ failed_writes self.new }
-        ensures cause { IsErrOf result Refused.Failed
-            → CountRose (failed_writes self.old) (failed_writes self.new) }
-        ensures unfailed { OnOk result (failed_writes self.new ≡ failed_writes self.old) }
-        ensures no_memory { IsErrOf result Refused.NoMemory → failed_writes self.new
-            ≡ failed_writes self.old }
+        ensures flushes { FlushesBytes (λ s. W.contents (writer_of s)) known_flushed self.old
+            self.new result }
+        ensures counts { CountsWrite failed_writes self.old self.new result }
 
         // A refused flush failed, and is counted once, up to the count's last value.
-        ensures only { OnErr result (IsErrOf result Refused.Failed) }
-        ensures one_more { OnErr result (failed_writes self.new
-            ≡ next_number (failed_writes self.old)) }
+        ensures refused { CountsRefused failed_writes self.old self.new result }
     {
         match self.writer.flush() {
             Ok(()) => Ok(()),

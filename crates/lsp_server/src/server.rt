@@ -1,20 +1,16 @@
 // The server.
-ghost use Rattle.std.specs.Prelude.{◌≡◌, ◌≢◌, ◌≤◌, [], ◌∷◌, true, false, OnOk, OnErr, IfOk, IfErr};
+ghost use Rattle.std.specs.Prelude.{◌≡◌, ◌≤◌, [], ◌∷◌, true, false, IfOk, IfErr};
 ghost use Rattle.std.specs.Result.{result_err};
-ghost use Rattle.lsp_desk.specs.Meaning.{IsOpening, Grown};
+ghost use Rattle.lsp_desk.specs.Meaning.{IsOpening};
 ghost use Rattle.lsp_frame.specs.Codec.{AreLimits, default_limits};
 ghost use Rattle.lsp_session.specs.Item.{show_item, item_has_float, tick};
-ghost use Rattle.lsp_session.specs.Run.{Step, order_by};
+ghost use Rattle.lsp_session.specs.Run.{order_by};
 ghost use Rattle.lsp_session.specs.State.{opening_by};
-ghost use Rattle.lsp_session.specs.SessionView.{session_view, has_stopped, desk_of, life_of};
-ghost use Rattle.lsp_server.specs.SourceSink.{IsFlushed};
+ghost use Rattle.lsp_session.specs.SessionView.{session_view, has_stopped, desk_of};
 ghost use Rattle.lsp_server.specs.Course.{course};
-ghost use Rattle.lsp_server.specs.Written.{Ran, RanPart};
 ghost use Rattle.lsp_server.specs.Served.{handed_back};
-ghost use Rattle.lsp_server.specs.Leaves.{LeavesFaults};
 ghost use Rattle.lsp_server.specs.ServedView.{show_served};
 ghost use Rattle.lsp_server.specs.ServesSession.{ServesSession};
-ghost use Rattle.lsp_server.specs.Errors.{IsInStep, SaysSpent};
 
 use crate::serving::serve_over;
 use crate::step::{ServeError, flush, write_step};
@@ -61,7 +57,9 @@ pub struct Server<D: Desk + Drop> {
 }
 
 impl<D: Desk + Drop> Server<D> {
-    ghost use Rattle.lsp_server.specs.ServerView.{server_desk, concurrency, waiting, server_limits, server_floats, server_empty_params, setting, standing, IsReady};
+    ghost use Rattle.lsp_server.specs.ServerView.{server_desk, concurrency, waiting, server_limits, server_floats, server_empty_params, set_up, IsSetUp, setting};
+    ghost use Rattle.lsp_server.specs.Steps.{MayStep, MadeSteps};
+    ghost use Rattle.lsp_server.specs.Leaves.{WritesFlushed};
 
     /// A server over the desk of a socket. At most 4 calls are polled in a round, a request of an
     /// ordinary method is refused while 1,024 calls wait, and a head has at most 8,192 bytes and a
@@ -87,12 +85,7 @@ impl<D: Desk + Drop> Server<D> {
     /// The same server, in which at most `max` calls are polled in a round.
     pub fn concurrency_level(self, max: usize) -> Server<D>
         requires { 1 ≤ max }
-        ensures desk { server_desk result ≡ server_desk self }
-        ensures concurrency { concurrency result ≡ max }
-        ensures waiting { waiting result ≡ waiting self }
-        ensures limits { server_limits result ≡ server_limits self }
-        ensures floats { server_floats result ≡ server_floats self }
-        ensures empty_params { server_empty_params result ≡ server_empty_params self }
+        ensures { IsSetUp result (record (set_up self) { concurrency = max }) }
     {
         Server {
             socket: self.socket,
@@ -106,12 +99,7 @@ impl<D: Desk + Drop> Server<D> {
     /// The same server, in which a request of an ordinary method is refused while no more calls may
     /// be polled and `wait` others wait.
     pub fn waiting_limit(self, wait: usize) -> Server<D>
-        ensures desk { server_desk result ≡ server_desk self }
-        ensures concurrency { concurrency result ≡ concurrency self }
-        ensures waiting { waiting result ≡ wait }
-        ensures limits { server_limits result ≡ server_limits self }
-        ensures floats { server_floats result ≡ server_floats self }
-        ensures empty_params { server_empty_params result ≡ server_empty_params self }
+        ensures { IsSetUp result (record (set_up self) { waiting = wait }) }
     {
         Server {
             socket: self.socket,
@@ -125,12 +113,7 @@ impl<D: Desk + Drop> Server<D> {
     /// The same server, in which heads and bodies have at most so many bytes.
     pub fn limits(self, limits: Limits) -> Server<D>
         requires { AreLimits limits }
-        ensures desk { server_desk result ≡ server_desk self }
-        ensures concurrency { concurrency result ≡ concurrency self }
-        ensures waiting { waiting result ≡ waiting self }
-        ensures limits { server_limits result ≡ limits }
-        ensures floats { server_floats result ≡ server_floats self }
-        ensures empty_params { server_empty_params result ≡ server_empty_params self }
+        ensures { IsSetUp result (record (set_up self) { limits = limits }) }
     {
         let floats = self.settings.floats;
         Server {
@@ -144,12 +127,7 @@ impl<D: Desk + Drop> Server<D> {
 
     /// The same server, by which bodies with floats are read so.
     pub fn floats(self, floats: Floats) -> Server<D>
-        ensures desk { server_desk result ≡ server_desk self }
-        ensures concurrency { concurrency result ≡ concurrency self }
-        ensures waiting { waiting result ≡ waiting self }
-        ensures limits { server_limits result ≡ server_limits self }
-        ensures floats { server_floats result ≡ floats }
-        ensures empty_params { server_empty_params result ≡ server_empty_params self }
+        ensures { IsSetUp result (record (set_up self) { floats = floats }) }
     {
         let limits = self.settings.limits;
         Server {
@@ -164,12 +142,7 @@ impl<D: Desk + Drop> Server<D> {
     /// The same server, in which params that hold nothing, null or an empty object, are read as
     /// absent where a method takes none.
     pub fn allow_empty_params(self) -> Server<D>
-        ensures desk { server_desk result ≡ server_desk self }
-        ensures concurrency { concurrency result ≡ concurrency self }
-        ensures waiting { waiting result ≡ waiting self }
-        ensures limits { server_limits result ≡ server_limits self }
-        ensures floats { server_floats result ≡ server_floats self }
-        ensures empty_params { server_empty_params result ≡ true }
+        ensures { IsSetUp result (record (set_up self) { empty_params = true }) }
     {
         Server {
             socket: self.socket,
@@ -220,30 +193,17 @@ impl<D: Desk + Drop> Server<D> {
         rounds: u64,
     ) -> Result<(), ServeError>
         requires rounds { 1 ≤ rounds }
-        requires ready { IsReady H.semantics D.meaning session.old }
-        requires alive { life_of D.meaning session.old ≢ Life.Exited }
+        requires may { MayStep H.semantics D.meaning session.old }
         requires float_free { item_has_float (show_item item) ≡ false }
 
-        // The step was made, and exactly the frames of what it put out were written and flushed.
-        ensures ok { OnOk result (Ran (Step H.semantics (order_by P.gives P.later) rounds) D.meaning
-            (standing H.semantics D.meaning session.old (P.state pick.old) (O.taken sink.old))
-            (show_item item ∷ [])
-            (standing H.semantics D.meaning session.new (P.state pick.new) (O.taken sink.new))) }
-        ensures ready { OnOk result (IsReady H.semantics D.meaning session.new) }
-        ensures flushed { OnOk result (IsFlushed (O.taken sink.old) (O.flushed sink.old)
-            → IsFlushed (O.taken sink.new) (O.flushed sink.new)) }
-
-        // At an error nothing was written, or what begins the frames of the whole step.
-        ensures part { OnErr result (RanPart (Step H.semantics (order_by P.gives P.later) rounds)
-            D.meaning
-            (standing H.semantics D.meaning session.old (P.state pick.old) (O.taken sink.old))
-            (show_item item ∷ []) (desk_of session.new) (O.taken sink.new)) }
-        ensures grown { OnErr result (Grown D.meaning (desk_of session.old) (desk_of session.new)) }
-
-        // Each error has its cause, and a failure is told.
-        ensures sink { LeavesFaults O.faults O.beside sink.old sink.new (result_err result) }
-        ensures spent { IfErr result (λ e. SaysSpent D.meaning (desk_of session.new) e) }
-        ensures others { IfErr result IsInStep }
+        // The step was made, and exactly the frames of what it put out were written and flushed; at
+        // an error nothing was written, or what begins them. Each error has its cause, and a
+        // failure is told.
+        ensures steps { MadeSteps H.semantics D.meaning (order_by P.gives P.later) rounds
+            session.old (P.state pick.old) (O.taken sink.old) (show_item item ∷ [])
+            session.new (P.state pick.new) (O.taken sink.new) result }
+        ensures sink { WritesFlushed O.taken O.flushed O.faults O.beside sink.old sink.new
+            (result_err result) }
     {
         let mut room = BytesMut::new(alloc);
         write_step(alloc, &mut room, sink, session, item, pick, rounds)?;
@@ -259,23 +219,12 @@ impl<D: Desk + Drop> Server<D> {
         rounds: u64,
     ) -> Result<(), ServeError>
         requires rounds { 1 ≤ rounds }
-        requires ready { IsReady H.semantics D.meaning session.old }
-        requires alive { life_of D.meaning session.old ≢ Life.Exited }
-        ensures ok { OnOk result (Ran (Step H.semantics (order_by P.gives P.later) rounds) D.meaning
-            (standing H.semantics D.meaning session.old (P.state pick.old) (O.taken sink.old))
-            (tick ∷ [])
-            (standing H.semantics D.meaning session.new (P.state pick.new) (O.taken sink.new))) }
-        ensures ready { OnOk result (IsReady H.semantics D.meaning session.new) }
-        ensures flushed { OnOk result (IsFlushed (O.taken sink.old) (O.flushed sink.old)
-            → IsFlushed (O.taken sink.new) (O.flushed sink.new)) }
-        ensures part { OnErr result (RanPart (Step H.semantics (order_by P.gives P.later) rounds)
-            D.meaning
-            (standing H.semantics D.meaning session.old (P.state pick.old) (O.taken sink.old))
-            (tick ∷ []) (desk_of session.new) (O.taken sink.new)) }
-        ensures grown { OnErr result (Grown D.meaning (desk_of session.old) (desk_of session.new)) }
-        ensures sink { LeavesFaults O.faults O.beside sink.old sink.new (result_err result) }
-        ensures spent { IfErr result (λ e. SaysSpent D.meaning (desk_of session.new) e) }
-        ensures others { IfErr result IsInStep }
+        requires may { MayStep H.semantics D.meaning session.old }
+        ensures steps { MadeSteps H.semantics D.meaning (order_by P.gives P.later) rounds
+            session.old (P.state pick.old) (O.taken sink.old) (tick ∷ [])
+            session.new (P.state pick.new) (O.taken sink.new) result }
+        ensures sink { WritesFlushed O.taken O.flushed O.faults O.beside sink.old sink.new
+            (result_err result) }
     {
         Server::<D>::step(alloc, sink, session, Item::Tick, pick, rounds)
     }

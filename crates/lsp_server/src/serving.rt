@@ -12,10 +12,11 @@ ghost use Rattle.lsp_server.specs.Written.{Ran, RanPart};
 ghost use Rattle.lsp_server.specs.Served.{call_bytes, ServedTold, ServesOver};
 ghost use Rattle.lsp_server.specs.ServesOn.{ServesOn};
 ghost use Rattle.lsp_server.specs.Reads.{moment};
-ghost use Rattle.lsp_server.specs.Errors.{IsInStep, SaysSpent, StaysWhole};
-ghost use Rattle.lsp_server.specs.Leaves.{LeavesFaults, StaysFlushed, TellsFaults, WithinReads};
+ghost use Rattle.lsp_server.specs.Errors.{IsInStep, SaysSpent};
+ghost use Rattle.lsp_server.specs.Leaves.{LeavesFaults, LeavesTransport, OnlyWrites, StaysFlushed};
 ghost use Rattle.lsp_server.specs.Serving.{PartTold};
 ghost use Rattle.lsp_server.specs.ServerView.{standing, IsReady};
+ghost use Rattle.lsp_server.specs.Steps.{LeavesServed, LeavesSession, MadeSteps, MayServe, MayStep};
 
 use crate::reads::over_reads;
 use crate::step::{ServeError, flush, flush_after, write_step};
@@ -101,9 +102,7 @@ pub fn serve_over<T: Transport, D: Desk + Drop, H: Handlers<D>, P: Pick>(
     settings: CodecSettings,
 ) -> Result<(), ServeError>
     requires limits { AreLimits settings.limits }
-    requires ready { IsReady H.semantics D.meaning session.old }
-    requires alive { life_of D.meaning session.old ≢ Life.Exited }
-    requires unexited { (session_view H.semantics D.meaning session.old).state.exited ≡ None }
+    requires may { MayServe H.semantics D.meaning session.old }
 
     // The steps of the items that the frame grammar finds in the transport's bytes were made, and
     // their frames were written: of all bytes at Ok, through the first exit or with a tick at the
@@ -118,18 +117,11 @@ pub fn serve_over<T: Transport, D: Desk + Drop, H: Handlers<D>, P: Pick>(
         (desk_of session.new) (result_err result)) }
 
     // Between two reads the session stands where these items lead it, and may go on.
-    ensures ready { StaysWhole result → IsReady H.semantics D.meaning session.new }
-    ensures grown { Grown D.meaning (desk_of session.old) (desk_of session.new) }
-    ensures desk_spent { IfErr result (λ e. SaysSpent D.meaning (desk_of session.new) e) }
+    ensures session { LeavesServed H.semantics D.meaning session.old session.new result }
 
     // All is flushed, each failure is told and has its cause, and at most `reads` reads are made.
-    ensures flushed { StaysFlushed (T.taken io.old) (T.flushed io.old)
-        (T.taken io.new) (T.flushed io.new) (result_err result) }
-    ensures faults { TellsFaults (T.read_faults io.old) (T.read_faults io.new)
-        (T.faults io.old) (T.faults io.new) (result_err result) }
-    ensures within { WithinReads reads 4096 (T.left io.old) (T.left io.new)
-        (T.reads io.old) (T.reads io.new) (result_err result) }
-    ensures tied { T.tied io.new ≡ T.tied io.old }
+    ensures transport { LeavesTransport T.left T.taken T.flushed T.reads T.read_faults T.faults
+        T.tied reads 4096 io.old io.new (result_err result) }
 {
     let mut codec = LanguageServerCodec::with_settings(alloc, settings);
     let mut room = BytesMut::new(alloc);
@@ -155,9 +147,7 @@ pub fn serve_from<T: Transport, D: Desk + Drop, H: Handlers<D>, P: Pick>(
     rounds: u64,
 ) -> Result<(), ServeError>
     requires told { told_at codec.old ≡ [] }
-    requires ready { IsReady H.semantics D.meaning session.old }
-    requires alive { life_of D.meaning session.old ≢ Life.Exited }
-    requires unexited { (session_view H.semantics D.meaning session.old).state.exited ≡ None }
+    requires may { MayServe H.semantics D.meaning session.old }
 
     // The steps of the items that come of what the codec holds and of the transport's bytes were
     // made, and their frames were written.
@@ -167,18 +157,11 @@ pub fn serve_from<T: Transport, D: Desk + Drop, H: Handlers<D>, P: Pick>(
         (call_bytes bytes (T.left io.new) (T.taken io.old) (T.taken io.new))
         (picked (session_view H.semantics D.meaning session.new) (P.state pick.new))
         (desk_of session.new) (result_err result)) }
-    ensures ready { StaysWhole result → IsReady H.semantics D.meaning session.new }
-    ensures grown { Grown D.meaning (desk_of session.old) (desk_of session.new) }
-    ensures desk_spent { IfErr result (λ e. SaysSpent D.meaning (desk_of session.new) e) }
+    ensures session { LeavesServed H.semantics D.meaning session.old session.new result }
 
     // All is flushed, each failure is told and has its cause, and at most `reads` reads are made.
-    ensures flushed { StaysFlushed (T.taken io.old) (T.flushed io.old)
-        (T.taken io.new) (T.flushed io.new) (result_err result) }
-    ensures faults { TellsFaults (T.read_faults io.old) (T.read_faults io.new)
-        (T.faults io.old) (T.faults io.new) (result_err result) }
-    ensures within { WithinReads reads 4096 (T.left io.old) (T.left io.new)
-        (T.reads io.old) (T.reads io.new) (result_err result) }
-    ensures tied { T.tied io.new ≡ T.tied io.old }
+    ensures transport { LeavesTransport T.left T.taken T.flushed T.reads T.read_faults T.faults
+        T.tied reads 4096 io.old io.new (result_err result) }
 {
     let mut room = BytesMut::new(alloc);
     let mut serving = Serving {
@@ -252,9 +235,7 @@ fn serve_told<O: Sink, D: Desk + Drop, H: Handlers<D>, P: Pick>(
     pick: &mut P,
     rounds: u64,
 ) -> Result<bool, ServeError>
-    requires ready { IsReady H.semantics D.meaning session.old }
-    requires alive { life_of D.meaning session.old ≢ Life.Exited }
-    requires unexited { (session_view H.semantics D.meaning session.old).state.exited ≡ None }
+    requires may { MayServe H.semantics D.meaning session.old }
     ensures ok { IfOk result
         (λ exits. ServedTold (Step H.semantics (order_by P.gives P.later) rounds) D.meaning
         (H.semantics.find (session_view H.semantics D.meaning session.old).state.service)
@@ -262,7 +243,6 @@ fn serve_told<O: Sink, D: Desk + Drop, H: Handlers<D>, P: Pick>(
         (O.taken sink.old)) codec.old exits
         (standing H.semantics D.meaning session.new (P.state pick.new)
         (O.taken sink.new)) codec.new) }
-    ensures ready { OnOk result (IsReady H.semantics D.meaning session.new) }
     ensures open { IfOk result (λ exits. exits ≡ false
         → ((session_view H.semantics D.meaning session.new).state.exited ≡ None)
         × (life_of D.meaning session.new ≢ Life.Exited)) }
@@ -272,10 +252,8 @@ fn serve_told<O: Sink, D: Desk + Drop, H: Handlers<D>, P: Pick>(
         (standing H.semantics D.meaning session.old (P.state pick.old) (O.taken sink.old))
         codec.old (desk_of session.new) (O.taken sink.new)) }
     ensures grown { Grown D.meaning (desk_of session.old) (desk_of session.new) }
-    ensures flushed { O.flushed sink.new ≡ O.flushed sink.old }
-    ensures sink { LeavesFaults O.faults O.beside sink.old sink.new (result_err result) }
-    ensures spent { IfErr result (λ e. SaysSpent D.meaning (desk_of session.new) e) }
-    ensures others { IfErr result IsInStep }
+    ensures session { LeavesSession H.semantics D.meaning session.new result }
+    ensures sink { OnlyWrites O.flushed O.faults O.beside sink.old sink.new (result_err result) }
 {
     'items: while let Some(item) = next_item(codec)? {
         write_step(alloc, room, sink, session, item, pick, rounds)?;
@@ -297,25 +275,14 @@ fn serve_end<O: Sink, D: Desk + Drop, H: Handlers<D>, P: Pick>(
     pick: &mut P,
     rounds: u64,
 ) -> Result<(), ServeError>
-    requires ready { IsReady H.semantics D.meaning session.old }
-    requires alive { life_of D.meaning session.old ≢ Life.Exited }
+    requires may { MayStep H.semantics D.meaning session.old }
     requires told { told_at codec.old ≡ [] }
-    ensures ok { OnOk result (Ran (Step H.semantics (order_by P.gives P.later) rounds) D.meaning
-        (standing H.semantics D.meaning session.old (P.state pick.old) (O.taken sink.old))
+    ensures steps { MadeSteps H.semantics D.meaning (order_by P.gives P.later) rounds
+        session.old (P.state pick.old) (O.taken sink.old)
         (served (H.semantics.find (session_view H.semantics D.meaning session.old).state.service)
         (all_admitted (items_at codec.old)))
-        (standing H.semantics D.meaning session.new (P.state pick.new) (O.taken sink.new))) }
-    ensures ready { OnOk result (IsReady H.semantics D.meaning session.new) }
-    ensures part { OnErr result (RanPart (Step H.semantics (order_by P.gives P.later) rounds)
-        D.meaning
-        (standing H.semantics D.meaning session.old (P.state pick.old) (O.taken sink.old))
-        (served (H.semantics.find (session_view H.semantics D.meaning session.old).state.service)
-        (all_admitted (items_at codec.old))) (desk_of session.new) (O.taken sink.new)) }
-    ensures grown { OnErr result (Grown D.meaning (desk_of session.old) (desk_of session.new)) }
-    ensures flushed { O.flushed sink.new ≡ O.flushed sink.old }
-    ensures sink { LeavesFaults O.faults O.beside sink.old sink.new (result_err result) }
-    ensures spent { IfErr result (λ e. SaysSpent D.meaning (desk_of session.new) e) }
-    ensures others { IfErr result IsInStep }
+        session.new (P.state pick.new) (O.taken sink.new) result }
+    ensures sink { OnlyWrites O.flushed O.faults O.beside sink.old sink.new (result_err result) }
 {
     match codec.finish()? {
         Some(fault) => {

@@ -2,15 +2,13 @@
 ghost use Rattle.std.specs.Prelude.{◌≡◌, ◌≢◌, ◌≤◌, ◌⊎◌, [], ◌∷◌, false, OnOk, OnErr, IfErr};
 ghost use Rattle.std.specs.Result.{result_err};
 ghost use Rattle.std.specs.Io.KnownBytes.{Keeps};
-ghost use Rattle.lsp_desk.specs.Meaning.{Grown};
 ghost use Rattle.lsp_session.specs.Item.{show_item, item_has_float};
-ghost use Rattle.lsp_session.specs.Run.{Step, order_by, is_exit};
-ghost use Rattle.lsp_session.specs.SessionView.{session_view, desk_of, life_of};
+ghost use Rattle.lsp_session.specs.Run.{order_by, is_exit};
+ghost use Rattle.lsp_session.specs.SessionView.{session_view, life_of};
 ghost use Rattle.lsp_server.specs.SourceSink.{CountRose, Flushes};
-ghost use Rattle.lsp_server.specs.Written.{Ran, RanPart};
-ghost use Rattle.lsp_server.specs.ServerView.{standing, IsReady};
-ghost use Rattle.lsp_server.specs.Leaves.{LeavesFaults};
-ghost use Rattle.lsp_server.specs.Errors.{IsFlushedAt, IsInStep, ComesOfSink, LeavesSink, SaysSpent};
+ghost use Rattle.lsp_server.specs.Steps.{MayStep, MadeSteps};
+ghost use Rattle.lsp_server.specs.Leaves.{LeavesFaults, OnlyWrites};
+ghost use Rattle.lsp_server.specs.Errors.{IsFlushedAt, ComesOfSink, LeavesSink};
 ghost use Rattle.lsp_server.specs.declared.step.ServeError.TheVariants.{NoMemory as no_memory};
 
 use crate::write::put;
@@ -62,27 +60,16 @@ pub(crate) fn write_step<O: Sink, D: Desk + Drop, H: Handlers<D>, P: Pick>(
     pick: &mut P,
     rounds: u64,
 ) -> Result<(), ServeError>
-    requires ready { IsReady H.semantics D.meaning session.old }
-    requires alive { life_of D.meaning session.old ≢ Life.Exited }
+    requires may { MayStep H.semantics D.meaning session.old }
     requires float_free { item_has_float (show_item item) ≡ false }
-    ensures ok { OnOk result (Ran (Step H.semantics (order_by P.gives P.later) rounds) D.meaning
-        (standing H.semantics D.meaning session.old (P.state pick.old) (O.taken sink.old))
-        (show_item item ∷ [])
-        (standing H.semantics D.meaning session.new (P.state pick.new) (O.taken sink.new))) }
-    ensures ready { OnOk result (IsReady H.semantics D.meaning session.new) }
+    ensures steps { MadeSteps H.semantics D.meaning (order_by P.gives P.later) rounds
+        session.old (P.state pick.old) (O.taken sink.old) (show_item item ∷ [])
+        session.new (P.state pick.new) (O.taken sink.new) result }
     ensures lives { OnOk result
         (is_exit (H.semantics.find (session_view H.semantics D.meaning session.old).state.service)
         (show_item item) ≡ false
         → life_of D.meaning session.new ≢ Life.Exited) }
-    ensures part { OnErr result (RanPart (Step H.semantics (order_by P.gives P.later) rounds)
-        D.meaning
-        (standing H.semantics D.meaning session.old (P.state pick.old) (O.taken sink.old))
-        (show_item item ∷ []) (desk_of session.new) (O.taken sink.new)) }
-    ensures grown { OnErr result (Grown D.meaning (desk_of session.old) (desk_of session.new)) }
-    ensures flushed { O.flushed sink.new ≡ O.flushed sink.old }
-    ensures sink { LeavesFaults O.faults O.beside sink.old sink.new (result_err result) }
-    ensures spent { IfErr result (λ e. SaysSpent D.meaning (desk_of session.new) e) }
-    ensures others { IfErr result IsInStep }
+    ensures sink { OnlyWrites O.flushed O.faults O.beside sink.old sink.new (result_err result) }
 {
     match lsp_session::step(session, item, pick, rounds) {
         Ok(()) => {}

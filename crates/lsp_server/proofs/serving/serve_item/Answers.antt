@@ -12,4 +12,4 @@ returns-in-Ok-clause-part g c =
     let m = g.D.Caller.meaning in
     let a = standing sem m c.args.session.now (g.P.Pick.state c.args.pick.now) (g.O.Sink.taken c.args.sink.now) in
     let b = standing sem m c.write_step.new.session (g.P.Pick.state c.write_step.new.pick) (g.O.Sink.taken c.write_step.new.sink) in
-    err_of c.flush.result (part_kept (part_whole a b (show_item c.args.item ∷ []) c.in-Ok.ensures.ok) c.flush.ensures.taken)
+    err_of c.flush.result (part_kept (part_whole a b (show_item c.args.item ∷ []) c.in-Ok.ensures.steps.ok) c.flush.ensures.taken)

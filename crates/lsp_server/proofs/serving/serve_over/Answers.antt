@@ -42,8 +42,8 @@ returns-clause-serves g c =
     (made_in_order (g.T.Transport.reads c.args.io.now) (g.T.Transport.reads c.over_reads.new.io) _ _ (λ n t. seen_all_took (see_serving sem m g.P.Pick.state) _ start n t) c.over_reads.ensures.in_order)) in
     search rules
 
-pub returns-clause-grown : goal.returns-clause-grown
-returns-clause-grown g c =
+pub returns-clause-session : goal.returns-clause-session
+returns-clause-session g c =
     let sem = g.H.Handlers.semantics in
     let m = g.D.Caller.meaning in
     let order : Order g.P.Pick.State = record { gives = g.P.Pick.gives; later = g.P.Pick.later } in
@@ -51,6 +51,8 @@ returns-clause-grown g c =
     let now = moment (g.T.Transport.left c.over_reads.new.io) (g.T.Sink.taken c.over_reads.new.io) (g.T.Sink.flushed c.over_reads.new.io) in
     let a = spot sem m c.args.session.now (g.P.Pick.state c.args.pick.now) c.with_settings-codec.result c.args.rounds in
     let b = spot sem m c.over_reads.new.state (g.P.Pick.state c.over_reads.new.consumer.pick.now) c.over_reads.new.consumer.codec.now c.over_reads.new.consumer.rounds in
-    all_grown sem m order a b start now 4096 c.over_reads.result
-    (λ ends. seen_last (see_serving sem m g.P.Pick.state) _ _ start now 4096 (last_outcome c.over_reads.result) (c.over_reads.ensures.last ends))
-    (if_err c.over_reads.result (λ e took between. seen_took (see_serving sem m g.P.Pick.state) _ _ start now (took between)) c.over_reads.ensures.took)
+    record {
+      ready = search rules;
+      grown = all_grown sem m order a b start now 4096 c.over_reads.result (λ ends. seen_last (see_serving sem m g.P.Pick.state) _ _ start now 4096 (last_outcome c.over_reads.result) (c.over_reads.ensures.last ends)) (if_err c.over_reads.result (λ e took between. seen_took (see_serving sem m g.P.Pick.state) _ _ start now (took between)) c.over_reads.ensures.took);
+      desk_spent = search rules;
+    }

@@ -12,8 +12,8 @@ use Rattle.lsp_server.proofs.serving.serve_told.Goals as goal
 
 pub items-init : goal.items-init
 items-init g c = record {
-  going = going_start (standing g.H.Handlers.semantics g.D.Caller.meaning c.args.session.now (g.P.Pick.state c.args.pick.now) (g.O.Sink.taken c.args.sink.now)) c.args.codec.now (record { exited = c.requires.unexited; lives = c.requires.alive });
-  ready = c.requires.ready;
+  going = going_start (standing g.H.Handlers.semantics g.D.Caller.meaning c.args.session.now (g.P.Pick.state c.args.pick.now) (g.O.Sink.taken c.args.sink.now)) c.args.codec.now (record { exited = c.requires.may.unexited; lives = c.requires.may.alive });
+  ready = c.requires.may.ready;
   flushed = refl;
   beside = refl;
   count = refl;
@@ -25,7 +25,7 @@ returns-in_err-item-clause-part g c = err_of _ (told_part_none _ _ _ _ c.items.i
 pub returns-in_err-write_step-clause-part : goal.returns-in_err-write_step-clause-part
 returns-in_err-write_step-clause-part g c =
     err_of _ (told_part_step _ _ _ _ c.items.invariant.going g.met.H.Handlers.laws
-    c.next_item.new.codec (show_item c.in-Some.item) (rw c.in-Some.is at c.in_ok-item.ensures.next) (desk_of c.write_step.new.session) (g.O.Sink.taken c.write_step.new.sink) c.in_err-write_step.ensures.part)
+    c.next_item.new.codec (show_item c.in-Some.item) (rw c.in-Some.is at c.in_ok-item.ensures.next) (desk_of c.write_step.new.session) (g.O.Sink.taken c.write_step.new.sink) c.in_err-write_step.ensures.steps.part)
 
 pub returns-then-is_some-clause-ok : goal.returns-then-is_some-clause-ok
 returns-then-is_some-clause-ok g c =
@@ -34,7 +34,7 @@ returns-then-is_some-clause-ok g c =
     let noted : is_some (session_view sem m c.write_step.new.session).state.exited ≡ true = search rules in
     let d = standing sem m c.write_step.new.session (g.P.Pick.state c.write_step.new.pick) (g.O.Sink.taken c.write_step.new.sink) in
     told_exit _ _ _ _ c.items.invariant.going g.met.H.Handlers.laws
-    c.next_item.new.codec (show_item c.in-Some.item) (rw c.in-Some.is at c.in_ok-item.ensures.next) d c.in_ok-write_step.ensures.ok noted
+    c.next_item.new.codec (show_item c.in-Some.item) (rw c.in-Some.is at c.in_ok-item.ensures.next) d c.in_ok-write_step.ensures.steps.ok noted
 
 -- ---- the desk grows
 
@@ -42,10 +42,10 @@ pub returns-in_err-item-clause-grown : goal.returns-in_err-item-clause-grown
 returns-in_err-item-clause-grown g c = ran_grown _ _ _ c.items.invariant.going.ran
 
 pub returns-in_err-write_step-clause-grown : goal.returns-in_err-write_step-clause-grown
-returns-in_err-write_step-clause-grown g c = grown_after _ _ _ _ c.items.invariant.going.ran c.in_err-write_step.ensures.grown
+returns-in_err-write_step-clause-grown g c = grown_after _ _ _ _ c.items.invariant.going.ran c.in_err-write_step.ensures.steps.grown
 
 pub returns-then-is_some-clause-grown : goal.returns-then-is_some-clause-grown
-returns-then-is_some-clause-grown g c = grown_after _ _ _ _ c.items.invariant.going.ran (ran_grown _ _ _ c.in_ok-write_step.ensures.ok)
+returns-then-is_some-clause-grown g c = grown_after _ _ _ _ c.items.invariant.going.ran (ran_grown _ _ _ c.in_ok-write_step.ensures.steps.ok)
 
 pub returns-clause-grown : goal.returns-clause-grown
 returns-clause-grown g c = ran_grown _ _ _ c.items.invariant.going.ran
@@ -66,8 +66,8 @@ items-preserved g c =
     let unnoted : is_some (session_view sem m c.write_step.new.session).state.exited ≡ false = search rules in
     record {
       going = going_step _ _ _ _ c.items.invariant.going g.met.H.Handlers.laws
-          c.next_item.new.codec (show_item c.in-Some.item) (rw c.in-Some.is at c.in_ok-item.ensures.next) d c.in_ok-write_step.ensures.ok unnoted;
-      ready = c.in_ok-write_step.ensures.ready;
+          c.next_item.new.codec (show_item c.in-Some.item) (rw c.in-Some.is at c.in_ok-item.ensures.next) d c.in_ok-write_step.ensures.steps.ok unnoted;
+      ready = c.in_ok-write_step.ensures.steps.session.ready;
       flushed = search rules;
       beside = search rules;
       count = search rules;

@@ -1,5 +1,5 @@
 -- One step, with what was written of it.
-use Rattle.std.proofs.Common.{◌≡◌, map, ◌∷◌, [], sym, subst, false}
+use Rattle.std.proofs.Common.{rules, ◌≡◌, map, ◌∷◌, [], sym, subst, false}
 use Rattle.lsp_rpc.specs.Shown.{show_message}
 use Rattle.lsp_desk.specs.declared.life.Life.TheVariants.{Exited}
 use Rattle.lsp_session.specs.Item.{show_item}
@@ -11,23 +11,38 @@ use Rattle.lsp_server.specs.Written.{place, Ran, RanPart}
 use Rattle.lsp_server.proofs.RanLemmas.{ran_one, part_one, part_none, stepped_lives}
 use Rattle.lsp_server.proofs.step.write_step.Goals as goal
 
-pub returns-in-Err-DeskSpent-clause-part : goal.returns-in-Err-DeskSpent-clause-part
-returns-in-Err-DeskSpent-clause-part g c =
-    part_none (standing g.H.Handlers.semantics g.D.Caller.meaning c.args.session.now (g.P.Pick.state c.args.pick.now) (g.O.Sink.taken c.args.sink.now)) (desk_of c.step.new.session) (show_item c.args.item ∷ []) c.in-Err-DeskSpent.ensures.failed
+pub returns-in-Err-DeskSpent-clause-steps : goal.returns-in-Err-DeskSpent-clause-steps
+returns-in-Err-DeskSpent-clause-steps g c =
+    record {
+      ok = search rules;
+      part = part_none (standing g.H.Handlers.semantics g.D.Caller.meaning c.args.session.now (g.P.Pick.state c.args.pick.now) (g.O.Sink.taken c.args.sink.now)) (desk_of c.step.new.session) (show_item c.args.item ∷ []) c.in-Err-DeskSpent.ensures.failed;
+      grown = search rules;
+      session = search rules;
+    }
 
-pub returns-in-Err-NoMemory-clause-part : goal.returns-in-Err-NoMemory-clause-part
-returns-in-Err-NoMemory-clause-part g c =
-    part_none (standing g.H.Handlers.semantics g.D.Caller.meaning c.args.session.now (g.P.Pick.state c.args.pick.now) (g.O.Sink.taken c.args.sink.now)) (desk_of c.step.new.session) (show_item c.args.item ∷ []) c.in-Err-NoMemory.ensures.failed
+pub returns-in-Err-NoMemory-clause-steps : goal.returns-in-Err-NoMemory-clause-steps
+returns-in-Err-NoMemory-clause-steps g c =
+    record {
+      ok = search rules;
+      part = part_none (standing g.H.Handlers.semantics g.D.Caller.meaning c.args.session.now (g.P.Pick.state c.args.pick.now) (g.O.Sink.taken c.args.sink.now)) (desk_of c.step.new.session) (show_item c.args.item ∷ []) c.in-Err-NoMemory.ensures.failed;
+      grown = search rules;
+      session = search rules;
+    }
 
-pub returns-in-Ok-put-clause-ok : goal.returns-in-Ok-put-clause-ok
-returns-in-Ok-put-clause-ok g c =
+pub returns-in-Ok-put-clause-steps : goal.returns-in-Ok-put-clause-steps
+returns-in-Ok-put-clause-steps g c =
     let sem = g.H.Handlers.semantics in
     let m = g.D.Caller.meaning in
     let order : Order g.P.Pick.State = record { gives = g.P.Pick.gives; later = g.P.Pick.later } in
-    subst (λ (v : SessionView _ _ sem.Call sem.Task). Ran (Step sem order c.args.rounds) m (place (session_view sem m c.args.session.now) (g.P.Pick.state c.args.pick.now) (g.O.Sink.taken c.args.sink.now)) (show_item c.args.item ∷ [])
+    record {
+      ok = subst (λ (v : SessionView _ _ sem.Call sem.Task). Ran (Step sem order c.args.rounds) m (place (session_view sem m c.args.session.now) (g.P.Pick.state c.args.pick.now) (g.O.Sink.taken c.args.sink.now)) (show_item c.args.item ∷ [])
     (place v (g.P.Pick.state c.step.new.pick) (g.O.Sink.taken c.put.new.sink))) (sym c.take_out-out.ensures.rest)
     (ran_one sem m order c.args.rounds (g.O.Sink.taken c.args.sink.now) (g.O.Sink.taken c.put.new.sink) (session_view sem m c.args.session.now) (session_view sem m c.step.new.session)
-    (g.P.Pick.state c.args.pick.now) (g.P.Pick.state c.step.new.pick) (show_item c.args.item) (map show_message c.take_out-out.result.items) c.in-Ok.ensures.ok c.requires.ready.taken c.take_out-out.ensures.taken c.in-Ok-put.ensures.ok)
+    (g.P.Pick.state c.args.pick.now) (g.P.Pick.state c.step.new.pick) (show_item c.args.item) (map show_message c.take_out-out.result.items) c.in-Ok.ensures.ok c.requires.may.ready.taken c.take_out-out.ensures.taken c.in-Ok-put.ensures.ok);
+      part = search rules;
+      grown = search rules;
+      session = search rules;
+    }
 
 pub returns-in-Ok-put-clause-lives : goal.returns-in-Ok-put-clause-lives
 returns-in-Ok-put-clause-lives g c =
@@ -36,26 +51,36 @@ returns-in-Ok-put-clause-lives g c =
     let order : Order g.P.Pick.State = record { gives = g.P.Pick.gives; later = g.P.Pick.later } in
     subst (λ (v : SessionView _ _ sem.Call sem.Task). is_exit (sem.find (session_view sem m c.args.session.now).state.service) (show_item c.args.item) ≡ false → v.state.desk.life ≡ Exited → ⊥) (sym c.take_out-out.ensures.rest)
     (stepped_lives sem m order c.args.rounds g.met.H.Handlers.laws (session_view sem m c.args.session.now) (session_view sem m c.step.new.session)
-    (g.P.Pick.state c.args.pick.now) (g.P.Pick.state c.step.new.pick) (show_item c.args.item) c.in-Ok.ensures.ok c.requires.alive)
+    (g.P.Pick.state c.args.pick.now) (g.P.Pick.state c.step.new.pick) (show_item c.args.item) c.in-Ok.ensures.ok c.requires.may.alive)
 
-pub returns-in-Err-Failed-clause-part : goal.returns-in-Err-Failed-clause-part
-returns-in-Err-Failed-clause-part g c =
+pub returns-in-Err-Failed-clause-steps : goal.returns-in-Err-Failed-clause-steps
+returns-in-Err-Failed-clause-steps g c =
     let sem = g.H.Handlers.semantics in
     let m = g.D.Caller.meaning in
     let order : Order g.P.Pick.State = record { gives = g.P.Pick.gives; later = g.P.Pick.later } in
     let p = c.in-Err-Failed.ensures.part in
-    subst (λ (v : SessionView _ _ sem.Call sem.Task). RanPart (Step sem order c.args.rounds) m (place (session_view sem m c.args.session.now) (g.P.Pick.state c.args.pick.now) (g.O.Sink.taken c.args.sink.now)) (show_item c.args.item ∷ []) v.desk
+    record {
+      ok = search rules;
+      part = subst (λ (v : SessionView _ _ sem.Call sem.Task). RanPart (Step sem order c.args.rounds) m (place (session_view sem m c.args.session.now) (g.P.Pick.state c.args.pick.now) (g.O.Sink.taken c.args.sink.now)) (show_item c.args.item ∷ []) v.desk
     (g.O.Sink.taken c.put.new.sink)) (sym c.take_out-out.ensures.rest)
     (part_one sem m order c.args.rounds (g.O.Sink.taken c.args.sink.now) (g.O.Sink.taken c.put.new.sink) (session_view sem m c.args.session.now) (session_view sem m c.step.new.session)
-    (g.P.Pick.state c.args.pick.now) (g.P.Pick.state c.step.new.pick) (show_item c.args.item) (map show_message c.take_out-out.result.items) p.0 c.in-Ok.ensures.ok c.requires.ready.taken c.take_out-out.ensures.taken p.1 p.2)
+    (g.P.Pick.state c.args.pick.now) (g.P.Pick.state c.step.new.pick) (show_item c.args.item) (map show_message c.take_out-out.result.items) p.0 c.in-Ok.ensures.ok c.requires.may.ready.taken c.take_out-out.ensures.taken p.1 p.2);
+      grown = search rules;
+      session = search rules;
+    }
 
-pub returns-clause-part : goal.returns-clause-part
-returns-clause-part g c =
+pub returns-clause-steps : goal.returns-clause-steps
+returns-clause-steps g c =
     let sem = g.H.Handlers.semantics in
     let m = g.D.Caller.meaning in
     let order : Order g.P.Pick.State = record { gives = g.P.Pick.gives; later = g.P.Pick.later } in
     let p = c.in-Err-NoMemory-put.ensures.part in
-    subst (λ (v : SessionView _ _ sem.Call sem.Task). RanPart (Step sem order c.args.rounds) m (place (session_view sem m c.args.session.now) (g.P.Pick.state c.args.pick.now) (g.O.Sink.taken c.args.sink.now)) (show_item c.args.item ∷ []) v.desk
+    record {
+      ok = search rules;
+      part = subst (λ (v : SessionView _ _ sem.Call sem.Task). RanPart (Step sem order c.args.rounds) m (place (session_view sem m c.args.session.now) (g.P.Pick.state c.args.pick.now) (g.O.Sink.taken c.args.sink.now)) (show_item c.args.item ∷ []) v.desk
     (g.O.Sink.taken c.put.new.sink)) (sym c.take_out-out.ensures.rest)
     (part_one sem m order c.args.rounds (g.O.Sink.taken c.args.sink.now) (g.O.Sink.taken c.put.new.sink) (session_view sem m c.args.session.now) (session_view sem m c.step.new.session)
-    (g.P.Pick.state c.args.pick.now) (g.P.Pick.state c.step.new.pick) (show_item c.args.item) (map show_message c.take_out-out.result.items) p.0 c.in-Ok.ensures.ok c.requires.ready.taken c.take_out-out.ensures.taken p.1 p.2)
+    (g.P.Pick.state c.args.pick.now) (g.P.Pick.state c.step.new.pick) (show_item c.args.item) (map show_message c.take_out-out.result.items) p.0 c.in-Ok.ensures.ok c.requires.may.ready.taken c.take_out-out.ensures.taken p.1 p.2);
+      grown = search rules;
+      session = search rules;
+    }

@@ -35,11 +35,11 @@ returns-in-Ok g c =
     } in
     let comes : LoopComesTo (course sem m order set) told c.args.reads (picked after p2) after.desk None = subst (λ (v : SessionView _ _ sem.Call sem.Task). LoopComesTo (course_from sem m order c.args.rounds c.args.self.settings v p) told c.args.reads (picked after p2) after.desk None) first (record {
       serves = c.in-Ok.ensures.serves;
-      grown = c.serve_over.ensures.grown;
+      grown = c.serve_over.ensures.session.grown;
       spent = tt;
-      flushed = c.in-Ok.ensures.flushed;
-      faults = c.in-Ok.ensures.faults;
-      within = c.in-Ok.ensures.within;
+      flushed = c.in-Ok.ensures.transport.flushed;
+      faults = c.in-Ok.ensures.transport.faults;
+      within = c.in-Ok.ensures.transport.within;
     }) in
     let ended : ServesSession (course sem m order set) told c.args.reads p2 c.hand_back.result =
     session_ended g.met.H.Handlers.laws m g.met.D.Caller.laws order set told c.args.reads after p2 comes refl c.hand_back.result c.hand_back.ensures.handed c.hand_back.ensures.stopped in
@@ -69,11 +69,11 @@ returns-in-Err g c =
     } in
     let comes : LoopComesTo (course sem m order set) told c.args.reads (picked after p2) after.desk (Some c.in-Err.error) = subst (λ (v : SessionView _ _ sem.Call sem.Task). LoopComesTo (course_from sem m order c.args.rounds c.args.self.settings v p) told c.args.reads (picked after p2) after.desk (Some c.in-Err.error)) first (record {
       serves = c.in-Err.ensures.serves;
-      grown = c.serve_over.ensures.grown;
-      spent = c.in-Err.ensures.desk_spent;
-      flushed = c.in-Err.ensures.flushed;
-      faults = c.in-Err.ensures.faults;
-      within = c.in-Err.ensures.within;
+      grown = c.serve_over.ensures.session.grown;
+      spent = c.in-Err.ensures.session.desk_spent;
+      flushed = c.in-Err.ensures.transport.flushed;
+      faults = c.in-Err.ensures.transport.faults;
+      within = c.in-Err.ensures.transport.within;
     }) in
     let ended : ServesSession (course sem m order set) told c.args.reads p2 (Err c.stop.result) =
     session_stopped g.met.H.Handlers.laws m g.met.D.Caller.laws order set told c.args.reads after p2 c.in-Err.error comes c.stop.result c.stop.ensures.error c.stop.ensures.desk in

@@ -25,5 +25,5 @@ returns-clause-did g c =
     let a = spot sem m c.args.session.now (g.P.Pick.state c.args.self.now.pick.now) c.args.self.now.codec.now c.args.self.now.rounds in
     let b = spot sem m c.serve_told.new.session (g.P.Pick.state c.serve_told.new.pick) c.serve_told.new.codec c.args.self.now.rounds in
     shown_did (see_serving sem m g.P.Pick.state) _ _ _ _ _ _ (did_told sem g.met.H.Handlers.laws m order a b (g.O.Sink.taken c.args.sink.now) (g.O.Sink.taken c.serve_told.new.sink) c.serve_told.ensures.grown
-    c.args.piece.now c.serve_told.result refl (rw c.in_ok-feed.ensures.ok at c.serve_told.ensures.ok) (on_ok c.serve_told.result (λ ready. record { running = ready.running; taken = ready.taken }) c.serve_told.ensures.ready)
-    c.serve_told.ensures.«open» (rw c.in_ok-feed.ensures.ok at c.serve_told.ensures.part) c.serve_told.ensures.spent)
+    c.args.piece.now c.serve_told.result refl (rw c.in_ok-feed.ensures.ok at c.serve_told.ensures.ok) (on_ok c.serve_told.result (λ ready. record { running = ready.running; taken = ready.taken }) c.serve_told.ensures.session.ready)
+    c.serve_told.ensures.«open» (rw c.in_ok-feed.ensures.ok at c.serve_told.ensures.part) c.serve_told.ensures.session.spent)
