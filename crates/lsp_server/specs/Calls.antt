@@ -23,10 +23,10 @@ pub record CountsRead {S A E : Type 0} (faults_of : S → ℕ) (old new : S) (re
 
 -- ---- sinks
 
--- a write takes some bytes from the front of this piece, which isn't empty, and flushes none; a refused one takes nothing
+-- a write takes bytes from the front of this piece, some where it isn't empty, and flushes none; a refused one takes nothing
 pub record TakesBytes {S F E : Type 0} (taken_of : S → Option (List ℕ)) (flushed_of : S → F) (old new : S) (piece : List ℕ) (result : Result ℕ E) : Type 0 where
   pub within : IfOk result (λ n. n ≤ length piece)
-  pub some : IfOk result (λ n. 0 < n)
+  pub some : 0 < length piece → IfOk result (λ n. 0 < n)
   pub takes : IfOk result (λ n. Appends (taken_of old) (taken_of new) (take n piece))
   pub kept : OnErr result (Keeps (taken_of old) (taken_of new))
   pub flushed : flushed_of new ≡ flushed_of old

@@ -89,7 +89,6 @@ impl Sink for MemoryTransport {
     ghost beside = { λ t. ((bytes_left t, reads_failed t), (reads_made t, read_size t)) };
 
     fn write(&mut self, piece: &[u8]) -> Result<usize, Refused>
-        requires { 0 < length piece.now }
         ensures takes { TakesBytes (λ t. Some (bytes_taken t)) bytes_flushed self.old self.new
             piece.now result }
         ensures reads { KeepsReads self.old self.new }

@@ -83,7 +83,6 @@ impl<W: Write> Sink for WriteSink<W> {
     ghost beside = { λ _. tt };
 
     fn write(&mut self, piece: &[u8]) -> Result<usize, Refused>
-        requires { 0 < length piece.now }
         ensures takes { TakesBytes (λ s. W.contents (writer_of s)) known_flushed self.old self.new
             piece.now result }
         ensures counts { CountsWrite failed_writes self.old self.new result }
