@@ -53,4 +53,3 @@ returns-in_ok-write_step-in-Some-clause-steps g c =
       grown = on_err c.write_step-in-Some.result (λ grown. grown_after _ _ _ _ c.in_ok-write_step-in-Some.ensures.steps.ok grown) c.write_step-in-Some.ensures.steps.grown;
       session = search rules;
     }
-

@@ -36,9 +36,9 @@ returns-in-Ok-put-clause-steps g c =
     let order : Order g.P.Pick.State = record { gives = g.P.Pick.gives; later = g.P.Pick.later } in
     record {
       ok = subst (λ (v : SessionView _ _ sem.Call sem.Task). Ran (Step sem order c.args.rounds) m (place (session_view sem m c.args.session.now) (g.P.Pick.state c.args.pick.now) (g.O.Sink.taken c.args.sink.now)) (show_item c.args.item ∷ [])
-    (place v (g.P.Pick.state c.step.new.pick) (g.O.Sink.taken c.put.new.sink))) (sym c.take_out-out.ensures.rest)
-    (ran_one sem m order c.args.rounds (g.O.Sink.taken c.args.sink.now) (g.O.Sink.taken c.put.new.sink) (session_view sem m c.args.session.now) (session_view sem m c.step.new.session)
-    (g.P.Pick.state c.args.pick.now) (g.P.Pick.state c.step.new.pick) (show_item c.args.item) (map show_message c.take_out-out.result.items) c.in-Ok.ensures.ok c.requires.may.ready.taken c.take_out-out.ensures.taken c.in-Ok-put.ensures.ok);
+          (place v (g.P.Pick.state c.step.new.pick) (g.O.Sink.taken c.put.new.sink))) (sym c.take_out-out.ensures.rest)
+          (ran_one sem m order c.args.rounds (g.O.Sink.taken c.args.sink.now) (g.O.Sink.taken c.put.new.sink) (session_view sem m c.args.session.now) (session_view sem m c.step.new.session)
+          (g.P.Pick.state c.args.pick.now) (g.P.Pick.state c.step.new.pick) (show_item c.args.item) (map show_message c.take_out-out.result.items) c.in-Ok.ensures.ok c.requires.may.ready.taken c.take_out-out.ensures.taken c.in-Ok-put.ensures.ok);
       part = search rules;
       grown = search rules;
       session = search rules;
@@ -62,9 +62,9 @@ returns-in-Err-Failed-clause-steps g c =
     record {
       ok = search rules;
       part = subst (λ (v : SessionView _ _ sem.Call sem.Task). RanPart (Step sem order c.args.rounds) m (place (session_view sem m c.args.session.now) (g.P.Pick.state c.args.pick.now) (g.O.Sink.taken c.args.sink.now)) (show_item c.args.item ∷ []) v.desk
-    (g.O.Sink.taken c.put.new.sink)) (sym c.take_out-out.ensures.rest)
-    (part_one sem m order c.args.rounds (g.O.Sink.taken c.args.sink.now) (g.O.Sink.taken c.put.new.sink) (session_view sem m c.args.session.now) (session_view sem m c.step.new.session)
-    (g.P.Pick.state c.args.pick.now) (g.P.Pick.state c.step.new.pick) (show_item c.args.item) (map show_message c.take_out-out.result.items) p.0 c.in-Ok.ensures.ok c.requires.may.ready.taken c.take_out-out.ensures.taken p.1 p.2);
+          (g.O.Sink.taken c.put.new.sink)) (sym c.take_out-out.ensures.rest)
+          (part_one sem m order c.args.rounds (g.O.Sink.taken c.args.sink.now) (g.O.Sink.taken c.put.new.sink) (session_view sem m c.args.session.now) (session_view sem m c.step.new.session)
+          (g.P.Pick.state c.args.pick.now) (g.P.Pick.state c.step.new.pick) (show_item c.args.item) (map show_message c.take_out-out.result.items) p.0 c.in-Ok.ensures.ok c.requires.may.ready.taken c.take_out-out.ensures.taken p.1 p.2);
       grown = search rules;
       session = search rules;
     }
@@ -78,9 +78,9 @@ returns-clause-steps g c =
     record {
       ok = search rules;
       part = subst (λ (v : SessionView _ _ sem.Call sem.Task). RanPart (Step sem order c.args.rounds) m (place (session_view sem m c.args.session.now) (g.P.Pick.state c.args.pick.now) (g.O.Sink.taken c.args.sink.now)) (show_item c.args.item ∷ []) v.desk
-    (g.O.Sink.taken c.put.new.sink)) (sym c.take_out-out.ensures.rest)
-    (part_one sem m order c.args.rounds (g.O.Sink.taken c.args.sink.now) (g.O.Sink.taken c.put.new.sink) (session_view sem m c.args.session.now) (session_view sem m c.step.new.session)
-    (g.P.Pick.state c.args.pick.now) (g.P.Pick.state c.step.new.pick) (show_item c.args.item) (map show_message c.take_out-out.result.items) p.0 c.in-Ok.ensures.ok c.requires.may.ready.taken c.take_out-out.ensures.taken p.1 p.2);
+          (g.O.Sink.taken c.put.new.sink)) (sym c.take_out-out.ensures.rest)
+          (part_one sem m order c.args.rounds (g.O.Sink.taken c.args.sink.now) (g.O.Sink.taken c.put.new.sink) (session_view sem m c.args.session.now) (session_view sem m c.step.new.session)
+          (g.P.Pick.state c.args.pick.now) (g.P.Pick.state c.step.new.pick) (show_item c.args.item) (map show_message c.take_out-out.result.items) p.0 c.in-Ok.ensures.ok c.requires.may.ready.taken c.take_out-out.ensures.taken p.1 p.2);
       grown = search rules;
       session = search rules;
     }
