@@ -6,7 +6,9 @@ ghost use Rattle.lsp_report.specs.declared.document.DocumentDiagnosticReportKind
 ghost use Rattle.lsp_report.specs.declared.document.DocumentDiagnosticReportResult.TheVariants as document_diagnostic_report_result;
 
 use lsp_base::{Diagnostic, PartialResultParams, TextDocumentIdentifier, WorkDoneProgressParams};
-use lsp_shape::{Copies, Misfit, NoMemory, Reader, Wire, Writer, attempt, put_tag, tag};
+use lsp_shape::{
+    Copies, Misfit, NoMemory, Reader, Wanted, Wire, Writer, attempt, flat, form, put_tag, tag,
+};
 use lsp_uri::Uri;
 use serde_json::Value;
 use std::alloc::{AllocError, Global};
@@ -67,8 +69,8 @@ impl Wire for DocumentDiagnosticParams {
             text_document: object.field("textDocument")?,
             identifier: object.optional("identifier")?,
             previous_result_id: object.optional("previousResultId")?,
-            work_done_progress_params: WorkDoneProgressParams::from_value(alloc, value)?,
-            partial_result_params: PartialResultParams::from_value(alloc, value)?,
+            work_done_progress_params: flat(alloc, value)?,
+            partial_result_params: flat(alloc, value)?,
         })
     }
 
@@ -104,7 +106,7 @@ impl Wire for DocumentDiagnosticReportResult {
             return Ok(DocumentDiagnosticReportResult::Report(report));
         }
         Ok(DocumentDiagnosticReportResult::Partial(
-            DocumentDiagnosticReportPartialResult::from_value(alloc, value)?,
+            form(alloc, value)?,
         ))
     }
 
@@ -151,12 +153,12 @@ impl Wire for DocumentDiagnosticReport {
     fn from_value(alloc: Global, value: &Value) -> Result<DocumentDiagnosticReport, Misfit> {
         match tag(value, "kind") {
             Some("full") => Ok(DocumentDiagnosticReport::Full(
-                RelatedFullDocumentDiagnosticReport::from_value(alloc, value)?,
+                form(alloc, value)?,
             )),
             Some("unchanged") => Ok(DocumentDiagnosticReport::Unchanged(
-                RelatedUnchangedDocumentDiagnosticReport::from_value(alloc, value)?,
+                form(alloc, value)?,
             )),
-            _ => Err(Misfit::Unfit),
+            _ => Err(Misfit::wanted(Wanted::Form)),
         }
     }
 
@@ -208,12 +210,12 @@ impl Wire for DocumentDiagnosticReportKind {
     fn from_value(alloc: Global, value: &Value) -> Result<DocumentDiagnosticReportKind, Misfit> {
         match tag(value, "kind") {
             Some("full") => Ok(DocumentDiagnosticReportKind::Full(
-                FullDocumentDiagnosticReport::from_value(alloc, value)?,
+                form(alloc, value)?,
             )),
             Some("unchanged") => Ok(DocumentDiagnosticReportKind::Unchanged(
-                UnchangedDocumentDiagnosticReport::from_value(alloc, value)?,
+                form(alloc, value)?,
             )),
-            _ => Err(Misfit::Unfit),
+            _ => Err(Misfit::wanted(Wanted::Form)),
         }
     }
 
@@ -284,9 +286,7 @@ impl Wire for RelatedFullDocumentDiagnosticReport {
         let object = Reader::new(alloc, value)?;
         Ok(RelatedFullDocumentDiagnosticReport {
             related_documents: object.optional("relatedDocuments")?,
-            full_document_diagnostic_report: FullDocumentDiagnosticReport::from_value(
-                alloc, value,
-            )?,
+            full_document_diagnostic_report: flat(alloc, value)?,
         })
     }
 
@@ -322,9 +322,7 @@ impl Wire for RelatedUnchangedDocumentDiagnosticReport {
         let object = Reader::new(alloc, value)?;
         Ok(RelatedUnchangedDocumentDiagnosticReport {
             related_documents: object.optional("relatedDocuments")?,
-            unchanged_document_diagnostic_report: UnchangedDocumentDiagnosticReport::from_value(
-                alloc, value,
-            )?,
+            unchanged_document_diagnostic_report: flat(alloc, value)?,
         })
     }
 

@@ -22,7 +22,7 @@ returns-clause-read c = when_ok _ c.end.result c.end.ensures.value c.end.ensures
 
 pub returns-clause-unfit : goal.returns-clause-unfit
 unfolding completion_item_capability_row completion_item_capability_fields
-returns-clause-unfit c = λ unfit.
+returns-clause-unfit c = λ why is.
     record_unread (completion_item_capability_fields.row no_fields) c.in_ok-object.object (view c.args.value.now) c.in_ok-object.ensures.ok c.in_ok-object.ensures.fits (
     unread_member c.optional.new.self c.optional.ensures (
     unread_member c.optional-2.new.self c.optional-2.ensures (
@@ -34,4 +34,4 @@ returns-clause-unfit c = λ unfit.
     unread_member c.optional-7.new.self c.optional-7.ensures (
     unread_member c.optional-8.new.self c.optional-8.ensures (
     unread_member c.optional-9.new.self c.optional-9.ensures (
-    unread_end c.optional-9.new.self (c.end.ensures.unfit unfit))))))))))))
+    unread_end c.optional-9.new.self (c.end.ensures.unfit why is))))))))))))

@@ -42,7 +42,7 @@ returns-clause-read c = when_ok _ c.end.result c.end.ensures.value c.end.ensures
 
 pub returns-clause-unfit : goal.returns-clause-unfit
 unfolding text_document_client_capabilities_row text_document_client_capabilities_fields
-returns-clause-unfit c = λ unfit.
+returns-clause-unfit c = λ why is.
     record_unread (text_document_client_capabilities_fields.row no_fields) c.in_ok-object.object (view c.args.value.now) c.in_ok-object.ensures.ok c.in_ok-object.ensures.fits (
     unread_member c.optional.new.self c.optional.ensures (
     unread_member c.optional-2.new.self c.optional-2.ensures (
@@ -74,4 +74,4 @@ returns-clause-unfit c = λ unfit.
     unread_member c.optional-28.new.self c.optional-28.ensures (
     unread_member c.optional-29.new.self c.optional-29.ensures (
     unread_member c.optional-30.new.self c.optional-30.ensures (
-    unread_end c.optional-30.new.self (c.end.ensures.unfit unfit))))))))))))))))))))))))))))))))
+    unread_end c.optional-30.new.self (c.end.ensures.unfit why is))))))))))))))))))))))))))))))))

@@ -26,7 +26,7 @@ returns-clause-read c = when_ok _ c.end.result c.end.ensures.value c.end.ensures
 
 pub returns-clause-unfit : goal.returns-clause-unfit
 unfolding workspace_client_capabilities_row workspace_client_capabilities_fields
-returns-clause-unfit c = λ unfit.
+returns-clause-unfit c = λ why is.
     record_unread (workspace_client_capabilities_fields.row no_fields) c.in_ok-object.object (view c.args.value.now) c.in_ok-object.ensures.ok c.in_ok-object.ensures.fits (
     unread_member c.optional.new.self c.optional.ensures (
     unread_member c.optional-2.new.self c.optional-2.ensures (
@@ -42,4 +42,4 @@ returns-clause-unfit c = λ unfit.
     unread_member c.optional-12.new.self c.optional-12.ensures (
     unread_member c.optional-13.new.self c.optional-13.ensures (
     unread_member c.optional-14.new.self c.optional-14.ensures (
-    unread_end c.optional-14.new.self (c.end.ensures.unfit unfit))))))))))))))))
+    unread_end c.optional-14.new.self (c.end.ensures.unfit why is))))))))))))))))

@@ -30,7 +30,7 @@ returns-clause-read c = when_ok _ c.end.result c.end.ensures.value c.end.ensures
 
 pub returns-clause-unfit : goal.returns-clause-unfit
 unfolding completion_item_row completion_item_fields
-returns-clause-unfit c = λ unfit.
+returns-clause-unfit c = λ why is.
     record_unread (completion_item_fields.row no_fields) c.in_ok-object.object (view c.args.value.now) c.in_ok-object.ensures.ok c.in_ok-object.ensures.fits (
     unread_required (
     unread_member c.optional.new.self c.optional.ensures (
@@ -50,4 +50,4 @@ returns-clause-unfit c = λ unfit.
     unread_member c.optional-15.new.self c.optional-15.ensures (
     unread_member c.optional-16.new.self c.optional-16.ensures (
     unread_member c.optional-17.new.self c.optional-17.ensures (
-    unread_end c.optional-17.new.self (c.end.ensures.unfit unfit))))))))))))))))))))
+    unread_end c.optional-17.new.self (c.end.ensures.unfit why is))))))))))))))))))))
