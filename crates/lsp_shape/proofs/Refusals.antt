@@ -246,8 +246,8 @@ same_map_read ns test f every (array b) = refl
 -- ---- records
 
 map_none : {o : Option Parts} → option_map parts o ≡ None → o ≡ None
-map_none {None} e = refl
-map_none {Some ps} e = absurd (none-some (parts ps) (sym e))
+map_none {o = None} e = refl
+map_none {o = Some ps} e = absurd (none-some (parts ps) (sym e))
 
 head_none : (o : Option Plain) → and_part o (Some no_parts) ≡ None → o ≡ None
 head_none None e = refl
