@@ -142,7 +142,7 @@ impl Wire for PrepareRenameResponse {
                 placeholder: x.placeholder,
             });
         }
-        let x = form(alloc, value)?;
+        let x = form::<PrepareRenameResponseDefaultBehavior>(alloc, value)?;
         Ok(PrepareRenameResponse::DefaultBehavior {
             default_behavior: x.default_behavior,
         })

@@ -30,9 +30,7 @@ impl Wire for RangeTag {
     fn from_value(alloc: Global, value: &Value) -> Result<RangeTag, Misfit> {
         match tag(value, "type") {
             Some("definition") => form(alloc, value).map(RangeTag::Definition),
-            Some("declaration") => form(alloc, value).map(
-                RangeTag::Declaration,
-            ),
+            Some("declaration") => form(alloc, value).map(RangeTag::Declaration),
             Some("reference") => form(alloc, value).map(RangeTag::Reference),
             Some("unknown") => form(alloc, value).map(RangeTag::Unknown),
             _ => Err(Misfit::wanted(Wanted::Form)),

@@ -114,9 +114,7 @@ impl Wire for Vertex {
             }
             VertexLabel::ResultSet => form(alloc, value).map(Vertex::ResultSet),
             VertexLabel::Moniker => form(alloc, value).map(Vertex::Moniker),
-            VertexLabel::PackageInformation => form(alloc, value).map(
-                Vertex::PackageInformation,
-            ),
+            VertexLabel::PackageInformation => form(alloc, value).map(Vertex::PackageInformation),
             VertexLabel::Event => form(alloc, value).map(Vertex::Event),
             VertexLabel::DefinitionResult => Ok(Vertex::DefinitionResult),
             VertexLabel::DeclarationResult => Ok(Vertex::DeclarationResult),

@@ -480,7 +480,7 @@ impl Wire for SemanticTokensFullOptions {
         if let Some(whole) = attempt(alloc, value)? {
             return Ok(SemanticTokensFullOptions::Bool(whole));
         }
-        let x = form(alloc, value)?;
+        let x = form::<SemanticTokensFullOptionsDelta>(alloc, value)?;
         Ok(SemanticTokensFullOptions::Delta { delta: x.delta })
     }
 

@@ -158,9 +158,7 @@ impl Wire for FoldingRangeProviderCapability {
         if let Some(provider) = attempt(alloc, value)? {
             return Ok(FoldingRangeProviderCapability::FoldingProvider(provider));
         }
-        Ok(FoldingRangeProviderCapability::Options(
-            form(alloc, value)?,
-        ))
+        Ok(FoldingRangeProviderCapability::Options(form(alloc, value)?))
     }
 
     fn to_value(&self, alloc: Global) -> Result<Value, NoMemory> {

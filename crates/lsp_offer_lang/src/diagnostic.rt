@@ -29,9 +29,7 @@ impl Wire for DiagnosticServerCapabilities {
         if let Some(options) = attempt(alloc, value)? {
             return Ok(DiagnosticServerCapabilities::Options(options));
         }
-        Ok(DiagnosticServerCapabilities::RegistrationOptions(
-            form(alloc, value)?,
-        ))
+        Ok(DiagnosticServerCapabilities::RegistrationOptions(form(alloc, value)?))
     }
 
     fn to_value(&self, alloc: Global) -> Result<Value, NoMemory> {

@@ -28,9 +28,7 @@ impl Wire for InlayHintServerCapabilities {
         if let Some(options) = attempt(alloc, value)? {
             return Ok(InlayHintServerCapabilities::Options(options));
         }
-        Ok(InlayHintServerCapabilities::RegistrationOptions(
-            form(alloc, value)?,
-        ))
+        Ok(InlayHintServerCapabilities::RegistrationOptions(form(alloc, value)?))
     }
 
     fn to_value(&self, alloc: Global) -> Result<Value, NoMemory> {
@@ -130,9 +128,7 @@ impl Wire for InlineValueServerCapabilities {
         if let Some(options) = attempt(alloc, value)? {
             return Ok(InlineValueServerCapabilities::Options(options));
         }
-        Ok(InlineValueServerCapabilities::RegistrationOptions(
-            form(alloc, value)?,
-        ))
+        Ok(InlineValueServerCapabilities::RegistrationOptions(form(alloc, value)?))
     }
 
     fn to_value(&self, alloc: Global) -> Result<Value, NoMemory> {

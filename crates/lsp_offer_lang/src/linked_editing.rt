@@ -36,9 +36,7 @@ impl Wire for LinkedEditingRangeServerCapabilities {
         if let Some(options) = attempt(alloc, value)? {
             return Ok(LinkedEditingRangeServerCapabilities::Options(options));
         }
-        Ok(LinkedEditingRangeServerCapabilities::RegistrationOptions(
-            form(alloc, value)?,
-        ))
+        Ok(LinkedEditingRangeServerCapabilities::RegistrationOptions(form(alloc, value)?))
     }
 
     fn to_value(&self, alloc: Global) -> Result<Value, NoMemory> {

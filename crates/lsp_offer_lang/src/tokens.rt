@@ -35,11 +35,7 @@ impl Wire for SemanticTokensServerCapabilities {
         if let Some(options) = attempt(alloc, value)? {
             return Ok(SemanticTokensServerCapabilities::SemanticTokensOptions(options));
         }
-        Ok(
-            SemanticTokensServerCapabilities::SemanticTokensRegistrationOptions(
-                form(alloc, value)?,
-            ),
-        )
+        Ok(SemanticTokensServerCapabilities::SemanticTokensRegistrationOptions(form(alloc, value)?))
     }
 
     fn to_value(&self, alloc: Global) -> Result<Value, NoMemory> {

@@ -70,9 +70,7 @@ impl Wire for ImplementationProviderCapability {
         if let Some(simple) = attempt(alloc, value)? {
             return Ok(ImplementationProviderCapability::Simple(simple));
         }
-        Ok(ImplementationProviderCapability::Options(
-            form(alloc, value)?,
-        ))
+        Ok(ImplementationProviderCapability::Options(form(alloc, value)?))
     }
 
     fn to_value(&self, alloc: Global) -> Result<Value, NoMemory> {
@@ -122,9 +120,7 @@ impl Wire for TypeDefinitionProviderCapability {
         if let Some(simple) = attempt(alloc, value)? {
             return Ok(TypeDefinitionProviderCapability::Simple(simple));
         }
-        Ok(TypeDefinitionProviderCapability::Options(
-            form(alloc, value)?,
-        ))
+        Ok(TypeDefinitionProviderCapability::Options(form(alloc, value)?))
     }
 
     fn to_value(&self, alloc: Global) -> Result<Value, NoMemory> {

@@ -38,9 +38,7 @@ impl Wire for SelectionRangeProviderCapability {
         if let Some(options) = attempt(alloc, value)? {
             return Ok(SelectionRangeProviderCapability::Options(options));
         }
-        Ok(SelectionRangeProviderCapability::RegistrationOptions(
-            form(alloc, value)?,
-        ))
+        Ok(SelectionRangeProviderCapability::RegistrationOptions(form(alloc, value)?))
     }
 
     fn to_value(&self, alloc: Global) -> Result<Value, NoMemory> {

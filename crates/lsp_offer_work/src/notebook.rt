@@ -205,7 +205,7 @@ impl Wire for NotebookSelector {
                 cells: x.cells,
             });
         }
-        let x = form(alloc, value)?;
+        let x = form::<NotebookSelectorByCells>(alloc, value)?;
         Ok(NotebookSelector::ByCells {
             notebook: x.notebook,
             cells: x.cells,
@@ -440,7 +440,7 @@ impl Wire for NotebookDocumentFilter {
                 pattern: x.pattern,
             });
         }
-        let x = form(alloc, value)?;
+        let x = form::<NotebookDocumentFilterByPattern>(alloc, value)?;
         Ok(NotebookDocumentFilter::ByPattern {
             notebook_type: x.notebook_type,
             scheme: x.scheme,

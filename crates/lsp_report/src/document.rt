@@ -105,9 +105,7 @@ impl Wire for DocumentDiagnosticReportResult {
         if let Some(report) = attempt(alloc, value)? {
             return Ok(DocumentDiagnosticReportResult::Report(report));
         }
-        Ok(DocumentDiagnosticReportResult::Partial(
-            form(alloc, value)?,
-        ))
+        Ok(DocumentDiagnosticReportResult::Partial(form(alloc, value)?))
     }
 
     fn to_value(&self, alloc: Global) -> Result<Value, NoMemory> {
@@ -152,12 +150,8 @@ impl Wire for DocumentDiagnosticReport {
 
     fn from_value(alloc: Global, value: &Value) -> Result<DocumentDiagnosticReport, Misfit> {
         match tag(value, "kind") {
-            Some("full") => Ok(DocumentDiagnosticReport::Full(
-                form(alloc, value)?,
-            )),
-            Some("unchanged") => Ok(DocumentDiagnosticReport::Unchanged(
-                form(alloc, value)?,
-            )),
+            Some("full") => Ok(DocumentDiagnosticReport::Full(form(alloc, value)?)),
+            Some("unchanged") => Ok(DocumentDiagnosticReport::Unchanged(form(alloc, value)?)),
             _ => Err(Misfit::wanted(Wanted::Form)),
         }
     }
@@ -209,12 +203,8 @@ impl Wire for DocumentDiagnosticReportKind {
 
     fn from_value(alloc: Global, value: &Value) -> Result<DocumentDiagnosticReportKind, Misfit> {
         match tag(value, "kind") {
-            Some("full") => Ok(DocumentDiagnosticReportKind::Full(
-                form(alloc, value)?,
-            )),
-            Some("unchanged") => Ok(DocumentDiagnosticReportKind::Unchanged(
-                form(alloc, value)?,
-            )),
+            Some("full") => Ok(DocumentDiagnosticReportKind::Full(form(alloc, value)?)),
+            Some("unchanged") => Ok(DocumentDiagnosticReportKind::Unchanged(form(alloc, value)?)),
             _ => Err(Misfit::wanted(Wanted::Form)),
         }
     }

@@ -6,7 +6,9 @@ ghost use Rattle.lsp_report.specs.declared.workspace.WorkspaceDocumentDiagnostic
 
 use crate::document::{FullDocumentDiagnosticReport, UnchangedDocumentDiagnosticReport};
 use lsp_base::{PartialResultParams, WorkDoneProgressParams};
-use lsp_shape::{Misfit, NoMemory, Reader, Wanted, Wire, Writer, attempt, flat, form, put_tag, tag};
+use lsp_shape::{
+    Misfit, NoMemory, Reader, Wanted, Wire, Writer, attempt, flat, form, put_tag, tag,
+};
 use lsp_uri::Uri;
 use serde_json::Value;
 use std::alloc::Global;
@@ -107,9 +109,7 @@ impl Wire for WorkspaceDiagnosticReportResult {
         if let Some(report) = attempt(alloc, value)? {
             return Ok(WorkspaceDiagnosticReportResult::Report(report));
         }
-        Ok(WorkspaceDiagnosticReportResult::Partial(
-            form(alloc, value)?,
-        ))
+        Ok(WorkspaceDiagnosticReportResult::Partial(form(alloc, value)?))
     }
 
     fn to_value(&self, alloc: Global) -> Result<Value, NoMemory> {
@@ -196,12 +196,10 @@ impl Wire for WorkspaceDocumentDiagnosticReport {
         value: &Value,
     ) -> Result<WorkspaceDocumentDiagnosticReport, Misfit> {
         match tag(value, "kind") {
-            Some("full") => Ok(WorkspaceDocumentDiagnosticReport::Full(
-                form(alloc, value)?,
-            )),
-            Some("unchanged") => Ok(WorkspaceDocumentDiagnosticReport::Unchanged(
-                form(alloc, value)?,
-            )),
+            Some("full") => Ok(WorkspaceDocumentDiagnosticReport::Full(form(alloc, value)?)),
+            Some("unchanged") => Ok(WorkspaceDocumentDiagnosticReport::Unchanged(form(
+                alloc, value,
+            )?)),
             _ => Err(Misfit::wanted(Wanted::Form)),
         }
     }

@@ -1,16 +1,19 @@
 -- Why a value is not read: from a part of it to the whole.
-use Rattle.std.proofs.Common.{◌≡◌, ◌⊎◌, inl, inr, ℕ, zero, suc, List, [], ◌∷◌, ◌++◌, Bool, true, false, cond, ℤ, pos, Option, Some, None, option_map, is_some, refl, ap, sym, subst, ◌∙◌, Ordering, Less, Equal, Greater, nat_cmp}
+use Rattle.std.proofs.Common.{◌≡◌, ◌⊎◌, inl, inr, ℕ, zero, suc, ◌+◌, ◌<◌, take, add-one, arith, Bor, List, [], ◌∷◌, ◌++◌, Bool, true, false, cond, ℤ, pos, Option, Some, None, option_map, is_some, refl, ap, sym, subst, ◌∙◌, Ordering, Less, Equal, Greater, nat_cmp}
 use Rattle.std.specs.Prelude.{Result, Ok, Err, bytes_eq, option_and_then}
 use Rattle.std.specs.Cmp.Lexicographic.{slice_cmp}
 use Rattle.std.specs.Ordering.{match_ordering}
 use Rattle.std.proofs.lemmas.Bool.{false≢true}
+use Rattle.std.proofs.lemmas.List.{take-append-le}
 use Rattle.std.proofs.lemmas.Option.{none-some, same_Some, some_pair_parts}
+use Rattle.serde_json.specs.View.{view}
+use Rattle.serde_json.specs.declared.value.Value.{Value}
 use Rattle.serde_json.specs.Data.{Data, null, boolean, number, string, array, object, Items, no_items, item, Members, no_members, member}
 use Rattle.serde_json.specs.Find.{get, get_member, get_item, at, as_null, as_bool, as_number, as_str, as_array, as_object}
 use Rattle.lsp_shape.specs.Plain.{Plain, present, parts, entry, Parts, no_parts, part}
 use Rattle.lsp_shape.specs.Shape.{Rule, Count, required, omitted, or_empty, or_false, Shape, truth, nil, integer, bits, text, list_of, list, maybe, map_of, recursive, fields, fields_and, union, tagged, any, Fields, no_fields, field, flat, supported, again, has_name, field_names}
 use Rattle.lsp_shape.specs.Read.{read, read_nil, read_truth, read_integer, read_text, read_fields, read_member, read_supported, read_or_truth, read_maybe, read_items, read_list, item_count, read_entry, read_entries, read_map, and_part, and_rest, read_count, reads_none}
-use Rattle.lsp_shape.specs.Why.{Downward, to_member, to_item, below, found_at, name_at, nth_step, step_before, and_further, path_by, is_kind, is_all, is_left_out, IsReason, steps_of, Fails, Refuses, IfUnfit, IsUnfit, IsWhole, IsUnder, IsInMember, IsInItem, one_field, one_supported, fields_of, named_field, named_supported, HasFlat, IsMapBeside, AnyRefuses, suits, Lacks}
+use Rattle.lsp_shape.specs.Why.{Downward, to_member, to_item, below, found_at, name_at, nth_step, step_before, and_further, path_by, is_kind, is_all, is_left_out, IsReason, steps_of, Fails, Refuses, IfUnfit, IsUnfit, IsWhole, IsUnder, IsInMember, IsInItem, IsOfMember, IsOfItem, one_field, one_supported, fields_of, named_field, named_supported, HasFlat, IsMapBeside, AnyRefuses, suits, Lacks}
 use Rattle.lsp_shape.specs.declared.why.Misfit.{Misfit}
 use Rattle.lsp_shape.specs.declared.why.Misfit.TheVariants as misfits
 use Rattle.lsp_shape.specs.declared.why.Wanted.{Wanted}
@@ -115,13 +118,15 @@ refuses_none r = fails_none r.fails
 
 -- what is not read by one is not read by the other
 pub leads : {f g : Data → Option Plain} {d : Data} {why : Why} → ((e : Data) → f e ≡ None → g e ≡ None) → Fails f d why → Fails g d why
-leads h u = record { reason = record {
-  found = u.reason.found;
-  there = u.reason.there;
-  other = u.reason.other;
-  alone = λ e same. h e (u.reason.alone e same);
-  needed = λ e x same k l. h e (u.reason.needed e x same k l);
-} }
+leads h u = record {
+  reason = record {
+    found = u.reason.found;
+    there = u.reason.there;
+    other = u.reason.other;
+    alone = λ e same. h e (u.reason.alone e same);
+    needed = λ e x same k l. h e (u.reason.needed e x same k l);
+  };
+}
 
 pub refuses_leads : {s t : Shape} {d : Data} {why : Why} → ((e : Data) → read s e ≡ None → read t e ≡ None) → Refuses s d why → Refuses t d why
 refuses_leads h r = record { fails = leads h r.fails }
@@ -129,7 +134,7 @@ refuses_leads h r = record { fails = leads h r.fails }
 pub fails_whole : {f : Data → Option Plain} {d : Data} {why : Why} (w : Wanted) → IsWhole w why → f d ≡ None → (is_all w ≡ true → is_kind w d ≡ false)
     → ((e : Data) → is_kind w e ≡ false → is_left_out e ≡ false → f e ≡ None) → Fails f d why
 fails_whole {f} {d} {why} w a none other needed = record {
-  reason = moved f d (path_by (steps_of why) d) [] why.wanted w (ap (λ (ns : List ℕ). path_by ns d) a.0) a.1 (here f d w none other needed)
+  reason = moved f d (path_by (steps_of why) d) [] why.wanted w (ap (λ (ns : List ℕ). path_by ns d) a.0) a.1 (here f d w none other needed);
 }
 
 under_fails : (g : Data → Option Plain) (d : Data) (n : ℕ) (old new : Why) → IsUnder n old new
@@ -182,13 +187,15 @@ guarded : (f g : Data → Option Plain) (q : Data → Bool) (d : Data) (why : Wh
 guarded f g q d why o a left h there u =
     let r = u.reason in
     let path : List Downward = path_by (steps_of why) d in
-    record { reason = record {
-      found = r.found;
-      there = r.there;
-      other = r.other;
-      alone = λ e same. h e (reached q o a path e r.found (λ p. same_test r.found (ap (λ (s : List Downward). found_at s d) (sym p) ∙ r.there)) same) (r.alone e same);
-      needed = λ e x same k l. h e (reached q o a path e x (λ p. left x l) same) (r.needed e x same k l);
-    } }
+    record {
+      reason = record {
+        found = r.found;
+        there = r.there;
+        other = r.other;
+        alone = λ e same. h e (reached q o a path e r.found (λ p. same_test r.found (ap (λ (s : List Downward). found_at s d) (sym p) ∙ r.there)) same) (r.alone e same);
+        needed = λ e x same k l. h e (reached q o a path e x (λ p. left x l) same) (r.needed e x same k l);
+      };
+    }
   where
     same_test : (y : Data) → Some d ≡ Some y → q y ≡ false
     same_test y same = let is : d ≡ y = same_Some d y same in ap q (sym is) ∙ there
@@ -212,7 +219,7 @@ not_left_out (object b) e = refl
 -- a value that is not null
 pub maybe_refuses : {s : Shape} {d : Data} {why : Why} → is_some (as_null d) ≡ false → Refuses s d why → Refuses (maybe s) d why
 maybe_refuses {s} {d} {why} n r = record {
-  fails = guarded (read s) (read_maybe (read s)) (λ x. is_some (as_null x)) d why (λ ms. refl) (λ ds. refl) not_left_out (present_none (read s)) n r.fails
+  fails = guarded (read s) (read_maybe (read s)) (λ x. is_some (as_null x)) d why (λ ms. refl) (λ ds. refl) not_left_out (present_none (read s)) n r.fails;
 }
 
 truth_none : (f : Data → Option Plain) (e : Data) → is_left_out e ≡ false → f e ≡ None → read_or_truth f e ≡ None
@@ -390,28 +397,28 @@ field_none name r s e h = not_a_record (field name r s no_fields) e (none_left (
 
 pub required_refuses : {name : List ℕ} {s : Shape} {ms : Members} {x : Data} {old new : Why} → get_member name ms ≡ Some x → Refuses s x old → IsInMember name ms old new → Refuses (one_field name required s) (object ms) new
 required_refuses {name} {s} {ms} {x} {old} {new} is r a = record {
-  fails = member_fails (read s) (read (one_field name required s)) name ms x old new is (λ e y there h. field_none name required s e (ap (read_member required (read s)) there ∙ h)) r.fails a
+  fails = member_fails (read s) (read (one_field name required s)) name ms x old new is (λ e y there h. field_none name required s e (ap (read_member required (read s)) there ∙ h)) r.fails a;
 }
 
 pub omitted_refuses : {name : List ℕ} {s : Shape} {ms : Members} {x : Data} {old new : Why} → get_member name ms ≡ Some x → Refuses (maybe s) x old → IsInMember name ms old new → Refuses (one_field name omitted s) (object ms) new
 omitted_refuses {name} {s} {ms} {x} {old} {new} is r a = record {
-  fails = member_fails (read (maybe s)) (read (one_field name omitted s)) name ms x old new is (λ e y there h. field_none name omitted s e (ap (read_member omitted (read s)) there ∙ h)) r.fails a
+  fails = member_fails (read (maybe s)) (read (one_field name omitted s)) name ms x old new is (λ e y there h. field_none name omitted s e (ap (read_member omitted (read s)) there ∙ h)) r.fails a;
 }
 
 pub or_empty_refuses : {name : List ℕ} {s : Shape} {ms : Members} {x : Data} {old new : Why} → get_member name ms ≡ Some x → Refuses s x old → IsInMember name ms old new → Refuses (one_field name or_empty s) (object ms) new
 or_empty_refuses {name} {s} {ms} {x} {old} {new} is r a = record {
-  fails = member_fails (read s) (read (one_field name or_empty s)) name ms x old new is (λ e y there h. field_none name or_empty s e (ap (read_member or_empty (read s)) there ∙ h)) r.fails a
+  fails = member_fails (read s) (read (one_field name or_empty s)) name ms x old new is (λ e y there h. field_none name or_empty s e (ap (read_member or_empty (read s)) there ∙ h)) r.fails a;
 }
 
 pub or_false_refuses : {name : List ℕ} {s : Shape} {ms : Members} {x : Data} {old new : Why} → get_member name ms ≡ Some x → Refuses s x old → IsInMember name ms old new → Refuses (one_field name or_false s) (object ms) new
 or_false_refuses {name} {s} {ms} {x} {old} {new} is r a = record {
-  fails = member_fails (read s) (read (one_field name or_false s)) name ms x old new is (λ e y there h. field_none name or_false s e (ap (read_member or_false (read s)) there ∙ h)) r.fails a
+  fails = member_fails (read s) (read (one_field name or_false s)) name ms x old new is (λ e y there h. field_none name or_false s e (ap (read_member or_false (read s)) there ∙ h)) r.fails a;
 }
 
 pub supported_refuses : {name : List ℕ} {s : Shape} {ms : Members} {x : Data} {old new : Why} → get_member name ms ≡ Some x → Fails (read_or_truth (read s)) x old → IsInMember name ms old new → Refuses (one_supported name s) (object ms) new
 supported_refuses {name} {s} {ms} {x} {old} {new} is u a = record {
   fails = member_fails (read_or_truth (read s)) (read (one_supported name s)) name ms x old new is
-    (λ e y there h. not_a_record (supported name s no_fields) e (none_left (read_supported (read s) (get name e)) (Some no_parts) (ap (read_supported (read s)) there ∙ h))) u a
+      (λ e y there h. not_a_record (supported name s no_fields) e (none_left (read_supported (read s) (get name e)) (Some no_parts) (ap (read_supported (read s)) there ∙ h))) u a;
 }
 
 -- a member that is missing
@@ -419,7 +426,7 @@ pub missing_refuses : {name : List ℕ} {s : Shape} {ms : Members} {w : Wanted} 
     → Refuses (one_field name required s) (object ms) why
 missing_refuses {name} {s} {ms} {w} {why} a kind is = record {
   fails = fails_whole w a (field_none name required s (object ms) (ap (read_member required (read s)) is)) (λ e. kind (object ms) ∙ ap is_some is)
-    (λ e k l. field_none name required s e (ap (read_member required (read s)) (not_some (get name e) (sym (kind e) ∙ k))))
+      (λ e k l. field_none name required s e (ap (read_member required (read s)) (not_some (get name e) (sym (kind e) ∙ k))));
 }
 
 -- ---- lists
@@ -443,7 +450,7 @@ list_none test f n (object b) y is h = refl
 
 pub item_refuses : {test : ℕ → Bool} {s : Shape} {n : ℕ} {ds : Items} {x : Data} {old new : Why} → get_item n ds ≡ Some x → Refuses s x old → IsInItem n old new → Refuses (list_of test s) (array ds) new
 item_refuses {test} {s} {n} {ds} {x} {old} {new} is r a = record {
-  fails = item_fails (read s) (read (list_of test s)) n ds x old new is (list_none test (read s) n) r.fails a
+  fails = item_fails (read s) (read (list_of test s)) n ds x old new is (list_none test (read s) n) r.fails a;
 }
 
 -- ---- maps
@@ -599,3 +606,43 @@ pub unfit_none : {A : Type 0} {s : Shape} {d : Data} (r : Result A Misfit) → I
 unfit_none (Ok x) a e = absurd e
 unfit_none (Err (misfits.Unfit why)) a e = refuses_none (a why refl)
 unfit_none (Err misfits.NoMemory) a e = absurd e
+
+-- the member that was found
+pub found_member : (found : Option (Bor Value)) (v : Bor Value) (member : Option Data) → option_map (λ x. view x.now) found ≡ member → found ≡ Some v → member ≡ Some (view v.now)
+found_member found v member e is = sym e ∙ ap (λ (o : Option (Bor Value)). option_map (λ x. view x.now) o) is
+
+-- the reason of a record of one field, by that of the member
+pub required_told : {A : Type 0} {name : List ℕ} {s : Shape} {ms : Members} {x : Data} {member : Result A Misfit} {why : Why} → get_member name ms ≡ Some x → IfUnfit member (λ w. Refuses s x w) → IsOfMember name ms member why
+    → Refuses (one_field name required s) (object ms) why
+required_told is u o = required_refuses is (u o.inner o.was) o.inside
+
+pub omitted_told : {A : Type 0} {name : List ℕ} {s : Shape} {ms : Members} {x : Data} {member : Result A Misfit} {why : Why} → get_member name ms ≡ Some x → IfUnfit member (λ w. Refuses (maybe s) x w) → IsOfMember name ms member why
+    → Refuses (one_field name omitted s) (object ms) why
+omitted_told is u o = omitted_refuses is (u o.inner o.was) o.inside
+
+pub or_empty_told : {A : Type 0} {name : List ℕ} {s : Shape} {ms : Members} {x : Data} {member : Result A Misfit} {why : Why} → get_member name ms ≡ Some x → IfUnfit member (λ w. Refuses s x w) → IsOfMember name ms member why
+    → Refuses (one_field name or_empty s) (object ms) why
+or_empty_told is u o = or_empty_refuses is (u o.inner o.was) o.inside
+
+pub or_false_told : {A : Type 0} {name : List ℕ} {s : Shape} {ms : Members} {x : Data} {member : Result A Misfit} {why : Why} → get_member name ms ≡ Some x → IfUnfit member (λ w. Refuses s x w) → IsOfMember name ms member why
+    → Refuses (one_field name or_false s) (object ms) why
+or_false_told is u o = or_false_refuses is (u o.inner o.was) o.inside
+
+pub supported_told : {A : Type 0} {name : List ℕ} {s : Shape} {ms : Members} {x : Data} {member : Result A Misfit} {why : Why} → get_member name ms ≡ Some x → IfUnfit member (λ w. Fails (read_or_truth (read s)) x w) → IsOfMember name ms member why
+    → Refuses (one_supported name s) (object ms) why
+supported_told is u o = supported_refuses is (u o.inner o.was) o.inside
+
+pub item_told : {A : Type 0} {test : ℕ → Bool} {s : Shape} {n : ℕ} {ds : Items} {x : Data} {one : Result A Misfit} {why : Why} → get_item n ds ≡ Some x → IfUnfit one (λ w. Refuses s x w) → IsOfItem n one why
+    → Refuses (list_of test s) (array ds) why
+item_told is u o = item_refuses is (u o.inner o.was) o.inside
+
+pub entry_told : {A : Type 0} (ns : List (List ℕ)) (test : List ℕ → Bool) {s : Shape} (k : List ℕ) (ms : Members) (x : Data) {member : Result A Misfit} {why : Why} → has_name k ns ≡ false → get_member k ms ≡ Some x
+    → IfUnfit member (λ w. Refuses s x w) → IsOfMember k ms member why → Fails (read_map (read_entries ns test (read s))) (object ms) why
+entry_told ns test k ms x no is u o = entry_fails ns test k ms x no is (u o.inner o.was) o.inside
+
+-- ---- steps
+
+-- a step before others, where eight have room
+pub with_room : (k n a b c d e f g h : ℕ) → k < 8 → take (k + 1) (n ∷ a ∷ b ∷ c ∷ d ∷ e ∷ f ∷ g ∷ []) ≡ n ∷ take k (a ∷ b ∷ c ∷ d ∷ e ∷ f ∷ g ∷ h ∷ [])
+with_room k n a b c d e f g h small =
+    rw add-one (ap (λ (ns : List ℕ). n ∷ ns) (sym (take-append-le k (a ∷ b ∷ c ∷ d ∷ e ∷ f ∷ g ∷ []) (h ∷ []) (omega arith))))

@@ -99,7 +99,9 @@ impl Why {
     pub(crate) fn steps(&self) -> &[u16]
         ensures { result.now ≡ steps_of self.now }
     {
-        self.steps.get(..usize::from(self.depth)).unwrap_or(&self.steps)
+        self.steps
+            .get(..usize::from(self.depth))
+            .unwrap_or(&self.steps)
     }
 }
 

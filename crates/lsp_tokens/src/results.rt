@@ -243,7 +243,7 @@ impl Wire for SemanticTokensFullDeltaResult {
         if let Some(delta) = attempt(alloc, value)? {
             return Ok(SemanticTokensFullDeltaResult::TokensDelta(delta));
         }
-        let x = form(alloc, value)?;
+        let x = form::<SemanticTokensFullDeltaResultPartialTokensDelta>(alloc, value)?;
         Ok(SemanticTokensFullDeltaResult::PartialTokensDelta { edits: x.edits })
     }
 
