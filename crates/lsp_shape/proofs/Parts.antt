@@ -42,13 +42,13 @@ later : (old new : WideReader) (fs : Fields) → members_of new ≡ members_of o
 later old new fs e = ap (λ (ms : Members). read_fields fs reads_none (object ms)) (sym e)
 
 -- a member whose misfit is told at the end
-pub reads_member : {old : WideReader} {name : List ℕ} {r : Rule} {s : Shape} {p : Plain} {fs : Fields} {ps : Parts} (new : WideReader) → Takes old new (read_member r (read s) (get_member name (members_of old))) p → Reads new fs ps → Reads old (field name r s fs) (part p ps)
+pub reads_member : {old : WideReader} {name : List ℕ} {r : Rule} {s : Shape} {p : Plain} {fs : Fields} {ps : Parts} (new : WideReader) → Takes old new (one_field name r s) (read_member r (read s) (get_member name (members_of old))) p → Reads new fs ps → Reads old (field name r s fs) (part p ps)
 reads_member {old} {name} {r} {s} {p} {fs} {ps} new t a = record {
   fits = t.1 a.fits;
   read = and_part-Some {o = read_member r (read s) (get_member name (members_of old))} (t.2 a.fits) (later old new fs t.0 ∙ a.read);
 }
 
-pub reads_supported : {old : WideReader} {name : List ℕ} {s : Shape} {p : Plain} {fs : Fields} {ps : Parts} (new : WideReader) → Takes old new (read_supported (read s) (get_member name (members_of old))) p → Reads new fs ps → Reads old (supported name s fs) (part p ps)
+pub reads_supported : {old : WideReader} {name : List ℕ} {s : Shape} {p : Plain} {fs : Fields} {ps : Parts} (new : WideReader) → Takes old new (one_supported name s) (read_supported (read s) (get_member name (members_of old))) p → Reads new fs ps → Reads old (supported name s fs) (part p ps)
 reads_supported {old} {name} {s} {p} {fs} {ps} new t a = record {
   fits = t.1 a.fits;
   read = and_part-Some {o = read_supported (read s) (get_member name (members_of old))} (t.2 a.fits) (later old new fs t.0 ∙ a.read);

@@ -1,6 +1,6 @@
 -- Why a value is not read: from a part of it to the whole.
 use Rattle.std.proofs.Common.{◌≡◌, ◌⊎◌, inl, inr, ℕ, zero, suc, ◌+◌, ◌<◌, take, add-one, arith, Bor, List, [], ◌∷◌, ◌++◌, Bool, true, false, cond, ℤ, pos, Option, Some, None, option_map, is_some, refl, ap, sym, subst, ◌∙◌, Ordering, Less, Equal, Greater, nat_cmp}
-use Rattle.std.specs.Prelude.{Result, Ok, Err, bytes_eq, option_and_then}
+use Rattle.std.specs.Prelude.{Result, Ok, Err, IsErrAnd, bytes_eq, option_and_then}
 use Rattle.std.specs.Cmp.Lexicographic.{slice_cmp}
 use Rattle.std.specs.Ordering.{match_ordering}
 use Rattle.std.proofs.lemmas.Bool.{false≢true}
@@ -646,3 +646,13 @@ entry_told ns test k ms x no is u o = entry_fails ns test k ms x no is (u o.inne
 pub with_room : (k n a b c d e f g h : ℕ) → k < 8 → take (k + 1) (n ∷ a ∷ b ∷ c ∷ d ∷ e ∷ f ∷ g ∷ []) ≡ n ∷ take k (a ∷ b ∷ c ∷ d ∷ e ∷ f ∷ g ∷ h ∷ [])
 with_room k n a b c d e f g h small =
     rw add-one (ap (λ (ns : List ℕ). n ∷ ns) (sym (take-append-le k (a ∷ b ∷ c ∷ d ∷ e ∷ f ∷ g ∷ []) (h ∷ []) (omega arith))))
+
+-- ---- what a question mark passes on
+
+pub passed : {T : Type 0} (r : Result T Misfit) (m : Misfit) (P : Why → Type 0) → IsErrAnd r (λ x. x ≡ m) → ((why : Why) → m ≡ misfits.Unfit why → P why) → (why : Why) → r ≡ Err (misfits.Unfit why) → P why
+passed (Ok x) m P a f why is = absurd a
+passed (Err e) m P a f why is = let same : e ≡ misfits.Unfit why = cc in f why (sym a ∙ same)
+
+-- the same of what is read of an object
+pub passed_in : {T : Type 0} (r : Result T Misfit) (m : Misfit) (t : Shape) {d e : Data} → d ≡ e → IsErrAnd r (λ x. x ≡ m) → ((why : Why) → m ≡ misfits.Unfit why → Refuses t e why) → (why : Why) → r ≡ Err (misfits.Unfit why) → Refuses t d why
+passed_in r m t {d} {e} same a f why is = subst (λ (x : Data). Refuses t x why) (sym same) (passed r m (λ w. Refuses t e w) a f why is)
