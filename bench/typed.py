@@ -28,9 +28,8 @@ SOURCE = """//! A server that gets calls of the protocol typed, and under custom
 use lsp_desk::PlainDesk;
 use lsp_server::Server;
 use lsp_service::{
-    Answering, AtOnce, Call, EditCall, EditReply, LifeCall, LifeReply, LspService, NoMemory, Params,
-    Reply, ShowCall, ShowReply, SyncCall, Written, let_go, not_found_for, offering,
-    serve_stdio,
+    Answering, AtOnce, Call, EditCall, EditReply, InitializeReply, LifeCall, LifeReply, LspService,
+    NoMemory, Reply, ShowCall, ShowReply, SyncCall, let_go, not_found_for, serve_stdio,
 };
 use lsp_session::Kind;
 use lsp_types::{
@@ -49,19 +48,19 @@ impl Answering for Both {
         match call {
             Call::Life(LifeCall::Initialize(_)) => {
                 let_go(call);
-                let offered = offering(alloc, ServerCapabilities::default())?;
+                let offered = InitializeReply::offering(alloc, ServerCapabilities::default())?;
                 Ok(Reply::Life(LifeReply::Initialize(Ok(offered))))
             }
             Call::Life(LifeCall::Shutdown) => Ok(Reply::Life(LifeReply::Shutdown(Ok(())))),
             Call::Show(ShowCall::Hover(params)) => {
                 let hover = hover(alloc, params)?;
-                Ok(Reply::Show(ShowReply::Hover(Ok(hover))))
+                Ok(Reply::Show(ShowReply::Hover(Ok(Some(hover)))))
             }
             Call::Edit(EditCall::Completion(params)) => {
                 let items = items(alloc, params)?;
-                Ok(Reply::Edit(EditReply::Completion(Ok(items))))
+                Ok(Reply::Edit(EditReply::Completion(Ok(Some(items)))))
             }
-            Call::Sync(SyncCall::DidChange(params)) => changed(alloc, params),
+            Call::Sync(SyncCall::DidChange(params)) => Ok(changed(params)),
             Call::Custom(0, Some(params)) => Ok(Reply::Custom(Ok(plain_hover(alloc, params)?))),
             Call::Custom(1, Some(params)) => Ok(Reply::Custom(Ok(plain_items(alloc, params)?))),
             Call::Custom(_, _) => Ok(Reply::Noted),
@@ -70,26 +69,17 @@ impl Answering for Both {
     }
 }
 
-fn changed(
-    alloc: Global,
-    params: Params<DidChangeTextDocumentParams>,
-) -> Result<Reply, NoMemory> {
-    drop(params.read(alloc)?);
-    Ok(Reply::Noted)
+fn changed(_params: DidChangeTextDocumentParams) -> Reply {
+    Reply::Noted
 }
 
-fn hover(
-    alloc: Global,
-    params: Params<HoverParams>,
-) -> Result<Written<Option<Hover>>, NoMemory> {
-    let params = params.read(alloc)?;
+fn hover(alloc: Global, params: HoverParams) -> Result<Hover, NoMemory> {
     let line = params.text_document_position_params.position.line;
     let text = MarkedString::String(format!(in alloc; "Hello from line {line}")?);
-    let hover = Hover {
+    Ok(Hover {
         contents: HoverContents::Scalar(text),
         range: None,
-    };
-    Written::new(alloc, &Some(hover))
+    })
 }
 
 fn plain_hover(alloc: Global, params: Value) -> Result<Value, NoMemory> {
@@ -104,17 +94,13 @@ fn plain_hover(alloc: Global, params: Value) -> Result<Value, NoMemory> {
     }
 }
 
-fn items(
-    alloc: Global,
-    params: Params<CompletionParams>,
-) -> Result<Written<Option<CompletionResponse>>, NoMemory> {
-    drop(params.read(alloc)?);
+fn items(alloc: Global, _params: CompletionParams) -> Result<CompletionResponse, NoMemory> {
     let mut items = Vec::new(alloc);
     for _ in 0..100 {
         let label = String::from_str(alloc, "hello")?;
         items.push(CompletionItem::new_simple(label, String::from_str(alloc, "hi")?))?;
     }
-    Written::new(alloc, &Some(CompletionResponse::Array(items)))
+    Ok(CompletionResponse::Array(items))
 }
 
 fn plain_items(alloc: Global, _params: Value) -> Result<Value, NoMemory> {
@@ -167,7 +153,7 @@ CALLS = {
 # compiled: of these what they call is counted, and the rest is not.
 READS = re.compile(r"\w+Wire::from_value\b|\blsp_shape::")
 WRITES = re.compile(r"\w+Wire::to_value\b|\blsp_shape::")
-READER, WRITER = "lsp_service::params::", "lsp_service::written::"
+READER, WRITER = "lsp_service::read::", "lsp_service::write::"
 
 
 def untyped(body):

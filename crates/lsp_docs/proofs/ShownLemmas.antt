@@ -1,5 +1,5 @@
 -- A typed call comes to what the call that it shows comes to.
-use Rattle.std.proofs.Common.{◌≡◌, refl}
+use Rattle.std.proofs.Common.{◌≡◌, ap, refl}
 use Rattle.lsp_documents.specs.Documents.{DocumentMap}
 use Rattle.lsp_service.specs.declared.call.Call.{Call}
 use Rattle.lsp_service.specs.declared.call.Call.TheVariants as calls
@@ -18,8 +18,9 @@ use Rattle.lsp_service.specs.declared.call.EditCall.TheVariants as edit_calls
 use Rattle.lsp_service.specs.declared.call.WorkCall.{WorkCall}
 use Rattle.lsp_service.specs.declared.call.WorkCall.TheVariants as work_calls
 use Rattle.lsp_service.specs.Calls.{show_call}
-use Rattle.lsp_docs.specs.Docs.{docs_turn}
+use Rattle.lsp_docs.specs.Docs.{tells, docs_turn}
 use Rattle.lsp_docs.specs.Typed.{call_turn}
+use Rattle.lsp_docs.proofs.ParamsLemmas.{opened, changed, closed}
 
 -- a call that isn't answered
 goto_shown : (ds : DocumentMap) (c : GotoCall) → docs_turn ds (show_call (calls.Goto c)) ≡ call_turn ds (calls.Goto c)
@@ -90,12 +91,12 @@ pub shown_turn : (ds : DocumentMap) (c : Call) → docs_turn ds (show_call c) �
 shown_turn ds (calls.Life (life_calls.Initialize p)) = refl
 shown_turn ds (calls.Life (life_calls.Initialized p)) = refl
 shown_turn ds (calls.Life life_calls.Shutdown) = refl
-shown_turn ds (calls.Sync (sync_calls.DidOpen p)) = refl
-shown_turn ds (calls.Sync (sync_calls.DidChange p)) = refl
+shown_turn ds (calls.Sync (sync_calls.DidOpen p)) = ap tells (opened p)
+shown_turn ds (calls.Sync (sync_calls.DidChange p)) = ap tells (changed p)
 shown_turn ds (calls.Sync (sync_calls.WillSave p)) = refl
 shown_turn ds (calls.Sync (sync_calls.WillSaveWaitUntil p)) = refl
 shown_turn ds (calls.Sync (sync_calls.DidSave p)) = refl
-shown_turn ds (calls.Sync (sync_calls.DidClose p)) = refl
+shown_turn ds (calls.Sync (sync_calls.DidClose p)) = ap tells (closed p)
 shown_turn ds (calls.Goto c) = goto_shown ds c
 shown_turn ds (calls.Hierarchy c) = hierarchy_shown ds c
 shown_turn ds (calls.Show c) = show_shown ds c

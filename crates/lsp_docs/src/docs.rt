@@ -6,20 +6,20 @@ ghost use Rattle.serde_json.specs.View.{view};
 ghost use Rattle.lsp_rpc.specs.Shown.{show_body};
 ghost use Rattle.lsp_desk.specs.Meaning.{PollsOn};
 ghost use Rattle.lsp_session.specs.Fails.{PollFails};
-ghost use Rattle.lsp_service.specs.Replies.{initialize_data, show_reply, show_written};
-ghost use Rattle.lsp_docs.specs.Docs.{requested_uri as requested_uri_lem, text_answer, found_data, offered, replies, Heeded, LogsRefusal, TakesTurn};
-ghost use Rattle.lsp_docs.specs.Typed.{opening_of, changes_of, closing_of, life_turn, sync_turn};
+ghost use Rattle.lsp_service.specs.Replies.{initialize_data, show_offer};
+ghost use Rattle.lsp_docs.specs.Docs.{requested_uri as requested_uri_lem, text_answer, found_data, offered, Heeded, LogsRefusal};
+ghost use Rattle.lsp_docs.specs.Typed.{opening_of, changes_of, closing_of};
 
 use lsp_client::Client;
 use lsp_desk::{Caller, DeskFault};
 use lsp_documents::{ChangeError, Document, Documents, OpenError};
-use lsp_initialize::{InitializeResult, ServerCapabilities};
+use lsp_initialize::ServerCapabilities;
 use lsp_kinds::{MessageType, TextDocumentSyncKind};
 use lsp_offer_text::TextDocumentSyncOptions;
 use lsp_rpc::{Error, ErrorCode};
 use lsp_service::{
-    Call, LanguageServer, LifeCall, LifeReply, NoMemory, NoTask, Reply, Started, SyncCall, Written,
-    let_go, not_found, not_found_for, offering,
+    Call, InitializeCall, InitializeReply, LanguageServer, LifeCall, LifeReply, NoMemory, NoTask,
+    Reply, Started, SyncCall, not_found_for,
 };
 use lsp_work::{
     DidChangeTextDocumentParams, DidCloseTextDocumentParams, DidOpenTextDocumentParams,
@@ -118,38 +118,6 @@ impl DocsServer {
         }
     }
 
-    // Takes note of a notification of a document. No other call of its group is known.
-    fn heed<D: Caller>(
-        &mut self,
-        alloc: Global,
-        call: SyncCall,
-        client: &mut D,
-    ) -> Result<Reply, DeskFault>
-        ensures heeded { IfOk result (λ reply. PollsOn D.meaning client.old client.new
-            (TakesTurn (sync_turn call) self.old.documents self.new.documents
-            (show_reply reply))) }
-        ensures failed { IfErr result (λ fault. PollFails D.meaning client.old client.new fault) }
-    {
-        match call {
-            SyncCall::DidOpen(params) => {
-                let opened = params.read(alloc)?;
-                self.open(alloc, opened, client)?;
-                Ok(Reply::Noted)
-            }
-            SyncCall::DidChange(params) => {
-                let changed = params.read(alloc)?;
-                self.change(alloc, changed, client)?;
-                Ok(Reply::Noted)
-            }
-            SyncCall::DidClose(params) => {
-                let closed = params.read(alloc)?;
-                self.close(alloc, closed, client)?;
-                Ok(Reply::Noted)
-            }
-            other => Ok(not_found_for(alloc, Call::Sync(other))?),
-        }
-    }
-
     // What is replied to `docs/text`.
     fn text_body(
         &self,
@@ -187,13 +155,33 @@ impl<D: Caller> LanguageServer<D> for DocsServer {
         client: &mut D,
     ) -> Result<Started<NoTask>, DeskFault> {
         match call {
-            Call::Life(life) => Ok(Started::Now(life_reply(alloc, life)?)),
-            Call::Sync(notice) => Ok(Started::Now(self.heed(alloc, notice, client)?)),
+            Call::Life(LifeCall::Initialize(params)) => {
+                let offered = initialize(alloc, params)?;
+                Ok(Started::Now(Reply::Life(LifeReply::Initialize(Ok(offered)))))
+            }
+            Call::Life(LifeCall::Shutdown) => {
+                Ok(Started::Now(Reply::Life(LifeReply::Shutdown(Ok(())))))
+            }
+            Call::Sync(SyncCall::DidOpen(params)) => {
+                self.open(alloc, params, client)?;
+                Ok(Started::Now(Reply::Noted))
+            }
+            Call::Sync(SyncCall::DidChange(params)) => {
+                self.change(alloc, params, client)?;
+                Ok(Started::Now(Reply::Noted))
+            }
+            Call::Sync(SyncCall::DidClose(params)) => {
+                self.close(alloc, params, client)?;
+                Ok(Started::Now(Reply::Noted))
+            }
             Call::Custom(_, params) => {
                 let body = self.text_body(alloc, params)?;
                 Ok(Started::Now(Reply::Custom(body)))
             }
-            other => Ok(Started::Now(not_found_for(alloc, other)?)),
+            other => {
+                let reply = not_found_for(alloc, other)?;
+                Ok(Started::Now(reply))
+            }
         }
     }
 
@@ -216,26 +204,11 @@ fn refuse<D: Caller>(alloc: Global, client: &mut D) -> Result<(), DeskFault>
     Ok(())
 }
 
-// What is replied to a call of the life of a session. `initialized` isn't known.
-fn life_reply(alloc: Global, call: LifeCall) -> Result<Reply, NoMemory>
-    ensures { IfOk result (λ reply. life_turn call ≡ replies (show_reply reply)) }
-{
-    match call {
-        LifeCall::Initialize(params) => {
-            let_go(Call::Life(LifeCall::Initialize(params)));
-            let offered = initialize(alloc)?;
-            Ok(Reply::Life(LifeReply::Initialize(Ok(offered))))
-        }
-        LifeCall::Shutdown => Ok(Reply::Life(LifeReply::Shutdown(Ok(())))),
-        LifeCall::Initialized(_) => not_found(alloc),
-    }
-}
-
-fn initialize(alloc: Global) -> Result<Written<InitializeResult>, NoMemory>
-    ensures { IfOk result (λ reply. show_written reply ≡ initialize_data
+fn initialize(alloc: Global, _params: InitializeCall) -> Result<InitializeReply, NoMemory>
+    ensures { IfOk result (λ reply. show_offer reply ≡ initialize_data
         (record { capabilities = offered; server_info = None })) }
 {
-    offering(alloc, capabilities())
+    InitializeReply::offering(alloc, capabilities())
 }
 
 // Documents are to be told when they are opened, changed and closed, and changes in ranges. Nothing

@@ -4,8 +4,8 @@ use crate::params::{begun, ended, folders_line, greeting, initialize};
 use lsp_client::{Answered, Asked, Client, Ticket};
 use lsp_desk::{Caller, DeskFault};
 use lsp_service::{
-    Asking, Call, LifeCall, LifeReply, Params, Reply, Started, SyncCall, WorkCall, WorkReply,
-    let_go, not_found_for,
+    Asking, Call, LifeCall, LifeReply, Reply, Started, SyncCall, WorkCall, WorkReply, let_go,
+    not_found_for,
 };
 use lsp_types::notification::Progress;
 use lsp_types::request::WorkspaceFoldersRequest;
@@ -22,7 +22,7 @@ pub enum Task {
     /// `initialized`, until the folders of the workspace have come.
     Folders(Ticket<WorkspaceFoldersRequest>),
     /// `workspace/executeCommand`, until it is polled again.
-    Command(Params<ExecuteCommandParams>),
+    Command(ExecuteCommandParams),
 }
 
 impl<D: Caller> Asking<D> for Asks {
@@ -48,7 +48,7 @@ impl<D: Caller> Asking<D> for Asks {
                 }
             }
             Call::Sync(SyncCall::DidOpen(params)) => {
-                let document = params.read(alloc)?.text_document;
+                let document = params.text_document;
                 let found = greeting(alloc, &document)?;
                 client.publish_diagnostics(alloc, document.uri, found, Some(document.version))?;
                 Ok(Started::Now(Reply::Noted))
@@ -60,9 +60,8 @@ impl<D: Caller> Asking<D> for Asks {
                 }
                 None => Ok(Started::Later(Task::Command(params))),
             },
-            Call::Life(LifeCall::Initialize(_)) => {
-                let_go(call);
-                let offered = initialize(alloc)?;
+            Call::Life(LifeCall::Initialize(params)) => {
+                let offered = initialize(alloc, params)?;
                 Ok(Started::Now(Reply::Life(LifeReply::Initialize(Ok(offered)))))
             }
             Call::Life(LifeCall::Shutdown) => {
@@ -92,7 +91,7 @@ impl<D: Caller> Asking<D> for Asks {
                 Answered::Error(error) => Ok(Started::Now(Reply::Error(error))),
                 Answered::Pending(ticket) => Ok(Started::Later(Task::Folders(ticket))),
             },
-            Task::Command(params) => match ended(alloc, params)? {
+            Task::Command(params) => match ended(params) {
                 Some(progress) => {
                     client.send_notification::<Progress>(alloc, progress)?;
                     Ok(Started::Now(Reply::Work(WorkReply::ExecuteCommand(Ok(None)))))

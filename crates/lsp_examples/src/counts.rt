@@ -4,12 +4,10 @@ use crate::worker::{Found, Jobs};
 use lsp_desk::{Caller, DeskFault};
 use lsp_rpc::{Error, ErrorCode};
 use lsp_service::{
-    Asking, Call, LifeCall, LifeReply, NoMemory, Params, Reply, Started, WorkCall, WorkReply,
-    Written, let_go, not_found_for, offering,
+    Asking, Call, InitializeCall, InitializeReply, LifeCall, LifeReply, NoMemory, Reply, Started,
+    WorkCall, WorkReply, not_found_for,
 };
-use lsp_types::{
-    ExecuteCommandOptions, ExecuteCommandParams, InitializeResult, ServerCapabilities,
-};
+use lsp_types::{ExecuteCommandOptions, ExecuteCommandParams, ServerCapabilities};
 use serde_json::Value;
 use std::alloc::Global;
 use std::sync::atomic::Ordering;
@@ -26,7 +24,7 @@ pub(crate) struct Counts {
 /// A command that the thread has.
 #[derive(Drop)]
 pub(crate) struct Counting {
-    params: Params<ExecuteCommandParams>,
+    params: ExecuteCommandParams,
     found: Found,
 }
 
@@ -48,9 +46,8 @@ impl<D: Caller> Asking<D> for Counts {
                 Ok(found) => Ok(Started::Later(Counting { params, found })),
                 Err(error) => Ok(Started::Now(Reply::Error(error))),
             },
-            Call::Life(LifeCall::Initialize(_)) => {
-                let_go(call);
-                let offered = initialize(alloc)?;
+            Call::Life(LifeCall::Initialize(params)) => {
+                let offered = initialize(alloc, params)?;
                 Ok(Started::Now(Reply::Life(LifeReply::Initialize(Ok(offered)))))
             }
             Call::Life(LifeCall::Shutdown) => {
@@ -81,9 +78,9 @@ impl Counts {
     fn begin(
         &mut self,
         alloc: Global,
-        params: &Params<ExecuteCommandParams>,
+        params: &ExecuteCommandParams,
     ) -> Result<Result<Found, Error>, NoMemory> {
-        match number_of(&params.read(alloc)?) {
+        match number_of(params) {
             Some(below) => match self.jobs.begin(alloc, below)? {
                 Some(found) => Ok(Ok(found)),
                 None => Ok(Err(Error::new(alloc, ErrorCode::ServerError(-32803))?)),
@@ -105,10 +102,10 @@ fn number_of(params: &ExecuteCommandParams) -> Option<u64> {
 }
 
 // The command is offered, so that an editor asks for it.
-fn initialize(alloc: Global) -> Result<Written<InitializeResult>, NoMemory> {
+fn initialize(alloc: Global, _params: InitializeCall) -> Result<InitializeReply, NoMemory> {
     let mut offered = ExecuteCommandOptions::default(alloc);
     offered.commands.push(String::from_str(alloc, "primes")?)?;
     let mut capabilities = ServerCapabilities::default();
     capabilities.execute_command_provider = Some(offered);
-    offering(alloc, capabilities)
+    InitializeReply::offering(alloc, capabilities)
 }

@@ -1,17 +1,20 @@
 // What the server sends.
-use lsp_service::{NoMemory, Params, Written, offering};
+use lsp_service::{InitializeCall, InitializeReply, NoMemory};
 use lsp_types::{
-    Diagnostic, ExecuteCommandParams, InitializeResult, ProgressParams, ProgressParamsValue, Range,
+    Diagnostic, ExecuteCommandParams, ProgressParams, ProgressParamsValue, Range,
     ServerCapabilities, TextDocumentItem, TextDocumentSyncKind, WorkDoneProgress,
     WorkDoneProgressBegin, WorkDoneProgressEnd, WorkspaceFolder,
 };
 use std::alloc::Global;
 
 /// What the server is able to do.
-pub(crate) fn initialize(alloc: Global) -> Result<Written<InitializeResult>, NoMemory> {
+pub(crate) fn initialize(
+    alloc: Global,
+    _params: InitializeCall,
+) -> Result<InitializeReply, NoMemory> {
     let mut capabilities = ServerCapabilities::default();
     capabilities.text_document_sync = Some(TextDocumentSyncKind::FULL.into());
-    offering(alloc, capabilities)
+    InitializeReply::offering(alloc, capabilities)
 }
 
 /// A line on the folders of a workspace.
@@ -37,9 +40,8 @@ pub(crate) fn greeting(
 /// The beginning of a command, where the client wants to hear of it.
 pub(crate) fn begun(
     alloc: Global,
-    params: &Params<ExecuteCommandParams>,
+    params: &ExecuteCommandParams,
 ) -> Result<Option<ProgressParams>, NoMemory> {
-    let params = params.read(alloc)?;
     match &params.work_done_progress_params.work_done_token {
         Some(token) => {
             let mut begin = WorkDoneProgressBegin::default(alloc);
@@ -54,21 +56,15 @@ pub(crate) fn begun(
 }
 
 /// Its end.
-pub(crate) fn ended(
-    alloc: Global,
-    params: Params<ExecuteCommandParams>,
-) -> Result<Option<ProgressParams>, NoMemory> {
-    let token = params
-        .read(alloc)?
-        .work_done_progress_params
-        .work_done_token;
+pub(crate) fn ended(params: ExecuteCommandParams) -> Option<ProgressParams> {
+    let token = params.work_done_progress_params.work_done_token;
     match token {
-        Some(token) => Ok(Some(ProgressParams {
+        Some(token) => Some(ProgressParams {
             token,
             value: ProgressParamsValue::WorkDone(WorkDoneProgress::End(
                 WorkDoneProgressEnd::default(),
             )),
-        })),
-        None => Ok(None),
+        }),
+        None => None,
     }
 }

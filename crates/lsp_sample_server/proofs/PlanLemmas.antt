@@ -8,6 +8,7 @@ use Rattle.lsp_shape.specs.Plain.{parts, part, absent, no_parts}
 use Rattle.lsp_shape.specs.Write.{write}
 use Rattle.lsp_initialize.specs.declared.server.ServerCapabilities.{ServerCapabilities}
 use Rattle.lsp_initialize.specs.Server.{server_capabilities_row, initialize_result_row}
+use Rattle.lsp_work.specs.declared.workspace.ExecuteCommandParams.{ExecuteCommandParams}
 use Rattle.lsp_service.specs.declared.call.Call.{Call}
 use Rattle.lsp_service.specs.declared.call.Call.TheVariants as calls
 use Rattle.lsp_service.specs.declared.call.LifeCall.{LifeCall}
@@ -84,7 +85,7 @@ edit_other : (c : EditCall) → IsOther (show_edit c)
 edit_other (edit_calls.Completion p) = refl
 edit_other c = refl
 
-pub work_other : (c : WorkCall) → ((p : _) → c ≡ work_calls.ExecuteCommand p → ⊥) → IsOther (show_work c)
+pub work_other : (c : WorkCall) → ((p : ExecuteCommandParams) → c ≡ work_calls.ExecuteCommand p → ⊥) → IsOther (show_work c)
 work_other (work_calls.ExecuteCommand p) not = absurd (not p refl)
 work_other c not = refl
 

@@ -2,14 +2,15 @@
 ghost use Rattle.std.specs.Prelude.{◌≡◌, IfOk};
 ghost use Rattle.lsp_initialize.specs.Server.{server_capabilities_row};
 ghost use Rattle.lsp_service.specs.Calls.{show_call, target_of};
-ghost use Rattle.lsp_service.specs.Replies.{show_reply, show_written};
+ghost use Rattle.lsp_service.specs.Replies.{show_offer, show_reply};
 ghost use Rattle.lsp_sample_server.specs.Plan.{show_plan};
 ghost use Rattle.lsp_sample_server.specs.Sample.{bare_data, no_capabilities_shown, sample_turn, other_reply as other_reply_lem};
 
-use lsp_initialize::{InitializeResult, ServerCapabilities};
+use lsp_initialize::ServerCapabilities;
 use lsp_rpc::NoMemory;
 use lsp_service::{
-    Call, LifeCall, LifeReply, Reply, Target, WorkCall, Written, let_go, not_found, offering,
+    Call, InitializeCall, InitializeReply, LifeCall, LifeReply, Reply, Target, WorkCall, let_go,
+    not_found,
 };
 use lsp_session::Kind;
 use lsp_work::ExecuteCommandParams;
@@ -32,8 +33,7 @@ pub(crate) fn plan_of(alloc: Global, call: Call) -> Result<Plan, NoMemory>
     match call {
         Call::Life(call) => match call {
             LifeCall::Initialize(params) => {
-                let_go(Call::Life(LifeCall::Initialize(params)));
-                let offered = initialize(alloc)?;
+                let offered = initialize(alloc, params)?;
                 Ok(Plan::Reply(Reply::Life(LifeReply::Initialize(Ok(offered)))))
             }
             LifeCall::Initialized(params) => {
@@ -43,7 +43,7 @@ pub(crate) fn plan_of(alloc: Global, call: Call) -> Result<Plan, NoMemory>
             LifeCall::Shutdown => Ok(Plan::Reply(Reply::Life(LifeReply::Shutdown(Ok(()))))),
         },
         Call::Work(call) => match call {
-            WorkCall::ExecuteCommand(params) => Ok(Plan::Execute(params.read(alloc)?)),
+            WorkCall::ExecuteCommand(params) => Ok(Plan::Execute(params)),
             other => Ok(Plan::Reply(other_reply(alloc, Call::Work(other))?)),
         },
         other => Ok(Plan::Reply(other_reply(alloc, other)?)),
@@ -51,10 +51,10 @@ pub(crate) fn plan_of(alloc: Global, call: Call) -> Result<Plan, NoMemory>
 }
 
 // Nothing is offered.
-fn initialize(alloc: Global) -> Result<Written<InitializeResult>, NoMemory>
-    ensures { IfOk result (λ offered. show_written offered ≡ bare_data) }
+fn initialize(alloc: Global, _params: InitializeCall) -> Result<InitializeReply, NoMemory>
+    ensures { IfOk result (λ offered. show_offer offered ≡ bare_data) }
 {
-    offering(alloc, no_capabilities())
+    InitializeReply::offering(alloc, no_capabilities())
 }
 
 #[tactic(auto, unfolding(lsp_initialize::specs::Server::server_capabilities_row, lsp_initialize::specs::Server::server_capabilities_fields))]

@@ -1,5 +1,5 @@
 -- What is asked of a server and what it answers, as plain data; and what an answer comes to.
-use Rattle.std.specs.Prelude.{◌==◌, ℕ, Bool, false, if◌then◌else◌, Option, Some, None, Result, Ok, Err}
+use Rattle.std.specs.Prelude.{◌==◌, ℕ, Bool, false, if◌then◌else◌, Option, Some, None, is_some, Result, Ok, Err}
 use Rattle.serde_json.specs.Data.{Data, null}
 use Rattle.lsp_rpc.specs.declared.code.ErrorCode.TheVariants.{InternalError}
 use Rattle.lsp_rpc.specs.declared.error.Error.{Error}
@@ -9,6 +9,7 @@ use Rattle.lsp_session.specs.declared.table.Kind.{Kind}
 use Rattle.lsp_session.specs.declared.table.Kind.TheVariants.{Request, Notification}
 use Rattle.lsp_shape.specs.Plain.{Plain, leaf, plain_has_float}
 use Rattle.lsp_shape.specs.Row.{Row, row_of}
+use Rattle.lsp_shape.specs.Read.{read}
 use Rattle.lsp_shape.specs.Shape.{Shape, nil}
 use Rattle.lsp_shape.specs.Write.{write}
 use Rattle.lsp_methods.specs.declared.method.Method.{Method}
@@ -43,6 +44,20 @@ nil_row = row_of nil (λ x. leaf null)
 abbrev pub result_shown : {A : Type 0} → (A → Plain) → Result A Error → Result Plain ErrorData
 result_shown show (Ok x) = Ok (show x)
 result_shown show (Err e) = Err (show_error e)
+
+-- ---- params that are held as they came
+
+-- the params fit the shape
+abbrev pub fits : Shape → Data → Bool
+fits s d = is_some (read s d)
+
+abbrev pub plain_or_null : Option Plain → Plain
+plain_or_null None = leaf null
+plain_or_null (Some p) = p
+
+-- what params that fit are read as
+abbrev pub read_plain : Shape → Data → Plain
+read_plain s d = plain_or_null (read s d)
 
 -- ---- what a reply comes to
 

@@ -1,6 +1,4 @@
 pub mod Data
-pub mod Fitting
-pub mod Params
 pub mod Reads
 pub mod Calls
 pub mod Incoming

@@ -9,11 +9,35 @@ use Rattle.lsp_service.specs.Data.{MethodReply, answer, written, custom_answer, 
 use Rattle.lsp_service.specs.declared.reply.Reply.{Reply}
 use Rattle.lsp_service.specs.declared.reply.Reply.TheVariants as replies
 use Rattle.lsp_methods.specs.declared.method.Method.TheVariants as methods
+use Rattle.lsp_base.specs.Edit.{text_edit_row}
+use Rattle.lsp_base.specs.Position.{location_row}
+use Rattle.lsp_base.specs.WorkspaceEdit.{workspace_edit_row}
 use Rattle.lsp_initialize.specs.declared.server.InitializeResult.{InitializeResult}
 use Rattle.lsp_initialize.specs.Server.{initialize_result_row}
-use Rattle.lsp_shape.specs.Row.{any, maybe}
+use Rattle.lsp_lang_goto.specs.Calls.{call_hierarchy_incoming_call_row, call_hierarchy_item_row, call_hierarchy_outgoing_call_row}
+use Rattle.lsp_lang_goto.specs.CodeLens.{code_lens_row}
+use Rattle.lsp_lang_goto.specs.Goto.{goto_definition_response_row}
+use Rattle.lsp_lang_goto.specs.Hover.{hover_row}
+use Rattle.lsp_lang_goto.specs.Link.{document_link_row}
+use Rattle.lsp_lang_goto.specs.References.{document_highlight_row}
+use Rattle.lsp_lang_goto.specs.Symbols.{document_symbol_response_row, symbol_information_row, workspace_symbol_row}
+use Rattle.lsp_lang_goto.specs.Types.{type_hierarchy_item_row}
+use Rattle.lsp_lang_item.specs.CodeAction.{code_action_or_command_row, code_action_row}
+use Rattle.lsp_lang_item.specs.Completion.{completion_item_row, completion_response_row}
+use Rattle.lsp_lang_item.specs.InlayHint.{inlay_hint_row}
+use Rattle.lsp_lang_item.specs.InlineValue.{inline_value_row}
+use Rattle.lsp_lang_item.specs.Rename.{prepare_rename_response_row}
+use Rattle.lsp_report.specs.Document.{document_diagnostic_report_result_row}
+use Rattle.lsp_report.specs.Workspace.{workspace_diagnostic_report_result_row}
+use Rattle.lsp_shape.specs.Row.{any, list, maybe, row_of}
+use Rattle.lsp_tokens.specs.Folding.{folding_range_row}
+use Rattle.lsp_tokens.specs.Moniker.{moniker_row}
+use Rattle.lsp_tokens.specs.Results.{semantic_tokens_full_delta_result_row, semantic_tokens_range_result_row, semantic_tokens_result_row}
+use Rattle.lsp_tokens.specs.Selection.{linked_editing_ranges_row}
+use Rattle.lsp_tokens.specs.SelectionRange.{selection_range_shape, show_selection_range}
+use Rattle.lsp_tokens.specs.SignatureHelp.{signature_help_row}
 use Rattle.lsp_shape.specs.Write.{write}
-use Rattle.lsp_service.specs.declared.written.Written.{Written}
+use Rattle.lsp_service.specs.declared.initialize.InitializeReply.{InitializeReply}
 use Rattle.lsp_service.specs.declared.reply.LifeReply.{LifeReply}
 use Rattle.lsp_service.specs.declared.reply.LifeReply.TheVariants as life_replies
 use Rattle.lsp_methods.specs.declared.method.LifeMethod.TheVariants as life
@@ -44,76 +68,76 @@ unfoldable pub initialize_data : InitializeResult → Data
 initialize_data x = write initialize_result_row.shape (initialize_result_row.shown x)
 
 -- what was written
-abbrev pub show_written : {T : Type 0} → Written T → Data
-show_written w = view w.value
+abbrev pub show_offer : InitializeReply → Data
+show_offer r = view r.result
 
-abbrev pub written_shown : {T : Type 0} → Result (Written T) Error → Result Data ErrorData
-written_shown (Ok w) = Ok (show_written w)
-written_shown (Err e) = Err (show_error e)
+abbrev pub show_offered : Result InitializeReply Error → Result Data ErrorData
+show_offered (Ok r) = Ok (show_offer r)
+show_offered (Err e) = Err (show_error e)
 
 abbrev pub show_life_reply : LifeReply → MethodReply
-show_life_reply (life_replies.Initialize r) = written (methods.Life life.Initialize) (written_shown r)
+show_life_reply (life_replies.Initialize r) = written (methods.Life life.Initialize) (show_offered r)
 show_life_reply (life_replies.Shutdown r) = answer (methods.Life life.Shutdown) (result_shown nil_row.shown r)
 
 abbrev pub show_sync_reply : SyncReply → MethodReply
-show_sync_reply (sync_replies.WillSaveWaitUntil r) = written (methods.Sync sync.WillSaveWaitUntil) (written_shown r)
+show_sync_reply (sync_replies.WillSaveWaitUntil r) = answer (methods.Sync sync.WillSaveWaitUntil) (result_shown (maybe (list text_edit_row)).shown r)
 
 abbrev pub show_goto_reply : GotoReply → MethodReply
-show_goto_reply (goto_replies.GotoDeclaration r) = written (methods.Goto goto.GotoDeclaration) (written_shown r)
-show_goto_reply (goto_replies.GotoDefinition r) = written (methods.Goto goto.GotoDefinition) (written_shown r)
-show_goto_reply (goto_replies.GotoTypeDefinition r) = written (methods.Goto goto.GotoTypeDefinition) (written_shown r)
-show_goto_reply (goto_replies.GotoImplementation r) = written (methods.Goto goto.GotoImplementation) (written_shown r)
-show_goto_reply (goto_replies.References r) = written (methods.Goto goto.References) (written_shown r)
-show_goto_reply (goto_replies.DocumentHighlight r) = written (methods.Goto goto.DocumentHighlight) (written_shown r)
+show_goto_reply (goto_replies.GotoDeclaration r) = answer (methods.Goto goto.GotoDeclaration) (result_shown (maybe goto_definition_response_row).shown r)
+show_goto_reply (goto_replies.GotoDefinition r) = answer (methods.Goto goto.GotoDefinition) (result_shown (maybe goto_definition_response_row).shown r)
+show_goto_reply (goto_replies.GotoTypeDefinition r) = answer (methods.Goto goto.GotoTypeDefinition) (result_shown (maybe goto_definition_response_row).shown r)
+show_goto_reply (goto_replies.GotoImplementation r) = answer (methods.Goto goto.GotoImplementation) (result_shown (maybe goto_definition_response_row).shown r)
+show_goto_reply (goto_replies.References r) = answer (methods.Goto goto.References) (result_shown (maybe (list location_row)).shown r)
+show_goto_reply (goto_replies.DocumentHighlight r) = answer (methods.Goto goto.DocumentHighlight) (result_shown (maybe (list document_highlight_row)).shown r)
 
 abbrev pub show_hierarchy_reply : HierarchyReply → MethodReply
-show_hierarchy_reply (hierarchy_replies.PrepareCallHierarchy r) = written (methods.Hierarchy hierarchy.PrepareCallHierarchy) (written_shown r)
-show_hierarchy_reply (hierarchy_replies.IncomingCalls r) = written (methods.Hierarchy hierarchy.IncomingCalls) (written_shown r)
-show_hierarchy_reply (hierarchy_replies.OutgoingCalls r) = written (methods.Hierarchy hierarchy.OutgoingCalls) (written_shown r)
-show_hierarchy_reply (hierarchy_replies.PrepareTypeHierarchy r) = written (methods.Hierarchy hierarchy.PrepareTypeHierarchy) (written_shown r)
-show_hierarchy_reply (hierarchy_replies.Supertypes r) = written (methods.Hierarchy hierarchy.Supertypes) (written_shown r)
-show_hierarchy_reply (hierarchy_replies.Subtypes r) = written (methods.Hierarchy hierarchy.Subtypes) (written_shown r)
+show_hierarchy_reply (hierarchy_replies.PrepareCallHierarchy r) = answer (methods.Hierarchy hierarchy.PrepareCallHierarchy) (result_shown (maybe (list call_hierarchy_item_row)).shown r)
+show_hierarchy_reply (hierarchy_replies.IncomingCalls r) = answer (methods.Hierarchy hierarchy.IncomingCalls) (result_shown (maybe (list call_hierarchy_incoming_call_row)).shown r)
+show_hierarchy_reply (hierarchy_replies.OutgoingCalls r) = answer (methods.Hierarchy hierarchy.OutgoingCalls) (result_shown (maybe (list call_hierarchy_outgoing_call_row)).shown r)
+show_hierarchy_reply (hierarchy_replies.PrepareTypeHierarchy r) = answer (methods.Hierarchy hierarchy.PrepareTypeHierarchy) (result_shown (maybe (list type_hierarchy_item_row)).shown r)
+show_hierarchy_reply (hierarchy_replies.Supertypes r) = answer (methods.Hierarchy hierarchy.Supertypes) (result_shown (maybe (list type_hierarchy_item_row)).shown r)
+show_hierarchy_reply (hierarchy_replies.Subtypes r) = answer (methods.Hierarchy hierarchy.Subtypes) (result_shown (maybe (list type_hierarchy_item_row)).shown r)
 
 abbrev pub show_show_reply : ShowReply → MethodReply
-show_show_reply (show_replies.DocumentLink r) = written (methods.Show show.DocumentLink) (written_shown r)
-show_show_reply (show_replies.DocumentLinkResolve r) = written (methods.Show show.DocumentLinkResolve) (written_shown r)
-show_show_reply (show_replies.Hover r) = written (methods.Show show.Hover) (written_shown r)
-show_show_reply (show_replies.CodeLens r) = written (methods.Show show.CodeLens) (written_shown r)
-show_show_reply (show_replies.CodeLensResolve r) = written (methods.Show show.CodeLensResolve) (written_shown r)
-show_show_reply (show_replies.FoldingRange r) = written (methods.Show show.FoldingRange) (written_shown r)
-show_show_reply (show_replies.SelectionRange r) = written (methods.Show show.SelectionRange) (written_shown r)
-show_show_reply (show_replies.DocumentSymbol r) = written (methods.Show show.DocumentSymbol) (written_shown r)
-show_show_reply (show_replies.Moniker r) = written (methods.Show show.Moniker) (written_shown r)
+show_show_reply (show_replies.DocumentLink r) = answer (methods.Show show.DocumentLink) (result_shown (maybe (list document_link_row)).shown r)
+show_show_reply (show_replies.DocumentLinkResolve r) = answer (methods.Show show.DocumentLinkResolve) (result_shown document_link_row.shown r)
+show_show_reply (show_replies.Hover r) = answer (methods.Show show.Hover) (result_shown (maybe hover_row).shown r)
+show_show_reply (show_replies.CodeLens r) = answer (methods.Show show.CodeLens) (result_shown (maybe (list code_lens_row)).shown r)
+show_show_reply (show_replies.CodeLensResolve r) = answer (methods.Show show.CodeLensResolve) (result_shown code_lens_row.shown r)
+show_show_reply (show_replies.FoldingRange r) = answer (methods.Show show.FoldingRange) (result_shown (maybe (list folding_range_row)).shown r)
+show_show_reply (show_replies.SelectionRange r) = answer (methods.Show show.SelectionRange) (result_shown (maybe (list (row_of selection_range_shape show_selection_range))).shown r)
+show_show_reply (show_replies.DocumentSymbol r) = answer (methods.Show show.DocumentSymbol) (result_shown (maybe document_symbol_response_row).shown r)
+show_show_reply (show_replies.Moniker r) = answer (methods.Show show.Moniker) (result_shown (maybe (list moniker_row)).shown r)
 
 abbrev pub show_token_reply : TokenReply → MethodReply
-show_token_reply (token_replies.SemanticTokensFull r) = written (methods.Token token.SemanticTokensFull) (written_shown r)
-show_token_reply (token_replies.SemanticTokensFullDelta r) = written (methods.Token token.SemanticTokensFullDelta) (written_shown r)
-show_token_reply (token_replies.SemanticTokensRange r) = written (methods.Token token.SemanticTokensRange) (written_shown r)
-show_token_reply (token_replies.InlineValue r) = written (methods.Token token.InlineValue) (written_shown r)
-show_token_reply (token_replies.InlayHint r) = written (methods.Token token.InlayHint) (written_shown r)
-show_token_reply (token_replies.InlayHintResolve r) = written (methods.Token token.InlayHintResolve) (written_shown r)
+show_token_reply (token_replies.SemanticTokensFull r) = answer (methods.Token token.SemanticTokensFull) (result_shown (maybe semantic_tokens_result_row).shown r)
+show_token_reply (token_replies.SemanticTokensFullDelta r) = answer (methods.Token token.SemanticTokensFullDelta) (result_shown (maybe semantic_tokens_full_delta_result_row).shown r)
+show_token_reply (token_replies.SemanticTokensRange r) = answer (methods.Token token.SemanticTokensRange) (result_shown (maybe semantic_tokens_range_result_row).shown r)
+show_token_reply (token_replies.InlineValue r) = answer (methods.Token token.InlineValue) (result_shown (maybe (list inline_value_row)).shown r)
+show_token_reply (token_replies.InlayHint r) = answer (methods.Token token.InlayHint) (result_shown (maybe (list inlay_hint_row)).shown r)
+show_token_reply (token_replies.InlayHintResolve r) = answer (methods.Token token.InlayHintResolve) (result_shown inlay_hint_row.shown r)
 
 abbrev pub show_edit_reply : EditReply → MethodReply
-show_edit_reply (edit_replies.Completion r) = written (methods.Edit edit.Completion) (written_shown r)
-show_edit_reply (edit_replies.CompletionResolve r) = written (methods.Edit edit.CompletionResolve) (written_shown r)
-show_edit_reply (edit_replies.SignatureHelp r) = written (methods.Edit edit.SignatureHelp) (written_shown r)
-show_edit_reply (edit_replies.CodeAction r) = written (methods.Edit edit.CodeAction) (written_shown r)
-show_edit_reply (edit_replies.CodeActionResolve r) = written (methods.Edit edit.CodeActionResolve) (written_shown r)
-show_edit_reply (edit_replies.Formatting r) = written (methods.Edit edit.Formatting) (written_shown r)
-show_edit_reply (edit_replies.RangeFormatting r) = written (methods.Edit edit.RangeFormatting) (written_shown r)
-show_edit_reply (edit_replies.OnTypeFormatting r) = written (methods.Edit edit.OnTypeFormatting) (written_shown r)
-show_edit_reply (edit_replies.Rename r) = written (methods.Edit edit.Rename) (written_shown r)
-show_edit_reply (edit_replies.PrepareRename r) = written (methods.Edit edit.PrepareRename) (written_shown r)
-show_edit_reply (edit_replies.LinkedEditingRange r) = written (methods.Edit edit.LinkedEditingRange) (written_shown r)
-show_edit_reply (edit_replies.Diagnostic r) = written (methods.Edit edit.Diagnostic) (written_shown r)
+show_edit_reply (edit_replies.Completion r) = answer (methods.Edit edit.Completion) (result_shown (maybe completion_response_row).shown r)
+show_edit_reply (edit_replies.CompletionResolve r) = answer (methods.Edit edit.CompletionResolve) (result_shown (λ b. completion_item_row.shown b.value) r)
+show_edit_reply (edit_replies.SignatureHelp r) = answer (methods.Edit edit.SignatureHelp) (result_shown (maybe signature_help_row).shown r)
+show_edit_reply (edit_replies.CodeAction r) = answer (methods.Edit edit.CodeAction) (result_shown (maybe (list code_action_or_command_row)).shown r)
+show_edit_reply (edit_replies.CodeActionResolve r) = answer (methods.Edit edit.CodeActionResolve) (result_shown (λ b. code_action_row.shown b.value) r)
+show_edit_reply (edit_replies.Formatting r) = answer (methods.Edit edit.Formatting) (result_shown (maybe (list text_edit_row)).shown r)
+show_edit_reply (edit_replies.RangeFormatting r) = answer (methods.Edit edit.RangeFormatting) (result_shown (maybe (list text_edit_row)).shown r)
+show_edit_reply (edit_replies.OnTypeFormatting r) = answer (methods.Edit edit.OnTypeFormatting) (result_shown (maybe (list text_edit_row)).shown r)
+show_edit_reply (edit_replies.Rename r) = answer (methods.Edit edit.Rename) (result_shown (maybe workspace_edit_row).shown r)
+show_edit_reply (edit_replies.PrepareRename r) = answer (methods.Edit edit.PrepareRename) (result_shown (maybe prepare_rename_response_row).shown r)
+show_edit_reply (edit_replies.LinkedEditingRange r) = answer (methods.Edit edit.LinkedEditingRange) (result_shown (maybe linked_editing_ranges_row).shown r)
+show_edit_reply (edit_replies.Diagnostic r) = answer (methods.Edit edit.Diagnostic) (result_shown document_diagnostic_report_result_row.shown r)
 
 abbrev pub show_work_reply : WorkReply → MethodReply
-show_work_reply (work_replies.WorkspaceDiagnostic r) = written (methods.Work work.WorkspaceDiagnostic) (written_shown r)
-show_work_reply (work_replies.Symbol r) = written (methods.Work work.Symbol) (written_shown r)
-show_work_reply (work_replies.SymbolResolve r) = written (methods.Work work.SymbolResolve) (written_shown r)
-show_work_reply (work_replies.WillCreateFiles r) = written (methods.Work work.WillCreateFiles) (written_shown r)
-show_work_reply (work_replies.WillRenameFiles r) = written (methods.Work work.WillRenameFiles) (written_shown r)
-show_work_reply (work_replies.WillDeleteFiles r) = written (methods.Work work.WillDeleteFiles) (written_shown r)
+show_work_reply (work_replies.WorkspaceDiagnostic r) = answer (methods.Work work.WorkspaceDiagnostic) (result_shown workspace_diagnostic_report_result_row.shown r)
+show_work_reply (work_replies.Symbol r) = answer (methods.Work work.Symbol) (result_shown (maybe (list symbol_information_row)).shown r)
+show_work_reply (work_replies.SymbolResolve r) = answer (methods.Work work.SymbolResolve) (result_shown workspace_symbol_row.shown r)
+show_work_reply (work_replies.WillCreateFiles r) = answer (methods.Work work.WillCreateFiles) (result_shown (maybe workspace_edit_row).shown r)
+show_work_reply (work_replies.WillRenameFiles r) = answer (methods.Work work.WillRenameFiles) (result_shown (maybe workspace_edit_row).shown r)
+show_work_reply (work_replies.WillDeleteFiles r) = answer (methods.Work work.WillDeleteFiles) (result_shown (maybe workspace_edit_row).shown r)
 show_work_reply (work_replies.ExecuteCommand r) = answer (methods.Work work.ExecuteCommand) (result_shown (maybe any).shown r)
 
 abbrev pub show_reply : Reply → MethodReply

@@ -3,11 +3,11 @@ ghost use Rattle.std.specs.Prelude.{◌≡◌, IfOk};
 ghost use Rattle.lsp_rpc.specs.Shown.{show_body};
 ghost use Rattle.lsp_methods.specs.Shapes.{result_shape};
 ghost use Rattle.lsp_service.specs.Data.{answer, written as written_lem, custom_answer as custom_answer_of, noted as noted_lem, outcome_by, result_shown, write_body, mismatch as mismatch_lem, unless_float as unless_float_lem};
-ghost use Rattle.lsp_service.specs.Replies.{written_shown};
+ghost use Rattle.lsp_service.specs.Replies.{show_offered};
 
 use crate::call::Target;
-use crate::written::Written;
-use lsp_methods::Method;
+use crate::initialize::InitializeReply;
+use lsp_methods::{LifeMethod, Method};
 use lsp_rpc::{Error, NoMemory, is_float_free};
 use lsp_session::Kind;
 use lsp_shape::Wire;
@@ -56,25 +56,8 @@ fn written<T: Wire>(
     }
 }
 
-/// What an answer to a request of `method` that is written already comes to, where `target` was
-/// called.
-pub(crate) fn written_answered<T>(
-    alloc: Global,
-    target: Target,
-    method: Method,
-    body: Result<Written<T>, Error>,
-) -> Result<Result<Value, Error>, NoMemory>
-    ensures { IfOk result (λ sent. show_body sent
-        ≡ outcome_by target (written_lem method (written_shown body))) }
-{
-    let body = match body {
-        Ok(written) => Ok(written.value),
-        Err(error) => Err(error),
-    };
-    body_answered(alloc, target, method, body)
-}
-
-fn body_answered(
+// What an answer to a request of `method` that was written before comes to.
+fn written_answered(
     alloc: Global,
     target: Target,
     method: Method,
@@ -86,6 +69,22 @@ fn body_answered(
     match target {
         Target::Typed(called) if called.place() == method.place() => unless_float(alloc, body),
         _ => mismatch(alloc),
+    }
+}
+
+/// What the answer to `initialize` comes to, where `target` was called.
+pub(crate) fn initialize_answered(
+    alloc: Global,
+    target: Target,
+    body: Result<InitializeReply, Error>,
+) -> Result<Result<Value, Error>, NoMemory>
+    ensures { IfOk result (λ sent. show_body sent
+        ≡ outcome_by target (written_lem (Method.Life LifeMethod.Initialize) (show_offered body))) }
+{
+    let method = Method::Life(LifeMethod::Initialize);
+    match body {
+        Ok(reply) => written_answered(alloc, target, method, Ok(reply.result)),
+        Err(error) => written_answered(alloc, target, method, Err(error)),
     }
 }
 

@@ -2,8 +2,7 @@
 ghost use Rattle.std.specs.Prelude.{◌≡◌};
 ghost use Rattle.lsp_service.specs.Calls.{show_call, target_of, life_method, sync_method, goto_method, hierarchy_method, show_method, token_method, edit_method, work_method};
 
-use crate::held::{CodeActionCall, CodeActionItem, InitializeCall};
-use crate::params::Params;
+use crate::initialize::InitializeCall;
 use lsp_base::TextDocumentPositionParams;
 use lsp_caps_work::InitializedParams;
 use lsp_lang_goto::{
@@ -15,7 +14,8 @@ use lsp_lang_goto::{
     WorkspaceSymbolParams,
 };
 use lsp_lang_item::{
-    CompletionItem, CompletionParams, InlayHint, InlayHintParams, InlineValueParams, RenameParams,
+    CodeAction, CodeActionParams, CompletionItem, CompletionParams, InlayHint, InlayHintParams,
+    InlineValueParams, RenameParams,
 };
 use lsp_methods::{
     EditMethod, GotoMethod, HierarchyMethod, LifeMethod, Method, ShowMethod, SyncMethod,
@@ -38,6 +38,8 @@ use lsp_work::{
 use serde_json::Value;
 
 /// The calls of the life of a session.
+///
+/// The params of `initialize` are held as they came, and read where they are wanted.
 #[derive(Drop)]
 pub enum LifeCall {
     /// `initialize`.
@@ -52,155 +54,156 @@ pub enum LifeCall {
 #[derive(Drop)]
 pub enum SyncCall {
     /// `textDocument/didOpen`.
-    DidOpen(Params<DidOpenTextDocumentParams>),
+    DidOpen(DidOpenTextDocumentParams),
     /// `textDocument/didChange`.
-    DidChange(Params<DidChangeTextDocumentParams>),
+    DidChange(DidChangeTextDocumentParams),
     /// `textDocument/willSave`.
-    WillSave(Params<WillSaveTextDocumentParams>),
+    WillSave(WillSaveTextDocumentParams),
     /// `textDocument/willSaveWaitUntil`.
-    WillSaveWaitUntil(Params<WillSaveTextDocumentParams>),
+    WillSaveWaitUntil(WillSaveTextDocumentParams),
     /// `textDocument/didSave`.
-    DidSave(Params<DidSaveTextDocumentParams>),
+    DidSave(DidSaveTextDocumentParams),
     /// `textDocument/didClose`.
-    DidClose(Params<DidCloseTextDocumentParams>),
+    DidClose(DidCloseTextDocumentParams),
 }
 
 /// The calls of places to go to.
 #[derive(Drop)]
 pub enum GotoCall {
     /// `textDocument/declaration`.
-    GotoDeclaration(Params<GotoDeclarationParams>),
+    GotoDeclaration(GotoDeclarationParams),
     /// `textDocument/definition`.
-    GotoDefinition(Params<GotoDefinitionParams>),
+    GotoDefinition(GotoDefinitionParams),
     /// `textDocument/typeDefinition`.
-    GotoTypeDefinition(Params<GotoTypeDefinitionParams>),
+    GotoTypeDefinition(GotoTypeDefinitionParams),
     /// `textDocument/implementation`.
-    GotoImplementation(Params<GotoImplementationParams>),
+    GotoImplementation(GotoImplementationParams),
     /// `textDocument/references`.
-    References(Params<ReferenceParams>),
+    References(ReferenceParams),
     /// `textDocument/documentHighlight`.
-    DocumentHighlight(Params<DocumentHighlightParams>),
+    DocumentHighlight(DocumentHighlightParams),
 }
 
 /// The calls of hierarchies of calls and types.
 #[derive(Drop)]
 pub enum HierarchyCall {
     /// `textDocument/prepareCallHierarchy`.
-    PrepareCallHierarchy(Params<CallHierarchyPrepareParams>),
+    PrepareCallHierarchy(CallHierarchyPrepareParams),
     /// `callHierarchy/incomingCalls`.
-    IncomingCalls(Params<CallHierarchyIncomingCallsParams>),
+    IncomingCalls(CallHierarchyIncomingCallsParams),
     /// `callHierarchy/outgoingCalls`.
-    OutgoingCalls(Params<CallHierarchyOutgoingCallsParams>),
+    OutgoingCalls(CallHierarchyOutgoingCallsParams),
     /// `textDocument/prepareTypeHierarchy`.
-    PrepareTypeHierarchy(Params<TypeHierarchyPrepareParams>),
+    PrepareTypeHierarchy(TypeHierarchyPrepareParams),
     /// `typeHierarchy/supertypes`.
-    Supertypes(Params<TypeHierarchySupertypesParams>),
+    Supertypes(TypeHierarchySupertypesParams),
     /// `typeHierarchy/subtypes`.
-    Subtypes(Params<TypeHierarchySubtypesParams>),
+    Subtypes(TypeHierarchySubtypesParams),
 }
 
 /// The calls of what is shown in a document.
 #[derive(Drop)]
 pub enum ShowCall {
     /// `textDocument/documentLink`.
-    DocumentLink(Params<DocumentLinkParams>),
+    DocumentLink(DocumentLinkParams),
     /// `documentLink/resolve`.
-    DocumentLinkResolve(Params<DocumentLink>),
+    DocumentLinkResolve(DocumentLink),
     /// `textDocument/hover`.
-    Hover(Params<HoverParams>),
+    Hover(HoverParams),
     /// `textDocument/codeLens`.
-    CodeLens(Params<CodeLensParams>),
+    CodeLens(CodeLensParams),
     /// `codeLens/resolve`.
-    CodeLensResolve(Params<CodeLens>),
+    CodeLensResolve(CodeLens),
     /// `textDocument/foldingRange`.
-    FoldingRange(Params<FoldingRangeParams>),
+    FoldingRange(FoldingRangeParams),
     /// `textDocument/selectionRange`.
-    SelectionRange(Params<SelectionRangeParams>),
+    SelectionRange(SelectionRangeParams),
     /// `textDocument/documentSymbol`.
-    DocumentSymbol(Params<DocumentSymbolParams>),
+    DocumentSymbol(DocumentSymbolParams),
     /// `textDocument/moniker`.
-    Moniker(Params<MonikerParams>),
+    Moniker(MonikerParams),
 }
 
 /// The calls of tokens, hints and values in a document.
 #[derive(Drop)]
 pub enum TokenCall {
     /// `textDocument/semanticTokens/full`.
-    SemanticTokensFull(Params<SemanticTokensParams>),
+    SemanticTokensFull(SemanticTokensParams),
     /// `textDocument/semanticTokens/full/delta`.
-    SemanticTokensFullDelta(Params<SemanticTokensDeltaParams>),
+    SemanticTokensFullDelta(SemanticTokensDeltaParams),
     /// `textDocument/semanticTokens/range`.
-    SemanticTokensRange(Params<SemanticTokensRangeParams>),
+    SemanticTokensRange(SemanticTokensRangeParams),
     /// `textDocument/inlineValue`.
-    InlineValue(Params<InlineValueParams>),
+    InlineValue(InlineValueParams),
     /// `textDocument/inlayHint`.
-    InlayHint(Params<InlayHintParams>),
+    InlayHint(InlayHintParams),
     /// `inlayHint/resolve`.
-    InlayHintResolve(Params<InlayHint>),
+    InlayHintResolve(InlayHint),
 }
 
 /// The calls of completion, edits and diagnostics.
+///
+/// The widest params are in a box, so that no other call is as wide.
 #[derive(Drop)]
 pub enum EditCall {
     /// `textDocument/completion`.
-    Completion(Params<CompletionParams>),
+    Completion(CompletionParams),
     /// `completionItem/resolve`.
-    CompletionResolve(Params<CompletionItem>),
+    CompletionResolve(Box<CompletionItem>),
     /// `textDocument/signatureHelp`.
-    SignatureHelp(Params<SignatureHelpParams>),
+    SignatureHelp(SignatureHelpParams),
     /// `textDocument/codeAction`.
-    CodeAction(CodeActionCall),
+    CodeAction(CodeActionParams),
     /// `codeAction/resolve`.
-    CodeActionResolve(CodeActionItem),
+    CodeActionResolve(Box<CodeAction>),
     /// `textDocument/formatting`.
-    Formatting(Params<DocumentFormattingParams>),
+    Formatting(DocumentFormattingParams),
     /// `textDocument/rangeFormatting`.
-    RangeFormatting(Params<DocumentRangeFormattingParams>),
+    RangeFormatting(DocumentRangeFormattingParams),
     /// `textDocument/onTypeFormatting`.
-    OnTypeFormatting(Params<DocumentOnTypeFormattingParams>),
+    OnTypeFormatting(DocumentOnTypeFormattingParams),
     /// `textDocument/rename`.
-    Rename(Params<RenameParams>),
+    Rename(RenameParams),
     /// `textDocument/prepareRename`.
-    PrepareRename(Params<TextDocumentPositionParams>),
+    PrepareRename(TextDocumentPositionParams),
     /// `textDocument/linkedEditingRange`.
-    LinkedEditingRange(Params<LinkedEditingRangeParams>),
+    LinkedEditingRange(LinkedEditingRangeParams),
     /// `textDocument/diagnostic`.
-    Diagnostic(Params<DocumentDiagnosticParams>),
+    Diagnostic(DocumentDiagnosticParams),
 }
 
 /// The calls of the workspace.
 #[derive(Drop)]
 pub enum WorkCall {
     /// `workspace/diagnostic`.
-    WorkspaceDiagnostic(Params<WorkspaceDiagnosticParams>),
+    WorkspaceDiagnostic(WorkspaceDiagnosticParams),
     /// `workspace/symbol`.
-    Symbol(Params<WorkspaceSymbolParams>),
+    Symbol(WorkspaceSymbolParams),
     /// `workspaceSymbol/resolve`.
-    SymbolResolve(Params<WorkspaceSymbol>),
+    SymbolResolve(WorkspaceSymbol),
     /// `workspace/didChangeConfiguration`.
-    DidChangeConfiguration(Params<DidChangeConfigurationParams>),
+    DidChangeConfiguration(DidChangeConfigurationParams),
     /// `workspace/didChangeWorkspaceFolders`.
-    DidChangeWorkspaceFolders(Params<DidChangeWorkspaceFoldersParams>),
+    DidChangeWorkspaceFolders(DidChangeWorkspaceFoldersParams),
     /// `workspace/willCreateFiles`.
-    WillCreateFiles(Params<CreateFilesParams>),
+    WillCreateFiles(CreateFilesParams),
     /// `workspace/didCreateFiles`.
-    DidCreateFiles(Params<CreateFilesParams>),
+    DidCreateFiles(CreateFilesParams),
     /// `workspace/willRenameFiles`.
-    WillRenameFiles(Params<RenameFilesParams>),
+    WillRenameFiles(RenameFilesParams),
     /// `workspace/didRenameFiles`.
-    DidRenameFiles(Params<RenameFilesParams>),
+    DidRenameFiles(RenameFilesParams),
     /// `workspace/willDeleteFiles`.
-    WillDeleteFiles(Params<DeleteFilesParams>),
+    WillDeleteFiles(DeleteFilesParams),
     /// `workspace/didDeleteFiles`.
-    DidDeleteFiles(Params<DeleteFilesParams>),
+    DidDeleteFiles(DeleteFilesParams),
     /// `workspace/didChangeWatchedFiles`.
-    DidChangeWatchedFiles(Params<DidChangeWatchedFilesParams>),
+    DidChangeWatchedFiles(DidChangeWatchedFilesParams),
     /// `workspace/executeCommand`.
-    ExecuteCommand(Params<ExecuteCommandParams>),
+    ExecuteCommand(ExecuteCommandParams),
 }
 
-/// A call of a client: a method with its params, which fit its type and are read where they are
-/// wanted ([`Params`]).
+/// A call of a client: a method with its params.
 #[derive(Drop)]
 pub enum Call {
     Life(LifeCall),

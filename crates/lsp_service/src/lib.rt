@@ -8,8 +8,6 @@ mod attach;
 mod builder;
 mod call;
 mod common;
-mod fit;
-mod held;
 mod incoming;
 mod initialize;
 mod params;
@@ -20,7 +18,6 @@ mod service;
 mod serving;
 mod stdio;
 mod write;
-mod written;
 
 pub use answering::{Answering, AtOnce};
 pub use asking::{Asking, InTime};
@@ -30,11 +27,9 @@ pub use call::{
     WorkCall,
 };
 pub use common::{let_go, not_found, not_found_for};
-pub use held::{CodeActionCall, CodeActionItem, InitializeCall};
 pub use incoming::Incoming;
-pub use initialize::offering;
+pub use initialize::{InitializeCall, InitializeReply};
 pub use lsp_session::NoMemory;
-pub use params::Params;
 pub use reply::{
     EditReply, GotoReply, HierarchyReply, LifeReply, Reply, ShowReply, SyncReply, TokenReply,
     WorkReply,
@@ -43,4 +38,3 @@ pub use server::{LanguageServer, NoTask, Started};
 pub use service::{Held, LspService};
 pub use serving::{pump, serve, serve_session};
 pub use stdio::{pump_stdio, serve_stdio};
-pub use written::Written;

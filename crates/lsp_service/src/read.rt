@@ -8,8 +8,7 @@ ghost use Rattle.lsp_service.specs.Calls.{show_call, show_life, show_sync, show_
 use crate::call::{
     Call, EditCall, GotoCall, HierarchyCall, LifeCall, ShowCall, SyncCall, TokenCall, WorkCall,
 };
-use crate::fit::{no_params, params_of, read_params};
-use crate::held::{CodeActionCall, CodeActionItem, InitializeCall};
+use crate::params::{initialize_call, no_params, params_of};
 use lsp_methods::{
     EditMethod, GotoMethod, HierarchyMethod, LifeMethod, Method, ShowMethod, SyncMethod,
     TokenMethod, WorkMethod,
@@ -29,15 +28,11 @@ fn read_life(
         (option_map (λ v. view v.now) params.entry)) e) }
 {
     match method {
-        LifeMethod::Initialize => match params_of(
-            alloc,
-            Method::Life(LifeMethod::Initialize),
-            params,
-        ) {
-            Ok(params) => Ok(LifeCall::Initialize(InitializeCall::held(params))),
+        LifeMethod::Initialize => match initialize_call(alloc, params) {
+            Ok(call) => Ok(LifeCall::Initialize(call)),
             Err(misfit) => Err(misfit),
         },
-        LifeMethod::Initialized => match read_params(
+        LifeMethod::Initialized => match params_of(
             alloc,
             Method::Life(LifeMethod::Initialized),
             params,
@@ -398,7 +393,7 @@ fn read_edit(
             Method::Edit(EditMethod::CodeAction),
             params,
         ) {
-            Ok(params) => Ok(EditCall::CodeAction(CodeActionCall::held(params))),
+            Ok(params) => Ok(EditCall::CodeAction(params)),
             Err(misfit) => Err(misfit),
         },
         EditMethod::CodeActionResolve => match params_of(
@@ -406,7 +401,7 @@ fn read_edit(
             Method::Edit(EditMethod::CodeActionResolve),
             params,
         ) {
-            Ok(params) => Ok(EditCall::CodeActionResolve(CodeActionItem::held(params))),
+            Ok(params) => Ok(EditCall::CodeActionResolve(params)),
             Err(misfit) => Err(misfit),
         },
         EditMethod::Formatting => match params_of(

@@ -1,7 +1,6 @@
 // What a server answers.
-use crate::written::Written;
+use crate::initialize::InitializeReply;
 use lsp_base::{Location, TextEdit, WorkspaceEdit};
-use lsp_initialize::InitializeResult;
 use lsp_lang_goto::{
     CallHierarchyIncomingCall, CallHierarchyItem, CallHierarchyOutgoingCall, CodeLens,
     DocumentHighlight, DocumentLink, DocumentSymbolResponse, GotoDeclarationResponse,
@@ -24,7 +23,7 @@ use serde_json::Value;
 #[derive(Drop)]
 pub enum LifeReply {
     /// To `initialize`.
-    Initialize(Result<Written<InitializeResult>, Error>),
+    Initialize(Result<InitializeReply, Error>),
     /// To `shutdown`.
     Shutdown(Result<(), Error>),
 }
@@ -33,127 +32,127 @@ pub enum LifeReply {
 #[derive(Drop)]
 pub enum SyncReply {
     /// To `textDocument/willSaveWaitUntil`.
-    WillSaveWaitUntil(Result<Written<Option<Vec<TextEdit>>>, Error>),
+    WillSaveWaitUntil(Result<Option<Vec<TextEdit>>, Error>),
 }
 
 /// The answers to requests of places to go to.
 #[derive(Drop)]
 pub enum GotoReply {
     /// To `textDocument/declaration`.
-    GotoDeclaration(Result<Written<Option<GotoDeclarationResponse>>, Error>),
+    GotoDeclaration(Result<Option<GotoDeclarationResponse>, Error>),
     /// To `textDocument/definition`.
-    GotoDefinition(Result<Written<Option<GotoDefinitionResponse>>, Error>),
+    GotoDefinition(Result<Option<GotoDefinitionResponse>, Error>),
     /// To `textDocument/typeDefinition`.
-    GotoTypeDefinition(Result<Written<Option<GotoTypeDefinitionResponse>>, Error>),
+    GotoTypeDefinition(Result<Option<GotoTypeDefinitionResponse>, Error>),
     /// To `textDocument/implementation`.
-    GotoImplementation(Result<Written<Option<GotoImplementationResponse>>, Error>),
+    GotoImplementation(Result<Option<GotoImplementationResponse>, Error>),
     /// To `textDocument/references`.
-    References(Result<Written<Option<Vec<Location>>>, Error>),
+    References(Result<Option<Vec<Location>>, Error>),
     /// To `textDocument/documentHighlight`.
-    DocumentHighlight(Result<Written<Option<Vec<DocumentHighlight>>>, Error>),
+    DocumentHighlight(Result<Option<Vec<DocumentHighlight>>, Error>),
 }
 
 /// The answers to requests of hierarchies of calls and types.
 #[derive(Drop)]
 pub enum HierarchyReply {
     /// To `textDocument/prepareCallHierarchy`.
-    PrepareCallHierarchy(Result<Written<Option<Vec<CallHierarchyItem>>>, Error>),
+    PrepareCallHierarchy(Result<Option<Vec<CallHierarchyItem>>, Error>),
     /// To `callHierarchy/incomingCalls`.
-    IncomingCalls(Result<Written<Option<Vec<CallHierarchyIncomingCall>>>, Error>),
+    IncomingCalls(Result<Option<Vec<CallHierarchyIncomingCall>>, Error>),
     /// To `callHierarchy/outgoingCalls`.
-    OutgoingCalls(Result<Written<Option<Vec<CallHierarchyOutgoingCall>>>, Error>),
+    OutgoingCalls(Result<Option<Vec<CallHierarchyOutgoingCall>>, Error>),
     /// To `textDocument/prepareTypeHierarchy`.
-    PrepareTypeHierarchy(Result<Written<Option<Vec<TypeHierarchyItem>>>, Error>),
+    PrepareTypeHierarchy(Result<Option<Vec<TypeHierarchyItem>>, Error>),
     /// To `typeHierarchy/supertypes`.
-    Supertypes(Result<Written<Option<Vec<TypeHierarchyItem>>>, Error>),
+    Supertypes(Result<Option<Vec<TypeHierarchyItem>>, Error>),
     /// To `typeHierarchy/subtypes`.
-    Subtypes(Result<Written<Option<Vec<TypeHierarchyItem>>>, Error>),
+    Subtypes(Result<Option<Vec<TypeHierarchyItem>>, Error>),
 }
 
 /// The answers to requests of what is shown in a document.
 #[derive(Drop)]
 pub enum ShowReply {
     /// To `textDocument/documentLink`.
-    DocumentLink(Result<Written<Option<Vec<DocumentLink>>>, Error>),
+    DocumentLink(Result<Option<Vec<DocumentLink>>, Error>),
     /// To `documentLink/resolve`.
-    DocumentLinkResolve(Result<Written<DocumentLink>, Error>),
+    DocumentLinkResolve(Result<DocumentLink, Error>),
     /// To `textDocument/hover`.
-    Hover(Result<Written<Option<Hover>>, Error>),
+    Hover(Result<Option<Hover>, Error>),
     /// To `textDocument/codeLens`.
-    CodeLens(Result<Written<Option<Vec<CodeLens>>>, Error>),
+    CodeLens(Result<Option<Vec<CodeLens>>, Error>),
     /// To `codeLens/resolve`.
-    CodeLensResolve(Result<Written<CodeLens>, Error>),
+    CodeLensResolve(Result<CodeLens, Error>),
     /// To `textDocument/foldingRange`.
-    FoldingRange(Result<Written<Option<Vec<FoldingRange>>>, Error>),
+    FoldingRange(Result<Option<Vec<FoldingRange>>, Error>),
     /// To `textDocument/selectionRange`.
-    SelectionRange(Result<Written<Option<Vec<SelectionRange>>>, Error>),
+    SelectionRange(Result<Option<Vec<SelectionRange>>, Error>),
     /// To `textDocument/documentSymbol`.
-    DocumentSymbol(Result<Written<Option<DocumentSymbolResponse>>, Error>),
+    DocumentSymbol(Result<Option<DocumentSymbolResponse>, Error>),
     /// To `textDocument/moniker`.
-    Moniker(Result<Written<Option<Vec<Moniker>>>, Error>),
+    Moniker(Result<Option<Vec<Moniker>>, Error>),
 }
 
 /// The answers to requests of tokens, hints and values in a document.
 #[derive(Drop)]
 pub enum TokenReply {
     /// To `textDocument/semanticTokens/full`.
-    SemanticTokensFull(Result<Written<Option<SemanticTokensResult>>, Error>),
+    SemanticTokensFull(Result<Option<SemanticTokensResult>, Error>),
     /// To `textDocument/semanticTokens/full/delta`.
-    SemanticTokensFullDelta(Result<Written<Option<SemanticTokensFullDeltaResult>>, Error>),
+    SemanticTokensFullDelta(Result<Option<SemanticTokensFullDeltaResult>, Error>),
     /// To `textDocument/semanticTokens/range`.
-    SemanticTokensRange(Result<Written<Option<SemanticTokensRangeResult>>, Error>),
+    SemanticTokensRange(Result<Option<SemanticTokensRangeResult>, Error>),
     /// To `textDocument/inlineValue`.
-    InlineValue(Result<Written<Option<Vec<InlineValue>>>, Error>),
+    InlineValue(Result<Option<Vec<InlineValue>>, Error>),
     /// To `textDocument/inlayHint`.
-    InlayHint(Result<Written<Option<Vec<InlayHint>>>, Error>),
+    InlayHint(Result<Option<Vec<InlayHint>>, Error>),
     /// To `inlayHint/resolve`.
-    InlayHintResolve(Result<Written<InlayHint>, Error>),
+    InlayHintResolve(Result<InlayHint, Error>),
 }
 
 /// The answers to requests of completion, edits and diagnostics.
 #[derive(Drop)]
 pub enum EditReply {
     /// To `textDocument/completion`.
-    Completion(Result<Written<Option<CompletionResponse>>, Error>),
+    Completion(Result<Option<CompletionResponse>, Error>),
     /// To `completionItem/resolve`.
-    CompletionResolve(Result<Written<CompletionItem>, Error>),
+    CompletionResolve(Result<Box<CompletionItem>, Error>),
     /// To `textDocument/signatureHelp`.
-    SignatureHelp(Result<Written<Option<SignatureHelp>>, Error>),
+    SignatureHelp(Result<Option<SignatureHelp>, Error>),
     /// To `textDocument/codeAction`.
-    CodeAction(Result<Written<Option<CodeActionResponse>>, Error>),
+    CodeAction(Result<Option<CodeActionResponse>, Error>),
     /// To `codeAction/resolve`.
-    CodeActionResolve(Result<Written<CodeAction>, Error>),
+    CodeActionResolve(Result<Box<CodeAction>, Error>),
     /// To `textDocument/formatting`.
-    Formatting(Result<Written<Option<Vec<TextEdit>>>, Error>),
+    Formatting(Result<Option<Vec<TextEdit>>, Error>),
     /// To `textDocument/rangeFormatting`.
-    RangeFormatting(Result<Written<Option<Vec<TextEdit>>>, Error>),
+    RangeFormatting(Result<Option<Vec<TextEdit>>, Error>),
     /// To `textDocument/onTypeFormatting`.
-    OnTypeFormatting(Result<Written<Option<Vec<TextEdit>>>, Error>),
+    OnTypeFormatting(Result<Option<Vec<TextEdit>>, Error>),
     /// To `textDocument/rename`.
-    Rename(Result<Written<Option<WorkspaceEdit>>, Error>),
+    Rename(Result<Option<WorkspaceEdit>, Error>),
     /// To `textDocument/prepareRename`.
-    PrepareRename(Result<Written<Option<PrepareRenameResponse>>, Error>),
+    PrepareRename(Result<Option<PrepareRenameResponse>, Error>),
     /// To `textDocument/linkedEditingRange`.
-    LinkedEditingRange(Result<Written<Option<LinkedEditingRanges>>, Error>),
+    LinkedEditingRange(Result<Option<LinkedEditingRanges>, Error>),
     /// To `textDocument/diagnostic`.
-    Diagnostic(Result<Written<DocumentDiagnosticReportResult>, Error>),
+    Diagnostic(Result<DocumentDiagnosticReportResult, Error>),
 }
 
 /// The answers to requests of the workspace.
 #[derive(Drop)]
 pub enum WorkReply {
     /// To `workspace/diagnostic`.
-    WorkspaceDiagnostic(Result<Written<WorkspaceDiagnosticReportResult>, Error>),
+    WorkspaceDiagnostic(Result<WorkspaceDiagnosticReportResult, Error>),
     /// To `workspace/symbol`.
-    Symbol(Result<Written<Option<Vec<SymbolInformation>>>, Error>),
+    Symbol(Result<Option<Vec<SymbolInformation>>, Error>),
     /// To `workspaceSymbol/resolve`.
-    SymbolResolve(Result<Written<WorkspaceSymbol>, Error>),
+    SymbolResolve(Result<WorkspaceSymbol, Error>),
     /// To `workspace/willCreateFiles`.
-    WillCreateFiles(Result<Written<Option<WorkspaceEdit>>, Error>),
+    WillCreateFiles(Result<Option<WorkspaceEdit>, Error>),
     /// To `workspace/willRenameFiles`.
-    WillRenameFiles(Result<Written<Option<WorkspaceEdit>>, Error>),
+    WillRenameFiles(Result<Option<WorkspaceEdit>, Error>),
     /// To `workspace/willDeleteFiles`.
-    WillDeleteFiles(Result<Written<Option<WorkspaceEdit>>, Error>),
+    WillDeleteFiles(Result<Option<WorkspaceEdit>, Error>),
     /// To `workspace/executeCommand`.
     ExecuteCommand(Result<Option<Value>, Error>),
 }

@@ -4,7 +4,7 @@ ghost use Rattle.lsp_rpc.specs.Shown.{show_body};
 ghost use Rattle.lsp_service.specs.Data.{outcome_by};
 ghost use Rattle.lsp_service.specs.Replies.{show_reply, show_life_reply, show_sync_reply, show_goto_reply, show_hierarchy_reply, show_show_reply, show_token_reply, show_edit_reply, show_work_reply};
 
-use crate::answer::{answered, custom_answered, noted, unless_float, written_answered};
+use crate::answer::{answered, custom_answered, initialize_answered, noted, unless_float};
 use crate::call::Target;
 use crate::reply::{
     EditReply, GotoReply, HierarchyReply, LifeReply, Reply, ShowReply, SyncReply, TokenReply,
@@ -27,12 +27,7 @@ fn write_life(
         ≡ outcome_by target (show_life_reply reply)) }
 {
     match reply {
-        LifeReply::Initialize(body) => written_answered(
-            alloc,
-            target,
-            Method::Life(LifeMethod::Initialize),
-            body,
-        ),
+        LifeReply::Initialize(body) => initialize_answered(alloc, target, body),
         LifeReply::Shutdown(body) => answered(
             alloc,
             target,
@@ -51,7 +46,7 @@ fn write_sync(
         ≡ outcome_by target (show_sync_reply reply)) }
 {
     match reply {
-        SyncReply::WillSaveWaitUntil(body) => written_answered(
+        SyncReply::WillSaveWaitUntil(body) => answered(
             alloc,
             target,
             Method::Sync(SyncMethod::WillSaveWaitUntil),
@@ -69,37 +64,37 @@ fn write_goto(
         ≡ outcome_by target (show_goto_reply reply)) }
 {
     match reply {
-        GotoReply::GotoDeclaration(body) => written_answered(
+        GotoReply::GotoDeclaration(body) => answered(
             alloc,
             target,
             Method::Goto(GotoMethod::GotoDeclaration),
             body,
         ),
-        GotoReply::GotoDefinition(body) => written_answered(
+        GotoReply::GotoDefinition(body) => answered(
             alloc,
             target,
             Method::Goto(GotoMethod::GotoDefinition),
             body,
         ),
-        GotoReply::GotoTypeDefinition(body) => written_answered(
+        GotoReply::GotoTypeDefinition(body) => answered(
             alloc,
             target,
             Method::Goto(GotoMethod::GotoTypeDefinition),
             body,
         ),
-        GotoReply::GotoImplementation(body) => written_answered(
+        GotoReply::GotoImplementation(body) => answered(
             alloc,
             target,
             Method::Goto(GotoMethod::GotoImplementation),
             body,
         ),
-        GotoReply::References(body) => written_answered(
+        GotoReply::References(body) => answered(
             alloc,
             target,
             Method::Goto(GotoMethod::References),
             body,
         ),
-        GotoReply::DocumentHighlight(body) => written_answered(
+        GotoReply::DocumentHighlight(body) => answered(
             alloc,
             target,
             Method::Goto(GotoMethod::DocumentHighlight),
@@ -117,37 +112,37 @@ fn write_hierarchy(
         ≡ outcome_by target (show_hierarchy_reply reply)) }
 {
     match reply {
-        HierarchyReply::PrepareCallHierarchy(body) => written_answered(
+        HierarchyReply::PrepareCallHierarchy(body) => answered(
             alloc,
             target,
             Method::Hierarchy(HierarchyMethod::PrepareCallHierarchy),
             body,
         ),
-        HierarchyReply::IncomingCalls(body) => written_answered(
+        HierarchyReply::IncomingCalls(body) => answered(
             alloc,
             target,
             Method::Hierarchy(HierarchyMethod::IncomingCalls),
             body,
         ),
-        HierarchyReply::OutgoingCalls(body) => written_answered(
+        HierarchyReply::OutgoingCalls(body) => answered(
             alloc,
             target,
             Method::Hierarchy(HierarchyMethod::OutgoingCalls),
             body,
         ),
-        HierarchyReply::PrepareTypeHierarchy(body) => written_answered(
+        HierarchyReply::PrepareTypeHierarchy(body) => answered(
             alloc,
             target,
             Method::Hierarchy(HierarchyMethod::PrepareTypeHierarchy),
             body,
         ),
-        HierarchyReply::Supertypes(body) => written_answered(
+        HierarchyReply::Supertypes(body) => answered(
             alloc,
             target,
             Method::Hierarchy(HierarchyMethod::Supertypes),
             body,
         ),
-        HierarchyReply::Subtypes(body) => written_answered(
+        HierarchyReply::Subtypes(body) => answered(
             alloc,
             target,
             Method::Hierarchy(HierarchyMethod::Subtypes),
@@ -165,55 +160,50 @@ fn write_show(
         ≡ outcome_by target (show_show_reply reply)) }
 {
     match reply {
-        ShowReply::DocumentLink(body) => written_answered(
+        ShowReply::DocumentLink(body) => answered(
             alloc,
             target,
             Method::Show(ShowMethod::DocumentLink),
             body,
         ),
-        ShowReply::DocumentLinkResolve(body) => written_answered(
+        ShowReply::DocumentLinkResolve(body) => answered(
             alloc,
             target,
             Method::Show(ShowMethod::DocumentLinkResolve),
             body,
         ),
-        ShowReply::Hover(body) => written_answered(
-            alloc,
-            target,
-            Method::Show(ShowMethod::Hover),
-            body,
-        ),
-        ShowReply::CodeLens(body) => written_answered(
+        ShowReply::Hover(body) => answered(alloc, target, Method::Show(ShowMethod::Hover), body),
+        ShowReply::CodeLens(body) => answered(
             alloc,
             target,
             Method::Show(ShowMethod::CodeLens),
             body,
         ),
-        ShowReply::CodeLensResolve(body) => written_answered(
+        ShowReply::CodeLensResolve(body) => answered(
             alloc,
             target,
             Method::Show(ShowMethod::CodeLensResolve),
             body,
         ),
-        ShowReply::FoldingRange(body) => written_answered(
+        ShowReply::FoldingRange(body) => answered(
             alloc,
             target,
             Method::Show(ShowMethod::FoldingRange),
             body,
         ),
-        ShowReply::SelectionRange(body) => written_answered(
+        ShowReply::SelectionRange(body) => answered(
             alloc,
             target,
             Method::Show(ShowMethod::SelectionRange),
             body,
         ),
-        ShowReply::DocumentSymbol(body) => written_answered(
+        ShowReply::DocumentSymbol(body) => answered(
             alloc,
             target,
             Method::Show(ShowMethod::DocumentSymbol),
             body,
         ),
-        ShowReply::Moniker(body) => written_answered(
+        ShowReply::Moniker(body) => answered(
             alloc,
             target,
             Method::Show(ShowMethod::Moniker),
@@ -231,37 +221,37 @@ fn write_token(
         ≡ outcome_by target (show_token_reply reply)) }
 {
     match reply {
-        TokenReply::SemanticTokensFull(body) => written_answered(
+        TokenReply::SemanticTokensFull(body) => answered(
             alloc,
             target,
             Method::Token(TokenMethod::SemanticTokensFull),
             body,
         ),
-        TokenReply::SemanticTokensFullDelta(body) => written_answered(
+        TokenReply::SemanticTokensFullDelta(body) => answered(
             alloc,
             target,
             Method::Token(TokenMethod::SemanticTokensFullDelta),
             body,
         ),
-        TokenReply::SemanticTokensRange(body) => written_answered(
+        TokenReply::SemanticTokensRange(body) => answered(
             alloc,
             target,
             Method::Token(TokenMethod::SemanticTokensRange),
             body,
         ),
-        TokenReply::InlineValue(body) => written_answered(
+        TokenReply::InlineValue(body) => answered(
             alloc,
             target,
             Method::Token(TokenMethod::InlineValue),
             body,
         ),
-        TokenReply::InlayHint(body) => written_answered(
+        TokenReply::InlayHint(body) => answered(
             alloc,
             target,
             Method::Token(TokenMethod::InlayHint),
             body,
         ),
-        TokenReply::InlayHintResolve(body) => written_answered(
+        TokenReply::InlayHintResolve(body) => answered(
             alloc,
             target,
             Method::Token(TokenMethod::InlayHintResolve),
@@ -279,73 +269,68 @@ fn write_edit(
         ≡ outcome_by target (show_edit_reply reply)) }
 {
     match reply {
-        EditReply::Completion(body) => written_answered(
+        EditReply::Completion(body) => answered(
             alloc,
             target,
             Method::Edit(EditMethod::Completion),
             body,
         ),
-        EditReply::CompletionResolve(body) => written_answered(
+        EditReply::CompletionResolve(body) => answered(
             alloc,
             target,
             Method::Edit(EditMethod::CompletionResolve),
             body,
         ),
-        EditReply::SignatureHelp(body) => written_answered(
+        EditReply::SignatureHelp(body) => answered(
             alloc,
             target,
             Method::Edit(EditMethod::SignatureHelp),
             body,
         ),
-        EditReply::CodeAction(body) => written_answered(
+        EditReply::CodeAction(body) => answered(
             alloc,
             target,
             Method::Edit(EditMethod::CodeAction),
             body,
         ),
-        EditReply::CodeActionResolve(body) => written_answered(
+        EditReply::CodeActionResolve(body) => answered(
             alloc,
             target,
             Method::Edit(EditMethod::CodeActionResolve),
             body,
         ),
-        EditReply::Formatting(body) => written_answered(
+        EditReply::Formatting(body) => answered(
             alloc,
             target,
             Method::Edit(EditMethod::Formatting),
             body,
         ),
-        EditReply::RangeFormatting(body) => written_answered(
+        EditReply::RangeFormatting(body) => answered(
             alloc,
             target,
             Method::Edit(EditMethod::RangeFormatting),
             body,
         ),
-        EditReply::OnTypeFormatting(body) => written_answered(
+        EditReply::OnTypeFormatting(body) => answered(
             alloc,
             target,
             Method::Edit(EditMethod::OnTypeFormatting),
             body,
         ),
-        EditReply::Rename(body) => written_answered(
-            alloc,
-            target,
-            Method::Edit(EditMethod::Rename),
-            body,
-        ),
-        EditReply::PrepareRename(body) => written_answered(
+        EditReply::Rename(body) => answered(alloc, target, Method::Edit(EditMethod::Rename), body),
+        EditReply::PrepareRename(body) => answered(
             alloc,
             target,
             Method::Edit(EditMethod::PrepareRename),
             body,
         ),
-        EditReply::LinkedEditingRange(body) => written_answered(
+        EditReply::LinkedEditingRange(body) => answered(
             alloc,
             target,
             Method::Edit(EditMethod::LinkedEditingRange),
             body,
         ),
-        EditReply::Diagnostic(body) => written_answered(
+        EditReply::Diagnostic(body) => answered(
             alloc,
             target,
             Method::Edit(EditMethod::Diagnostic),
@@ -363,37 +348,32 @@ fn write_work(
         ≡ outcome_by target (show_work_reply reply)) }
 {
     match reply {
-        WorkReply::WorkspaceDiagnostic(body) => written_answered(
+        WorkReply::WorkspaceDiagnostic(body) => answered(
             alloc,
             target,
             Method::Work(WorkMethod::WorkspaceDiagnostic),
             body,
         ),
-        WorkReply::Symbol(body) => written_answered(
-            alloc,
-            target,
-            Method::Work(WorkMethod::Symbol),
-            body,
-        ),
-        WorkReply::SymbolResolve(body) => written_answered(
+        WorkReply::Symbol(body) => answered(alloc, target, Method::Work(WorkMethod::Symbol), body),
+        WorkReply::SymbolResolve(body) => answered(
             alloc,
             target,
             Method::Work(WorkMethod::SymbolResolve),
             body,
         ),
-        WorkReply::WillCreateFiles(body) => written_answered(
+        WorkReply::WillCreateFiles(body) => answered(
             alloc,
             target,
             Method::Work(WorkMethod::WillCreateFiles),
             body,
         ),
-        WorkReply::WillRenameFiles(body) => written_answered(
+        WorkReply::WillRenameFiles(body) => answered(
             alloc,
             target,
             Method::Work(WorkMethod::WillRenameFiles),
             body,
         ),
-        WorkReply::WillDeleteFiles(body) => written_answered(
+        WorkReply::WillDeleteFiles(body) => answered(
             alloc,
             target,
             Method::Work(WorkMethod::WillDeleteFiles),

@@ -3,8 +3,8 @@ use lsp_initialize::{InitializeResult, ServerCapabilities};
 use lsp_lang_item::InlayHint;
 use lsp_offer_work::ServerInfo;
 use lsp_service::{
-    Answering, Call, InitializeCall, LifeCall, LifeReply, NoMemory, Params, Reply, ShowReply,
-    TokenCall, TokenReply, WorkCall, Written, not_found_for,
+    Answering, Call, InitializeCall, InitializeReply, LifeCall, LifeReply, NoMemory, Reply,
+    ShowReply, TokenCall, TokenReply, WorkCall, not_found_for,
 };
 use lsp_work::ExecuteCommandParams;
 use serde_json::Value;
@@ -24,15 +24,14 @@ impl Answering for Strange {
                 Ok(Reply::Life(LifeReply::Initialize(Ok(offered))))
             }
             Call::Work(WorkCall::ExecuteCommand(params)) => {
-                if has_arguments(alloc, params)? {
+                if has_arguments(params) {
                     Ok(Reply::Noted)
                 } else {
-                    let nothing = Written::new(alloc, &None)?;
-                    Ok(Reply::Show(ShowReply::Hover(Ok(nothing))))
+                    Ok(Reply::Show(ShowReply::Hover(Ok(None))))
                 }
             }
             Call::Token(TokenCall::InlayHintResolve(hint)) => {
-                let hint = with_float(alloc, hint)?;
+                let hint = with_float(hint);
                 Ok(Reply::Token(TokenReply::InlayHintResolve(Ok(hint))))
             }
             Call::Custom(0, Some(params)) => Ok(Reply::Custom(Ok(params))),
@@ -43,8 +42,8 @@ impl Answering for Strange {
 }
 
 // Nothing is offered, and the server has its client's name.
-fn namesake(alloc: Global, params: InitializeCall) -> Result<Written<InitializeResult>, NoMemory> {
-    let client_info = params.read(alloc)?.client_info;
+fn namesake(alloc: Global, call: InitializeCall) -> Result<InitializeReply, NoMemory> {
+    let client_info = call.params(alloc)?.client_info;
     let server_info = match client_info {
         Some(client) => Some(ServerInfo {
             name: client.name,
@@ -56,15 +55,15 @@ fn namesake(alloc: Global, params: InitializeCall) -> Result<Written<InitializeR
         capabilities: ServerCapabilities::default(),
         server_info,
     };
-    Written::new(alloc, &result)
+    InitializeReply::new(alloc, &result)
 }
 
-fn has_arguments(alloc: Global, params: Params<ExecuteCommandParams>) -> Result<bool, NoMemory> {
-    Ok(!params.read(alloc)?.arguments.is_empty())
+fn has_arguments(params: ExecuteCommandParams) -> bool {
+    !params.arguments.is_empty()
 }
 
-fn with_float(alloc: Global, hint: Params<InlayHint>) -> Result<Written<InlayHint>, NoMemory> {
-    let mut hint = hint.read(alloc)?;
+fn with_float(hint: InlayHint) -> InlayHint {
+    let mut hint = hint;
     hint.payload = Some(Value::from(1.5));
-    Written::new(alloc, &hint)
+    hint
 }
