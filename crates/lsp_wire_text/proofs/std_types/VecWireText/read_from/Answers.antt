@@ -1,0 +1,29 @@
+use Rattle.std.proofs.Common.{◌≡◌, ◌∷◌, Some, refl, ap, ◌∙◌, arith}
+use Rattle.json.specs.Token.{Token}
+use Rattle.json.specs.Reads.{token_of}
+use Rattle.serde_json.specs.Data.{null}
+use Rattle.lsp_shape.specs.Plain.{absent}
+use Rattle.lsp_shape.specs.Shape.{maybe, list}
+use Rattle.lsp_shape.specs.Shown.{show_list}
+use Rattle.lsp_wire_text.specs.Here.{read_here}
+use Rattle.lsp_wire_text.proofs.Here.{read_of, null_here}
+use Rattle.lsp_wire_text.proofs.Items.{list_there}
+use Rattle.lsp_wire_text.proofs.std_types.VecWireText.read_from.Goals as goal
+
+pub returns-in-Null-clause-read : goal.returns-in-Null-clause-read
+returns-in-Null-clause-read g c =
+    let way = c.args.way in
+    let s = maybe (list g.T.Wire.shape) in
+    let rest = c.next.new.self in
+    let first : c.args.reader.now ≡ token_of c.in_ok-token.token ∷ rest = grind arith in
+    let is : c.args.reader.now ≡ Token.null ∷ rest = first ∙ ap (λ k. token_of k ∷ rest) c.in-Null.is in
+    ap (read_here way s) is ∙ read_of way s (Token.null ∷ rest) rest null absent (null_here way rest) refl
+
+pub returns-in_ok-read_items-in-BeginArray-clause-read : goal.returns-in_ok-read_items-in-BeginArray-clause-read
+returns-in_ok-read_items-in-BeginArray-clause-read g c =
+    let way = c.args.way in
+    let rest = c.next.new.self in
+    let first : c.args.reader.now ≡ token_of c.in_ok-token.token ∷ rest = grind arith in
+    let is : c.args.reader.now ≡ Token.begin_array ∷ rest = first ∙ ap (λ k. token_of k ∷ rest) c.in-BeginArray.is in
+    ap (read_here way (maybe (list g.T.Wire.shape))) is
+    ∙ list_there way g.T.Wire.shape (Token.begin_array ∷ rest) c.read_items.new.reader (show_list g.T.Wire.shown c.in_ok-read_items-in-BeginArray.field-0) c.in_ok-read_items-in-BeginArray.ensures.read

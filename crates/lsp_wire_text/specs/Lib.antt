@@ -1,0 +1,4 @@
+pub mod Entries
+pub mod Here
+pub mod Members
+pub mod Stays
