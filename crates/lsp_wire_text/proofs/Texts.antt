@@ -52,8 +52,10 @@ module _ {A : Type 0} (show : A → Plain) (f : Plain → Data) where
       let so_far = before clean in
       let here = drop_next xs i x h e in
       let more = items_for (drop (i + 1) xs) in
-      let each = neither (has_float (f (show x))) (items_have_float more) (ap (λ ys. items_have_float (items_for ys)) (sym here) ∙ so_far.0) in
-      (each.1, ap (λ s. s ++ items_text true more) (one each.0)
-      ∙ append_assoc now (comma_if later ++ compact_text (f (show x))) (items_text true more)
-      ∙ ap (λ s. now ++ s) (append_assoc (comma_if later) (compact_text (f (show x))) (items_text true more))
-      ∙ ap (λ ys. now ++ items_text later (items_for ys)) (sym here) ∙ so_far.1)
+      let each = neither (has_float (f (show x))) (items_have_float more) (ap (λ ys. items_have_float (items_for ys)) (sym here) ∙ so_far.0) in (
+        each.1,
+        ap (λ s. s ++ items_text true more) (one each.0)
+            ∙ append_assoc now (comma_if later ++ compact_text (f (show x))) (items_text true more)
+            ∙ ap (λ s. now ++ s) (append_assoc (comma_if later) (compact_text (f (show x))) (items_text true more))
+            ∙ ap (λ ys. now ++ items_text later (items_for ys)) (sym here) ∙ so_far.1,
+      )

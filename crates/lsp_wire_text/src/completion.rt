@@ -50,20 +50,178 @@ impl WireText for CompletionTextEdit {
 }
 
 // The members of a completion item, in the order of its row, and in that of their names.
-type CompletionItemRead = Both<Both<Both<Both<Both<Required<String>, Omitted<CompletionItemLabelDetails>>, Omitted<CompletionItemKind>>, Both<Omitted<String>, Omitted<Documentation>>>, Both<Both<Omitted<bool>, Omitted<bool>>, Both<Omitted<String>, Omitted<String>>>>, Both<Both<Both<Both<Omitted<String>, Omitted<InsertTextFormat>>, Omitted<InsertTextMode>>, Both<Omitted<CompletionTextEdit>, Omitted<Vec<TextEdit>>>>, Both<Both<Omitted<Command>, Omitted<Vec<String>>>, Both<Omitted<Value>, Omitted<Vec<CompletionItemTag>>>>>>;
-type CompletionItemWritten<'v> = MemberIfSome<'v, Vec<TextEdit>, MemberIfSome<'v, Command, MemberIfSome<'v, Vec<String>, MemberIfSome<'v, Value, MemberIfSome<'v, bool, MemberIfSome<'v, String, MemberIfSome<'v, Documentation, MemberIfSome<'v, String, MemberIfSome<'v, String, MemberIfSome<'v, InsertTextFormat, MemberIfSome<'v, InsertTextMode, MemberIfSome<'v, CompletionItemKind, Member<'v, String, MemberIfSome<'v, CompletionItemLabelDetails, MemberIfSome<'v, bool, MemberIfSome<'v, String, MemberIfSome<'v, Vec<CompletionItemTag>, MemberIfSome<'v, CompletionTextEdit, End>>>>>>>>>>>>>>>>>>;
+type CompletionItemRead = Both<
+    Both<
+        Both<
+            Both<
+                Both<Required<String>, Omitted<CompletionItemLabelDetails>>,
+                Omitted<CompletionItemKind>,
+            >,
+            Both<Omitted<String>, Omitted<Documentation>>,
+        >,
+        Both<Both<Omitted<bool>, Omitted<bool>>, Both<Omitted<String>, Omitted<String>>>,
+    >,
+    Both<
+        Both<
+            Both<Both<Omitted<String>, Omitted<InsertTextFormat>>, Omitted<InsertTextMode>>,
+            Both<Omitted<CompletionTextEdit>, Omitted<Vec<TextEdit>>>,
+        >,
+        Both<
+            Both<Omitted<Command>, Omitted<Vec<String>>>,
+            Both<Omitted<Value>, Omitted<Vec<CompletionItemTag>>>,
+        >,
+    >,
+>;
+
+type CompletionItemWritten<'v> = MemberIfSome<
+    'v,
+    Vec<TextEdit>,
+    MemberIfSome<
+        'v,
+        Command,
+        MemberIfSome<
+            'v,
+            Vec<String>,
+            MemberIfSome<
+                'v,
+                Value,
+                MemberIfSome<
+                    'v,
+                    bool,
+                    MemberIfSome<
+                        'v,
+                        String,
+                        MemberIfSome<
+                            'v,
+                            Documentation,
+                            MemberIfSome<
+                                'v,
+                                String,
+                                MemberIfSome<
+                                    'v,
+                                    String,
+                                    MemberIfSome<
+                                        'v,
+                                        InsertTextFormat,
+                                        MemberIfSome<
+                                            'v,
+                                            InsertTextMode,
+                                            MemberIfSome<
+                                                'v,
+                                                CompletionItemKind,
+                                                Member<
+                                                    'v,
+                                                    String,
+                                                    MemberIfSome<
+                                                        'v,
+                                                        CompletionItemLabelDetails,
+                                                        MemberIfSome<
+                                                            'v,
+                                                            bool,
+                                                            MemberIfSome<
+                                                                'v,
+                                                                String,
+                                                                MemberIfSome<
+                                                                    'v,
+                                                                    Vec<CompletionItemTag>,
+                                                                    MemberIfSome<
+                                                                        'v,
+                                                                        CompletionTextEdit,
+                                                                        End,
+                                                                    >,
+                                                                >,
+                                                            >,
+                                                        >,
+                                                    >,
+                                                >,
+                                            >,
+                                        >,
+                                    >,
+                                >,
+                            >,
+                        >,
+                    >,
+                >,
+            >,
+        >,
+    >,
+>;
 
 #[tactic(auto, unfolding(lsp_lang_item::specs::Completion::completion_item_row, lsp_lang_item::specs::Completion::completion_item_fields))]
 impl Record for CompletionItem {
     type Read = CompletionItemRead;
 
     fn members() -> CompletionItemRead {
-        Both(Both(Both(Both(Both(Required("label", None), Omitted("labelDetails", None)), Omitted("kind", None)), Both(Omitted("detail", None), Omitted("documentation", None))), Both(Both(Omitted("deprecated", None), Omitted("preselect", None)), Both(Omitted("sortText", None), Omitted("filterText", None)))), Both(Both(Both(Both(Omitted("insertText", None), Omitted("insertTextFormat", None)), Omitted("insertTextMode", None)), Both(Omitted("textEdit", None), Omitted("additionalTextEdits", None))), Both(Both(Omitted("command", None), Omitted("commitCharacters", None)), Both(Omitted("data", None), Omitted("tags", None)))))
+        Both(
+            Both(
+                Both(
+                    Both(
+                        Both(Required("label", None), Omitted("labelDetails", None)),
+                        Omitted("kind", None),
+                    ),
+                    Both(Omitted("detail", None), Omitted("documentation", None)),
+                ),
+                Both(
+                    Both(Omitted("deprecated", None), Omitted("preselect", None)),
+                    Both(Omitted("sortText", None), Omitted("filterText", None)),
+                ),
+            ),
+            Both(
+                Both(
+                    Both(
+                        Both(
+                            Omitted("insertText", None),
+                            Omitted("insertTextFormat", None),
+                        ),
+                        Omitted("insertTextMode", None),
+                    ),
+                    Both(
+                        Omitted("textEdit", None),
+                        Omitted("additionalTextEdits", None),
+                    ),
+                ),
+                Both(
+                    Both(Omitted("command", None), Omitted("commitCharacters", None)),
+                    Both(Omitted("data", None), Omitted("tags", None)),
+                ),
+            ),
+        )
     }
 
     fn of(whole: <CompletionItemRead as Members>::Whole) -> CompletionItem {
-        let (((((label, label_details), kind), (detail, documentation)), ((deprecated, preselect), (sort_text, filter_text))), ((((insert_text, insert_text_format), insert_text_mode), (text_edit, additional_text_edits)), ((command, commit_characters), (payload, tags)))) = whole;
-        CompletionItem { label, label_details, kind, detail, documentation, deprecated, preselect, sort_text, filter_text, insert_text, insert_text_format, insert_text_mode, text_edit, additional_text_edits, command, commit_characters, payload, tags }
+        let (
+            (
+                (((label, label_details), kind), (detail, documentation)),
+                ((deprecated, preselect), (sort_text, filter_text)),
+            ),
+            (
+                (
+                    ((insert_text, insert_text_format), insert_text_mode),
+                    (text_edit, additional_text_edits),
+                ),
+                ((command, commit_characters), (payload, tags)),
+            ),
+        ) = whole;
+        CompletionItem {
+            label,
+            label_details,
+            kind,
+            detail,
+            documentation,
+            deprecated,
+            preselect,
+            sort_text,
+            filter_text,
+            insert_text,
+            insert_text_format,
+            insert_text_mode,
+            text_edit,
+            additional_text_edits,
+            command,
+            commit_characters,
+            payload,
+            tags,
+        }
     }
 }
 
@@ -74,7 +232,79 @@ impl WireText for CompletionItem {
     }
 
     fn write_to(&self, alloc: Global, out: &mut String) -> Result<(), NoMemory> {
-        let members: CompletionItemWritten<'_> = MemberIfSome("additionalTextEdits", &self.additional_text_edits, MemberIfSome("command", &self.command, MemberIfSome("commitCharacters", &self.commit_characters, MemberIfSome("data", &self.payload, MemberIfSome("deprecated", &self.deprecated, MemberIfSome("detail", &self.detail, MemberIfSome("documentation", &self.documentation, MemberIfSome("filterText", &self.filter_text, MemberIfSome("insertText", &self.insert_text, MemberIfSome("insertTextFormat", &self.insert_text_format, MemberIfSome("insertTextMode", &self.insert_text_mode, MemberIfSome("kind", &self.kind, Member("label", &self.label, MemberIfSome("labelDetails", &self.label_details, MemberIfSome("preselect", &self.preselect, MemberIfSome("sortText", &self.sort_text, MemberIfSome("tags", &self.tags, MemberIfSome("textEdit", &self.text_edit, End))))))))))))))))));
+        let members: CompletionItemWritten<'_> = MemberIfSome(
+            "additionalTextEdits",
+            &self.additional_text_edits,
+            MemberIfSome(
+                "command",
+                &self.command,
+                MemberIfSome(
+                    "commitCharacters",
+                    &self.commit_characters,
+                    MemberIfSome(
+                        "data",
+                        &self.payload,
+                        MemberIfSome(
+                            "deprecated",
+                            &self.deprecated,
+                            MemberIfSome(
+                                "detail",
+                                &self.detail,
+                                MemberIfSome(
+                                    "documentation",
+                                    &self.documentation,
+                                    MemberIfSome(
+                                        "filterText",
+                                        &self.filter_text,
+                                        MemberIfSome(
+                                            "insertText",
+                                            &self.insert_text,
+                                            MemberIfSome(
+                                                "insertTextFormat",
+                                                &self.insert_text_format,
+                                                MemberIfSome(
+                                                    "insertTextMode",
+                                                    &self.insert_text_mode,
+                                                    MemberIfSome(
+                                                        "kind",
+                                                        &self.kind,
+                                                        Member(
+                                                            "label",
+                                                            &self.label,
+                                                            MemberIfSome(
+                                                                "labelDetails",
+                                                                &self.label_details,
+                                                                MemberIfSome(
+                                                                    "preselect",
+                                                                    &self.preselect,
+                                                                    MemberIfSome(
+                                                                        "sortText",
+                                                                        &self.sort_text,
+                                                                        MemberIfSome(
+                                                                            "tags",
+                                                                            &self.tags,
+                                                                            MemberIfSome(
+                                                                                "textEdit",
+                                                                                &self.text_edit,
+                                                                                End,
+                                                                            ),
+                                                                        ),
+                                                                    ),
+                                                                ),
+                                                            ),
+                                                        ),
+                                                    ),
+                                                ),
+                                            ),
+                                        ),
+                                    ),
+                                ),
+                            ),
+                        ),
+                    ),
+                ),
+            ),
+        );
         write_record(alloc, out, &members)
     }
 }

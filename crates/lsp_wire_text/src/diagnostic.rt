@@ -5,9 +5,7 @@ use crate::way::Way;
 use crate::wire_text::WireText;
 use crate::written::{End, Member, MemberIfSome, write_record};
 use json::Reader;
-use lsp_base::{
-    CodeDescription, Diagnostic, DiagnosticRelatedInformation, NumberOrString, Range,
-};
+use lsp_base::{CodeDescription, Diagnostic, DiagnosticRelatedInformation, NumberOrString, Range};
 use lsp_kinds::{DiagnosticSeverity, DiagnosticTag};
 use lsp_text::Unread;
 use no_memory::NoMemory;
@@ -28,20 +26,86 @@ impl WireText for DiagnosticTag {}
 impl WireText for Value {}
 
 // The members of a diagnostic, in the order of its row, and in that of their names.
-type DiagnosticRead = Both<Both<Both<Both<Required<Range>, Omitted<DiagnosticSeverity>>, Omitted<NumberOrString>>, Both<Omitted<CodeDescription>, Omitted<String>>>, Both<Both<Required<String>, Omitted<Vec<DiagnosticRelatedInformation>>>, Both<Omitted<Vec<DiagnosticTag>>, Omitted<Value>>>>;
-type DiagnosticWritten<'v> = MemberIfSome<'v, NumberOrString, MemberIfSome<'v, CodeDescription, MemberIfSome<'v, Value, Member<'v, String, Member<'v, Range, MemberIfSome<'v, Vec<DiagnosticRelatedInformation>, MemberIfSome<'v, DiagnosticSeverity, MemberIfSome<'v, String, MemberIfSome<'v, Vec<DiagnosticTag>, End>>>>>>>>>;
+type DiagnosticRead = Both<
+    Both<
+        Both<Both<Required<Range>, Omitted<DiagnosticSeverity>>, Omitted<NumberOrString>>,
+        Both<Omitted<CodeDescription>, Omitted<String>>,
+    >,
+    Both<
+        Both<Required<String>, Omitted<Vec<DiagnosticRelatedInformation>>>,
+        Both<Omitted<Vec<DiagnosticTag>>, Omitted<Value>>,
+    >,
+>;
+
+type DiagnosticWritten<'v> = MemberIfSome<
+    'v,
+    NumberOrString,
+    MemberIfSome<
+        'v,
+        CodeDescription,
+        MemberIfSome<
+            'v,
+            Value,
+            Member<
+                'v,
+                String,
+                Member<
+                    'v,
+                    Range,
+                    MemberIfSome<
+                        'v,
+                        Vec<DiagnosticRelatedInformation>,
+                        MemberIfSome<
+                            'v,
+                            DiagnosticSeverity,
+                            MemberIfSome<'v, String, MemberIfSome<'v, Vec<DiagnosticTag>, End>>,
+                        >,
+                    >,
+                >,
+            >,
+        >,
+    >,
+>;
 
 #[tactic(auto, unfolding(lsp_base::specs::Diagnostic::diagnostic_row))]
 impl Record for Diagnostic {
     type Read = DiagnosticRead;
 
     fn members() -> DiagnosticRead {
-        Both(Both(Both(Both(Required("range", None), Omitted("severity", None)), Omitted("code", None)), Both(Omitted("codeDescription", None), Omitted("source", None))), Both(Both(Required("message", None), Omitted("relatedInformation", None)), Both(Omitted("tags", None), Omitted("data", None))))
+        Both(
+            Both(
+                Both(
+                    Both(Required("range", None), Omitted("severity", None)),
+                    Omitted("code", None),
+                ),
+                Both(Omitted("codeDescription", None), Omitted("source", None)),
+            ),
+            Both(
+                Both(
+                    Required("message", None),
+                    Omitted("relatedInformation", None),
+                ),
+                Both(Omitted("tags", None), Omitted("data", None)),
+            ),
+        )
     }
 
     fn of(whole: <DiagnosticRead as Members>::Whole) -> Diagnostic {
-        let ((((range, severity), code), (code_description, source)), ((message, related_information), (tags, payload))) = whole;
-        Diagnostic { range, severity, code, code_description, source, message, related_information, tags, payload }
+        let (
+            (((range, severity), code), (code_description, source)),
+            ((message, related_information), (tags, payload)),
+        ) = whole;
+        Diagnostic {
+            range,
+            severity,
+            code,
+            code_description,
+            source,
+            message,
+            related_information,
+            tags,
+            payload,
+        }
     }
 }
 
@@ -52,7 +116,39 @@ impl WireText for Diagnostic {
     }
 
     fn write_to(&self, alloc: Global, out: &mut String) -> Result<(), NoMemory> {
-        let members: DiagnosticWritten<'_> = MemberIfSome("code", &self.code, MemberIfSome("codeDescription", &self.code_description, MemberIfSome("data", &self.payload, Member("message", &self.message, Member("range", &self.range, MemberIfSome("relatedInformation", &self.related_information, MemberIfSome("severity", &self.severity, MemberIfSome("source", &self.source, MemberIfSome("tags", &self.tags, End)))))))));
+        let members: DiagnosticWritten<'_> = MemberIfSome(
+            "code",
+            &self.code,
+            MemberIfSome(
+                "codeDescription",
+                &self.code_description,
+                MemberIfSome(
+                    "data",
+                    &self.payload,
+                    Member(
+                        "message",
+                        &self.message,
+                        Member(
+                            "range",
+                            &self.range,
+                            MemberIfSome(
+                                "relatedInformation",
+                                &self.related_information,
+                                MemberIfSome(
+                                    "severity",
+                                    &self.severity,
+                                    MemberIfSome(
+                                        "source",
+                                        &self.source,
+                                        MemberIfSome("tags", &self.tags, End),
+                                    ),
+                                ),
+                            ),
+                        ),
+                    ),
+                ),
+            ),
+        );
         write_record(alloc, out, &members)
     }
 }

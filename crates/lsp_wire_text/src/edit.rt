@@ -12,6 +12,7 @@ use std::alloc::Global;
 
 // The members of an edit, in the order of its row, and in that of their names.
 type TextEditRead = Both<Required<Range>, Required<String>>;
+
 type TextEditWritten<'v> = Member<'v, String, Member<'v, Range, End>>;
 
 #[tactic(auto, unfolding(lsp_base::specs::Edit::text_edit_row))]
@@ -35,7 +36,11 @@ impl WireText for TextEdit {
     }
 
     fn write_to(&self, alloc: Global, out: &mut String) -> Result<(), NoMemory> {
-        let members: TextEditWritten<'_> = Member("newText", &self.new_text, Member("range", &self.range, End));
+        let members: TextEditWritten<'_> = Member(
+            "newText",
+            &self.new_text,
+            Member("range", &self.range, End),
+        );
         write_record(alloc, out, &members)
     }
 }

@@ -125,9 +125,10 @@ impl<A: Members, B: Members> Members for Both<A, B> {
 
     ghost Holds = { λ x ms. A.Holds x.0 ms × B.Holds x.1 ms };
 
-    ghost stays = { λ x name d ms other held.
-        (A.stays x.0 name d ms (not_first name (A.lines x.0).names (B.lines x.1).names other) held.0,
-        B.stays x.1 name d ms (not_second name (A.lines x.0).names (B.lines x.1).names other) held.1) };
+    ghost stays = { λ x name d ms other held. (
+      A.stays x.0 name d ms (not_first name (A.lines x.0).names (B.lines x.1).names other) held.0,
+      B.stays x.1 name d ms (not_second name (A.lines x.0).names (B.lines x.1).names other) held.1,
+    ) };
 
     fn take(&mut self, way: Way, name: &str, reader: &mut Reader<'_>) -> Result<bool, Unread> {
         if self.0.take(way, name, reader)? {

@@ -12,6 +12,7 @@ use std::alloc::Global;
 
 // The members of a position, in the order of its row, and in that of their names.
 type PositionRead = Both<Required<u32>, Required<u32>>;
+
 type PositionWritten<'v> = Member<'v, u32, Member<'v, u32, End>>;
 
 #[tactic(auto, unfolding(lsp_base::specs::Position::position_row))]
@@ -35,13 +36,18 @@ impl WireText for Position {
     }
 
     fn write_to(&self, alloc: Global, out: &mut String) -> Result<(), NoMemory> {
-        let members: PositionWritten<'_> = Member("character", &self.character, Member("line", &self.line, End));
+        let members: PositionWritten<'_> = Member(
+            "character",
+            &self.character,
+            Member("line", &self.line, End),
+        );
         write_record(alloc, out, &members)
     }
 }
 
 // The members of a range, in the order of its row, and in that of their names.
 type RangeRead = Both<Required<Position>, Required<Position>>;
+
 type RangeWritten<'v> = Member<'v, Position, Member<'v, Position, End>>;
 
 #[tactic(auto, unfolding(lsp_base::specs::Position::range_row))]

@@ -116,8 +116,7 @@ fn push_item<T: WireText>(
 
 // Appends the items of an array, and the bracket that closes it.
 fn push_items<T: WireText>(items: &Vec<T>, alloc: Global, out: &mut String) -> Result<(), NoMemory>
-    ensures text {
-        let written = write_items (write T.shape) (parts_of (map T.shown items.now.items)) in
+    ensures text { let written = write_items (write T.shape) (parts_of (map T.shown items.now.items)) in
         OnOk result (items_have_float written ≡ false
         → Appends out.old out.new (items_text false written)) }
     ensures of_shape { OnOk result

@@ -1,5 +1,6 @@
 // How the values of a text are read.
 ghost use Rattle.std.specs.Prelude.{◌≡◌, ◌<◌, ◌-◌, IfOk};
+
 use lsp_text::{Floats, Unread};
 use std::alloc::Global;
 

@@ -76,8 +76,11 @@ impl<'v, T: WireText, R: Entries> Entries for Member<'v, T, R> {
 pub struct MemberIfSome<'v, T, R>(pub &'static str, pub &'v Option<T>, pub R);
 
 impl<'v, T: WireText, R: Entries> Entries for MemberIfSome<'v, T, R> {
-    ghost entries = { λ x. (x.0.now, data_if_present (write T.shape)
-        (maybe_of (option_map T.shown x.1.now))) ∷ R.entries x.2 };
+    ghost entries = { λ x. (
+      x.0.now,
+      data_if_present (write T.shape)
+          (maybe_of (option_map T.shown x.1.now)),
+    ) ∷ R.entries x.2 };
 
     ghost AreOf = { λ x. (is_maybe (is_of T.shape) (maybe_of (option_map T.shown x.1.now)) ≡ true)
         × R.AreOf x.2 };
@@ -95,7 +98,11 @@ impl<'v, T: WireText, R: Entries> Entries for MemberIfSome<'v, T, R> {
 }
 
 /// Appends the object of these members.
-pub fn write_record<E: Entries>(alloc: Global, out: &mut String, members: &E) -> Result<(), NoMemory>
+pub fn write_record<E: Entries>(
+    alloc: Global,
+    out: &mut String,
+    members: &E,
+) -> Result<(), NoMemory>
     ensures text { OnOk result (has_float (object (members_from (E.entries members.now))) ≡ false
         → Appends out.old out.new (compact_text (object (members_from (E.entries members.now))))) }
     ensures of_shape { OnOk result (E.AreOf members.now) }
