@@ -5,7 +5,7 @@ use Rattle.json.specs.Json.{value}
 use Rattle.serde_json.specs.Data.{Data, null, boolean, number, string, array, object, unsigned}
 use Rattle.serde_json.specs.Read.{converted, number_of}
 use Rattle.lsp_shape.specs.Plain.{Plain, leaf, absent, present, choice, maybe_of}
-use Rattle.lsp_shape.specs.Shape.{Shape, Shapes, or_shape, maybe, union, u32_shape}
+use Rattle.lsp_shape.specs.Shape.{Shape, Shapes, no_shapes, or_shape, maybe, union, Fields, fields, u32_shape, string_shape}
 use Rattle.lsp_shape.specs.Shown.{show_unsigned}
 use Rattle.lsp_shape.specs.Read.{read}
 use Rattle.lsp_text.specs.Floats.{of_json_by, number_by}
@@ -127,3 +127,20 @@ pub absent_here : (way : Way) (s t : Shape) (ts rest : List Token) → read_here
 absent_here way s t ts rest e =
     let f = found_here way (maybe s) ts rest absent e in
     read_of way (maybe t) ts rest f.0 absent f.1 (null_fits s t f.0 f.2)
+
+-- ---- a text or a record
+
+record_fits : (fs : Fields) (d : Data) (p : Plain) → read (maybe (fields fs)) d ≡ Some (present p)
+    → read (maybe (union (or_shape string_shape (or_shape (fields fs) no_shapes)))) d ≡ Some (present (choice 1 p))
+record_fits fs null p e = absurd (cc)
+record_fits fs (boolean b) p e = absurd (cc)
+record_fits fs (number n) p e = absurd (cc)
+record_fits fs (string b) p e = absurd (cc)
+record_fits fs (array ds) p e = absurd (cc)
+record_fits fs (object ms) p e = rw (within _ p e) refl
+
+pub text_or_record_here : (way : Way) (fs : Fields) (ts rest : List Token) (p : Plain) → read_here way (maybe (fields fs)) ts ≡ Some (present p, rest)
+    → read_here way (maybe (union (or_shape string_shape (or_shape (fields fs) no_shapes)))) ts ≡ Some (present (choice 1 p), rest)
+text_or_record_here way fs ts rest p e =
+    let f = found_here way (maybe (fields fs)) ts rest (present p) e in
+    read_of way (maybe (union (or_shape string_shape (or_shape (fields fs) no_shapes)))) ts rest f.0 (present (choice 1 p)) f.1 (record_fits fs f.0 p f.2)

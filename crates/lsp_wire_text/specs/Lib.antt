@@ -1,4 +1,5 @@
 pub mod Entries
 pub mod Here
 pub mod Members
+pub mod Pieces
 pub mod Stays

@@ -3,7 +3,7 @@ use crate::members::{Both, Members, Omitted, Required};
 use crate::record::{Record, read_record};
 use crate::way::Way;
 use crate::wire_text::{WireText, write_by_value};
-use crate::written::{End, Member, MemberIfSome, write_record};
+use crate::written::{Member, MemberIfSome, write_record};
 use json::Reader;
 use lsp_base::{Command, TextEdit};
 use lsp_kinds::{CompletionItemKind, CompletionItemTag, InsertTextFormat, InsertTextMode};
@@ -24,8 +24,6 @@ impl WireText for CompletionItemLabelDetails {}
 impl WireText for CompletionItemTag {}
 
 impl WireText for Command {}
-
-impl WireText for Documentation {}
 
 impl WireText for InsertTextFormat {}
 
@@ -73,76 +71,31 @@ type CompletionItemRead = Both<
     >,
 >;
 
-type CompletionItemWritten<'v> = MemberIfSome<
-    'v,
-    Vec<TextEdit>,
-    MemberIfSome<
-        'v,
-        Command,
-        MemberIfSome<
-            'v,
-            Vec<String>,
-            MemberIfSome<
-                'v,
-                Value,
-                MemberIfSome<
-                    'v,
-                    bool,
-                    MemberIfSome<
-                        'v,
-                        String,
-                        MemberIfSome<
-                            'v,
-                            Documentation,
-                            MemberIfSome<
-                                'v,
-                                String,
-                                MemberIfSome<
-                                    'v,
-                                    String,
-                                    MemberIfSome<
-                                        'v,
-                                        InsertTextFormat,
-                                        MemberIfSome<
-                                            'v,
-                                            InsertTextMode,
-                                            MemberIfSome<
-                                                'v,
-                                                CompletionItemKind,
-                                                Member<
-                                                    'v,
-                                                    String,
-                                                    MemberIfSome<
-                                                        'v,
-                                                        CompletionItemLabelDetails,
-                                                        MemberIfSome<
-                                                            'v,
-                                                            bool,
-                                                            MemberIfSome<
-                                                                'v,
-                                                                String,
-                                                                MemberIfSome<
-                                                                    'v,
-                                                                    Vec<CompletionItemTag>,
-                                                                    MemberIfSome<
-                                                                        'v,
-                                                                        CompletionTextEdit,
-                                                                        End,
-                                                                    >,
-                                                                >,
-                                                            >,
-                                                        >,
-                                                    >,
-                                                >,
-                                            >,
-                                        >,
-                                    >,
-                                >,
-                            >,
-                        >,
-                    >,
-                >,
+type CompletionItemWritten<'v> = Both<
+    Both<
+        Both<
+            Both<
+                Both<MemberIfSome<'v, Vec<TextEdit>>, MemberIfSome<'v, Command>>,
+                MemberIfSome<'v, Vec<String>>,
             >,
+            Both<MemberIfSome<'v, Value>, MemberIfSome<'v, bool>>,
+        >,
+        Both<
+            Both<MemberIfSome<'v, String>, MemberIfSome<'v, Documentation>>,
+            Both<MemberIfSome<'v, String>, MemberIfSome<'v, String>>,
+        >,
+    >,
+    Both<
+        Both<
+            Both<
+                Both<MemberIfSome<'v, InsertTextFormat>, MemberIfSome<'v, InsertTextMode>>,
+                MemberIfSome<'v, CompletionItemKind>,
+            >,
+            Both<Member<'v, String>, MemberIfSome<'v, CompletionItemLabelDetails>>,
+        >,
+        Both<
+            Both<MemberIfSome<'v, bool>, MemberIfSome<'v, String>>,
+            Both<MemberIfSome<'v, Vec<CompletionItemTag>>, MemberIfSome<'v, CompletionTextEdit>>,
         >,
     >,
 >;
@@ -232,75 +185,54 @@ impl WireText for CompletionItem {
     }
 
     fn write_to(&self, alloc: Global, out: &mut String) -> Result<(), NoMemory> {
-        let members: CompletionItemWritten<'_> = MemberIfSome(
-            "additionalTextEdits",
-            &self.additional_text_edits,
-            MemberIfSome(
-                "command",
-                &self.command,
-                MemberIfSome(
-                    "commitCharacters",
-                    &self.commit_characters,
-                    MemberIfSome(
-                        "data",
-                        &self.payload,
-                        MemberIfSome(
-                            "deprecated",
-                            &self.deprecated,
-                            MemberIfSome(
-                                "detail",
-                                &self.detail,
-                                MemberIfSome(
-                                    "documentation",
-                                    &self.documentation,
-                                    MemberIfSome(
-                                        "filterText",
-                                        &self.filter_text,
-                                        MemberIfSome(
-                                            "insertText",
-                                            &self.insert_text,
-                                            MemberIfSome(
-                                                "insertTextFormat",
-                                                &self.insert_text_format,
-                                                MemberIfSome(
-                                                    "insertTextMode",
-                                                    &self.insert_text_mode,
-                                                    MemberIfSome(
-                                                        "kind",
-                                                        &self.kind,
-                                                        Member(
-                                                            "label",
-                                                            &self.label,
-                                                            MemberIfSome(
-                                                                "labelDetails",
-                                                                &self.label_details,
-                                                                MemberIfSome(
-                                                                    "preselect",
-                                                                    &self.preselect,
-                                                                    MemberIfSome(
-                                                                        "sortText",
-                                                                        &self.sort_text,
-                                                                        MemberIfSome(
-                                                                            "tags",
-                                                                            &self.tags,
-                                                                            MemberIfSome(
-                                                                                "textEdit",
-                                                                                &self.text_edit,
-                                                                                End,
-                                                                            ),
-                                                                        ),
-                                                                    ),
-                                                                ),
-                                                            ),
-                                                        ),
-                                                    ),
-                                                ),
-                                            ),
-                                        ),
-                                    ),
-                                ),
-                            ),
+        let members: CompletionItemWritten<'_> = Both(
+            Both(
+                Both(
+                    Both(
+                        Both(
+                            MemberIfSome("additionalTextEdits", &self.additional_text_edits),
+                            MemberIfSome("command", &self.command),
                         ),
+                        MemberIfSome("commitCharacters", &self.commit_characters),
+                    ),
+                    Both(
+                        MemberIfSome("data", &self.payload),
+                        MemberIfSome("deprecated", &self.deprecated),
+                    ),
+                ),
+                Both(
+                    Both(
+                        MemberIfSome("detail", &self.detail),
+                        MemberIfSome("documentation", &self.documentation),
+                    ),
+                    Both(
+                        MemberIfSome("filterText", &self.filter_text),
+                        MemberIfSome("insertText", &self.insert_text),
+                    ),
+                ),
+            ),
+            Both(
+                Both(
+                    Both(
+                        Both(
+                            MemberIfSome("insertTextFormat", &self.insert_text_format),
+                            MemberIfSome("insertTextMode", &self.insert_text_mode),
+                        ),
+                        MemberIfSome("kind", &self.kind),
+                    ),
+                    Both(
+                        Member("label", &self.label),
+                        MemberIfSome("labelDetails", &self.label_details),
+                    ),
+                ),
+                Both(
+                    Both(
+                        MemberIfSome("preselect", &self.preselect),
+                        MemberIfSome("sortText", &self.sort_text),
+                    ),
+                    Both(
+                        MemberIfSome("tags", &self.tags),
+                        MemberIfSome("textEdit", &self.text_edit),
                     ),
                 ),
             ),

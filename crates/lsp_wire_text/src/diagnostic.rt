@@ -3,7 +3,7 @@ use crate::members::{Both, Members, Omitted, Required};
 use crate::record::{Record, read_record};
 use crate::way::Way;
 use crate::wire_text::WireText;
-use crate::written::{End, Member, MemberIfSome, write_record};
+use crate::written::{Member, MemberIfSome, write_record};
 use json::Reader;
 use lsp_base::{CodeDescription, Diagnostic, DiagnosticRelatedInformation, NumberOrString, Range};
 use lsp_kinds::{DiagnosticSeverity, DiagnosticTag};
@@ -37,33 +37,20 @@ type DiagnosticRead = Both<
     >,
 >;
 
-type DiagnosticWritten<'v> = MemberIfSome<
-    'v,
-    NumberOrString,
-    MemberIfSome<
-        'v,
-        CodeDescription,
-        MemberIfSome<
-            'v,
-            Value,
-            Member<
-                'v,
-                String,
-                Member<
-                    'v,
-                    Range,
-                    MemberIfSome<
-                        'v,
-                        Vec<DiagnosticRelatedInformation>,
-                        MemberIfSome<
-                            'v,
-                            DiagnosticSeverity,
-                            MemberIfSome<'v, String, MemberIfSome<'v, Vec<DiagnosticTag>, End>>,
-                        >,
-                    >,
-                >,
-            >,
+type DiagnosticWritten<'v> = Both<
+    Both<
+        Both<
+            Both<MemberIfSome<'v, NumberOrString>, MemberIfSome<'v, CodeDescription>>,
+            MemberIfSome<'v, Value>,
         >,
+        Both<Member<'v, String>, Member<'v, Range>>,
+    >,
+    Both<
+        Both<
+            MemberIfSome<'v, Vec<DiagnosticRelatedInformation>>,
+            MemberIfSome<'v, DiagnosticSeverity>,
+        >,
+        Both<MemberIfSome<'v, String>, MemberIfSome<'v, Vec<DiagnosticTag>>>,
     >,
 >;
 
@@ -116,36 +103,28 @@ impl WireText for Diagnostic {
     }
 
     fn write_to(&self, alloc: Global, out: &mut String) -> Result<(), NoMemory> {
-        let members: DiagnosticWritten<'_> = MemberIfSome(
-            "code",
-            &self.code,
-            MemberIfSome(
-                "codeDescription",
-                &self.code_description,
-                MemberIfSome(
-                    "data",
-                    &self.payload,
-                    Member(
-                        "message",
-                        &self.message,
-                        Member(
-                            "range",
-                            &self.range,
-                            MemberIfSome(
-                                "relatedInformation",
-                                &self.related_information,
-                                MemberIfSome(
-                                    "severity",
-                                    &self.severity,
-                                    MemberIfSome(
-                                        "source",
-                                        &self.source,
-                                        MemberIfSome("tags", &self.tags, End),
-                                    ),
-                                ),
-                            ),
-                        ),
+        let members: DiagnosticWritten<'_> = Both(
+            Both(
+                Both(
+                    Both(
+                        MemberIfSome("code", &self.code),
+                        MemberIfSome("codeDescription", &self.code_description),
                     ),
+                    MemberIfSome("data", &self.payload),
+                ),
+                Both(
+                    Member("message", &self.message),
+                    Member("range", &self.range),
+                ),
+            ),
+            Both(
+                Both(
+                    MemberIfSome("relatedInformation", &self.related_information),
+                    MemberIfSome("severity", &self.severity),
+                ),
+                Both(
+                    MemberIfSome("source", &self.source),
+                    MemberIfSome("tags", &self.tags),
                 ),
             ),
         );

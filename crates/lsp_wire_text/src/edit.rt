@@ -3,7 +3,7 @@ use crate::members::{Both, Members, Required};
 use crate::record::{Record, read_record};
 use crate::way::Way;
 use crate::wire_text::WireText;
-use crate::written::{End, Member, write_record};
+use crate::written::{Member, write_record};
 use json::Reader;
 use lsp_base::{Range, TextEdit};
 use lsp_text::Unread;
@@ -13,7 +13,7 @@ use std::alloc::Global;
 // The members of an edit, in the order of its row, and in that of their names.
 type TextEditRead = Both<Required<Range>, Required<String>>;
 
-type TextEditWritten<'v> = Member<'v, String, Member<'v, Range, End>>;
+type TextEditWritten<'v> = Both<Member<'v, String>, Member<'v, Range>>;
 
 #[tactic(auto, unfolding(lsp_base::specs::Edit::text_edit_row))]
 impl Record for TextEdit {
@@ -36,10 +36,9 @@ impl WireText for TextEdit {
     }
 
     fn write_to(&self, alloc: Global, out: &mut String) -> Result<(), NoMemory> {
-        let members: TextEditWritten<'_> = Member(
-            "newText",
-            &self.new_text,
-            Member("range", &self.range, End),
+        let members: TextEditWritten<'_> = Both(
+            Member("newText", &self.new_text),
+            Member("range", &self.range),
         );
         write_record(alloc, out, &members)
     }

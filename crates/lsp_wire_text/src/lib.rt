@@ -4,6 +4,7 @@
 mod completion;
 mod diagnostic;
 mod edit;
+mod markup;
 mod members;
 mod pieces;
 mod position;
@@ -15,8 +16,8 @@ mod wire_text;
 mod written;
 
 pub use members::{Both, Members, Omitted, Required};
-pub use record::{Record, read_record};
+pub use record::{Record, read_opened, read_record};
 pub use text::{read_text, read_tokens, write_text};
 pub use way::Way;
 pub use wire_text::{WireText, read_by_value, read_present, write_by_value};
-pub use written::{End, Entries, Member, MemberIfSome, write_record};
+pub use written::{Entries, Member, MemberIfSome, write_record};

@@ -3,7 +3,7 @@ use crate::members::{Both, Members, Required};
 use crate::record::{Record, read_record};
 use crate::way::Way;
 use crate::wire_text::WireText;
-use crate::written::{End, Member, write_record};
+use crate::written::{Member, write_record};
 use json::Reader;
 use lsp_base::{Position, Range};
 use lsp_text::Unread;
@@ -13,7 +13,7 @@ use std::alloc::Global;
 // The members of a position, in the order of its row, and in that of their names.
 type PositionRead = Both<Required<u32>, Required<u32>>;
 
-type PositionWritten<'v> = Member<'v, u32, Member<'v, u32, End>>;
+type PositionWritten<'v> = Both<Member<'v, u32>, Member<'v, u32>>;
 
 #[tactic(auto, unfolding(lsp_base::specs::Position::position_row))]
 impl Record for Position {
@@ -36,10 +36,9 @@ impl WireText for Position {
     }
 
     fn write_to(&self, alloc: Global, out: &mut String) -> Result<(), NoMemory> {
-        let members: PositionWritten<'_> = Member(
-            "character",
-            &self.character,
-            Member("line", &self.line, End),
+        let members: PositionWritten<'_> = Both(
+            Member("character", &self.character),
+            Member("line", &self.line),
         );
         write_record(alloc, out, &members)
     }
@@ -48,7 +47,7 @@ impl WireText for Position {
 // The members of a range, in the order of its row, and in that of their names.
 type RangeRead = Both<Required<Position>, Required<Position>>;
 
-type RangeWritten<'v> = Member<'v, Position, Member<'v, Position, End>>;
+type RangeWritten<'v> = Both<Member<'v, Position>, Member<'v, Position>>;
 
 #[tactic(auto, unfolding(lsp_base::specs::Position::range_row))]
 impl Record for Range {
@@ -71,7 +70,10 @@ impl WireText for Range {
     }
 
     fn write_to(&self, alloc: Global, out: &mut String) -> Result<(), NoMemory> {
-        let members: RangeWritten<'_> = Member("end", &self.end, Member("start", &self.start, End));
+        let members: RangeWritten<'_> = Both(
+            Member("end", &self.end),
+            Member("start", &self.start),
+        );
         write_record(alloc, out, &members)
     }
 }

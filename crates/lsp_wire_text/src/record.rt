@@ -2,7 +2,7 @@
 ghost use Rattle.std.specs.Prelude.{◌≡◌, ◌<◌, ◌∷◌, length, true, Some, option_map, IfOk, OnOk};
 ghost use Rattle.json.specs.Token.{begin_object};
 ghost use Rattle.serde_json.specs.Data.{no_members, Members as DataMembers};
-ghost use Rattle.lsp_shape.specs.Plain.{parts as plain_parts, no_parts, maybe_of};
+ghost use Rattle.lsp_shape.specs.Plain.{parts as plain_parts, no_parts, present, maybe_of};
 ghost use Rattle.lsp_shape.specs.Shape.{fields, maybe, no_fields};
 ghost use Rattle.lsp_wire_text.specs.Here.{read_here};
 ghost use Rattle.lsp_wire_text.specs.Members.{are_different, members_here, TakesMember};
@@ -53,43 +53,6 @@ fn read_members<S: Members>(
     Ok(())
 }
 
-// The members of the object that was opened.
-fn read_opened<S: Members>(
-    way: Way,
-    reader: &mut Reader<'_>,
-    mut members: S,
-) -> Result<S::Whole, Unread>
-    requires names { are_different (S.lines members).names ≡ true }
-    requires none { S.Holds members no_members }
-    ensures value { IfOk result (λ w. read_here way (fields ((S.lines members).before no_fields))
-        (begin_object ∷ reader.old) ≡ Some (plain_parts (S.parts w no_parts), reader.new)) }
-    ensures shorter { OnOk result (length reader.new < length reader.old) }
-{
-    read_members(way.inner()?, reader, &mut members)?;
-    members.whole().ok_or(Unread)
-}
-
-// What the members of the record that comes next are, and None where it is null.
-fn read_whole<S: Members>(
-    way: Way,
-    reader: &mut Reader<'_>,
-    members: S,
-) -> Result<Option<S::Whole>, Unread>
-    requires names { are_different (S.lines members).names ≡ true }
-    requires none { S.Holds members no_members }
-    ensures read { IfOk result
-        (λ o. read_here way (maybe (fields ((S.lines members).before no_fields))) reader.old
-        ≡ Some (maybe_of (option_map (λ w. plain_parts (S.parts w no_parts)) o), reader.new)) }
-    ensures shorter { OnOk result (length reader.new < length reader.old) }
-{
-    let token = reader.next().ok_or(Unread)?;
-    match token {
-        Token::Null => Ok(None),
-        Token::BeginObject => Ok(Some(read_opened(way, reader, members)?)),
-        _ => Err(Unread),
-    }
-}
-
 /// A record that is read member by member.
 pub trait Record: Wire {
     /// Its members.
@@ -106,14 +69,30 @@ pub trait Record: Wire {
         ensures { Self.shown result ≡ plain_parts (Self.Read.parts whole no_parts) };
 }
 
+/// The record whose object was opened.
+pub fn read_opened<T: Record>(way: Way, reader: &mut Reader<'_>) -> Result<T, Unread>
+    ensures read { IfOk result (λ x. read_here way (maybe T.shape) (begin_object ∷ reader.old)
+        ≡ Some (present (T.shown x), reader.new)) }
+    ensures shorter { OnOk result (length reader.new < length reader.old) }
+{
+    let mut members = T::members();
+    read_members(way.inner()?, reader, &mut members)?;
+    match members.whole() {
+        Some(whole) => Ok(T::of(whole)),
+        None => Err(Unread),
+    }
+}
+
 /// The record that comes next, and None where it is null.
 pub fn read_record<T: Record>(way: Way, reader: &mut Reader<'_>) -> Result<Option<T>, Unread>
     ensures read { IfOk result (λ o. read_here way (maybe T.shape) reader.old
         ≡ Some (maybe_of (option_map T.shown o), reader.new)) }
     ensures shorter { OnOk result (length reader.new < length reader.old) }
 {
-    match read_whole(way, reader, T::members())? {
-        Some(whole) => Ok(Some(T::of(whole))),
-        None => Ok(None),
+    let token = reader.next().ok_or(Unread)?;
+    match token {
+        Token::Null => Ok(None),
+        Token::BeginObject => Ok(Some(read_opened(way, reader)?)),
+        _ => Err(Unread),
     }
 }
