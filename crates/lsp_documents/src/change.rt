@@ -1,20 +1,21 @@
 // Changes of a text.
-ghost use Rattle.std.specs.Prelude.{◌≡◌, ◌≢◌, Some, None, Err, OnOk, OnErr, map, string_bytes};
+ghost use Rattle.std.specs.Prelude.{◌≡◌, ◌≢◌, Some, None, Err, IfErr, OnOk, OnErr, map, string_bytes};
 ghost use Rattle.std.specs.Str.{chars};
 ghost use Rattle.lsp_documents.specs.Documents.{change_of, changed, changed_in, all_changed};
 
 use crate::error::ChangeError;
 use crate::place::offsets;
 use lsp_base::{Range, TextDocumentContentChangeEvent};
-use std::alloc::AllocError;
 
 // Puts another text in place of the whole.
-fn replace_all(text: &mut String, new: &str) -> Result<(), AllocError>
+fn replace_all(text: &mut String, new: &str) -> Result<(), ChangeError>
     ensures ok { OnOk result (string_bytes text.new ≡ new.now) }
+    ensures causes { IfErr result (λ e. e ≡ ChangeError.NoMemory) }
     ensures err { OnErr result (string_bytes text.new ≡ string_bytes text.old) }
 {
     let end = text.len();
-    text.replace_range(0..end, new)
+    text.replace_range(0..end, new)?;
+    Ok(())
 }
 
 // Puts another text in place of what is between two positions.
@@ -49,10 +50,9 @@ fn apply(text: &mut String, change: &TextDocumentContentChangeEvent) -> Result<(
     ensures err { OnErr result (string_bytes text.new ≡ string_bytes text.old) }
 {
     match change.range {
-        None => replace_all(text, change.text.as_str())?,
-        Some(range) => replace(text, range, change.text.as_str())?,
+        None => replace_all(text, change.text.as_str()),
+        Some(range) => replace(text, range, change.text.as_str()),
     }
-    Ok(())
 }
 
 // Makes changes in order, or none: several are made in a copy of the text.

@@ -34,10 +34,10 @@ impl<T: Drop> From<AllocFailed<T>> for OpenError {
 
 impl fmt::Display for OpenError {
     fn fmt<W: fmt::Write>(&self, f: &mut fmt::Formatter<W>) -> fmt::Result {
-        match self {
-            OpenError::AlreadyOpen => f.write_str("the document is open"),
-            OpenError::NoMemory => f.write_str("out of memory"),
-        }
+        f.write_str(match self {
+            OpenError::AlreadyOpen => "the document is open",
+            OpenError::NoMemory => "out of memory",
+        })
     }
 }
 
@@ -64,11 +64,11 @@ impl From<AllocError> for ChangeError {
 
 impl fmt::Display for ChangeError {
     fn fmt<W: fmt::Write>(&self, f: &mut fmt::Formatter<W>) -> fmt::Result {
-        match self {
-            ChangeError::NotOpen => f.write_str("the document is not open"),
-            ChangeError::StartBehindEnd => f.write_str("a range has its start behind its end"),
-            ChangeError::NoMemory => f.write_str("out of memory"),
-        }
+        f.write_str(match self {
+            ChangeError::NotOpen => "the document is not open",
+            ChangeError::StartBehindEnd => "a range has its start behind its end",
+            ChangeError::NoMemory => "out of memory",
+        })
     }
 }
 
