@@ -1,248 +1,258 @@
 //! What changes make of a text: each row by hand from LSP 3.17, "Position" and
 //! "TextDocumentContentChangeEvent".
-use crate::events::{Change, URI, events};
+use crate::events::{Change, URI, change, open, text_in};
 use lsp_documents::{ChangeError, Documents};
 use lsp_rows::{RowError, Trial};
 use std::alloc::{AllocError, Global};
 
-// A name, a text, changes of it, and the text after them, or `REFUSED`.
-type Row = (&'static str, &'static str, &'static [Change], &'static str);
-
-const REFUSED: &str = "refused";
+// A name, a text, changes of it, and the text after them; none where they are refused.
+type Row = (
+    &'static str,
+    &'static str,
+    &'static [Change],
+    Option<&'static str>,
+);
 
 const FAR: u32 = u32::MAX;
 
-// Makes the changes of the document.
-fn change(alloc: Global, documents: &mut Documents, changes: &[Change]) -> Result<(), ChangeError> {
-    let events = events(alloc, changes, None)?;
-    documents.change(URI, 2, events.as_slice())
-}
-
-// The text of the document after the changes, or `REFUSED`.
-fn after(alloc: Global, text: &str, changes: &[Change]) -> Result<String, ChangeError> {
-    let text = String::from_str(alloc, text)?;
-    let mut documents = Documents::new(alloc);
-    match documents.open(URI, 1, text) {
-        Ok(()) => changed(alloc, &mut documents, changes),
-        Err(_) => Err(ChangeError::NoMemory),
-    }
-}
-
-// The same of the document that is open.
-fn changed(
+// The changes make that text, or are refused and leave the one before.
+fn try_changes(
+    trial: &mut Trial,
     alloc: Global,
-    documents: &mut Documents,
+    what: &str,
+    text: &str,
     changes: &[Change],
-) -> Result<String, ChangeError> {
-    match change(alloc, documents, changes) {
-        Ok(()) => text_in(alloc, documents),
-        Err(ChangeError::StartBehindEnd) => Ok(String::from_str(alloc, REFUSED)?),
-        Err(error) => Err(error),
-    }
+    after: Option<&str>,
+) {
+    let mut documents = Documents::new(alloc);
+    trial.same(what, open(alloc, &mut documents, URI, 1, text), Ok(()));
+    let (gives, left) = match after {
+        Some(after) => (Ok(()), after),
+        None => (Err(ChangeError::StartBehindEnd), text),
+    };
+    trial.same(what, change(alloc, &mut documents, 2, None, changes), gives);
+    trial.same(what, text_in(&documents), Some(left));
+    drop(documents);
 }
 
-fn text_in(alloc: Global, documents: &Documents) -> Result<String, ChangeError> {
-    match documents.get(URI) {
-        Some(document) => Ok(String::from_str(alloc, document.text())?),
-        None => Err(ChangeError::NotOpen),
-    }
-}
-
-// The changes of each row make its text.
-fn hold(alloc: Global, rows: &[Row]) -> Result<(), RowError> {
-    let mut trial = Trial::new(alloc);
-    for (what, text, changes, expected) in rows {
-        trial.text(*what, after(alloc, text, changes), expected);
-    }
-    trial.end()
-}
-
+// Characters are UTF-16 units.
 const UNITS: &[Row] = &[
-    ("a pair", "a😀b\n", &[(Some((0, 1, 0, 3)), "x")], "axb\n"),
-    ("half a pair", "a😀b", &[(Some((0, 2, 0, 2)), "x")], "ax😀b"),
+    (
+        "a pair",
+        "a😀b\n",
+        &[(Some((0, 1, 0, 3)), "x")],
+        Some("axb\n"),
+    ),
+    (
+        "half a pair",
+        "a😀b",
+        &[(Some((0, 2, 0, 2)), "x")],
+        Some("ax😀b"),
+    ),
     (
         "up to half a pair",
         "a😀b",
         &[(Some((0, 0, 0, 2)), "x")],
-        "x😀b",
+        Some("x😀b"),
     ),
     (
         "from half a pair",
         "a😀b",
         &[(Some((0, 2, 0, 4)), "x")],
-        "ax",
+        Some("ax"),
     ),
     (
         "half a pair behind its start",
         "a😀b",
         &[(Some((0, 2, 0, 1)), "x")],
-        "ax😀b",
+        Some("ax😀b"),
     ),
-    ("two bytes", "aéb", &[(Some((0, 2, 0, 2)), "x")], "aéxb"),
-    ("three bytes", "a漢b", &[(Some((0, 1, 0, 2)), "x")], "axb"),
+    (
+        "two bytes",
+        "aéb",
+        &[(Some((0, 2, 0, 2)), "x")],
+        Some("aéxb"),
+    ),
+    (
+        "three bytes",
+        "a漢b",
+        &[(Some((0, 1, 0, 2)), "x")],
+        Some("axb"),
+    ),
     (
         "the last of one unit",
         "\u{ffff}b",
         &[(Some((0, 1, 0, 1)), "x")],
-        "\u{ffff}xb",
+        Some("\u{ffff}xb"),
     ),
     (
         "the first of two",
         "\u{10000}b",
         &[(Some((0, 1, 0, 1)), "x")],
-        "x\u{10000}b",
+        Some("x\u{10000}b"),
     ),
 ];
 
-#[test]
-fn characters_are_utf16_units(rt: HostRuntime) -> Result<(), RowError> {
-    hold(rt.alloc(), UNITS)
-}
-
+// Lines have three ends.
 const ENDS: &[Row] = &[
     (
         "all three",
         "a\rb\nc\r\nd",
         &[(Some((3, 0, 3, 0)), "x")],
-        "a\rb\nc\r\nxd",
+        Some("a\rb\nc\r\nxd"),
     ),
     (
         "LF CR are two",
         "a\n\rb",
         &[(Some((2, 0, 2, 0)), "x")],
-        "a\n\rxb",
+        Some("a\n\rxb"),
     ),
     (
         "CR CR LF are two",
         "a\r\r\nb",
         &[(Some((2, 0, 2, 0)), "x")],
-        "a\r\r\nxb",
+        Some("a\r\r\nxb"),
     ),
     (
         "no other end",
         "a\u{2028}b",
         &[(Some((1, 0, 1, 0)), "x")],
-        "a\u{2028}bx",
+        Some("a\u{2028}bx"),
     ),
     (
         "behind CR LF",
         "a\r\nb",
         &[(Some((0, 2, 0, 2)), "x")],
-        "ax\r\nb",
+        Some("ax\r\nb"),
     ),
-    ("up to the end", "a\r\nb", &[(Some((0, 9, 7, 0)), "")], "a"),
+    (
+        "up to the end",
+        "a\r\nb",
+        &[(Some((0, 9, 7, 0)), "")],
+        Some("a"),
+    ),
     (
         "an end is taken out",
         "a\r\nb",
         &[(Some((0, 1, 1, 0)), "")],
-        "ab",
+        Some("ab"),
     ),
     (
         "an empty last line",
         "a\n",
         &[(Some((1, 0, 1, 0)), "x")],
-        "a\nx",
+        Some("a\nx"),
     ),
     (
         "CR and LF become one",
         "a\rb",
         &[(Some((1, 0, 1, 0)), "\n"), (Some((1, 0, 1, 0)), "x")],
-        "a\r\nxb",
+        Some("a\r\nxb"),
     ),
     (
         "CR and LF set apart",
         "\r\nb",
         &[(Some((0, 0, 1, 0)), "\r \n"), (Some((1, 0, 1, 1)), "x")],
-        "\rx\nb",
+        Some("\rx\nb"),
     ),
 ];
 
-#[test]
-fn lines_have_three_ends(rt: HostRuntime) -> Result<(), RowError> {
-    hold(rt.alloc(), ENDS)
-}
-
+// What is past the end is at the end.
 const PAST: &[Row] = &[
     (
         "a character",
         "ab\ncd",
         &[(Some((0, 9, 0, 9)), "x")],
-        "abx\ncd",
+        Some("abx\ncd"),
     ),
-    ("a line", "ab\ncd", &[(Some((2, 0, 2, 0)), "x")], "ab\ncdx"),
+    (
+        "a line",
+        "ab\ncd",
+        &[(Some((2, 0, 2, 0)), "x")],
+        Some("ab\ncdx"),
+    ),
     (
         "both by far",
         "ab\ncd",
         &[(Some((FAR, FAR, FAR, FAR)), "x")],
-        "ab\ncdx",
+        Some("ab\ncdx"),
     ),
-    ("all", "ab\ncd", &[(Some((0, 0, FAR, FAR)), "")], ""),
-    ("no text", "", &[(Some((0, 0, 3, 3)), "x")], "x"),
+    ("all", "ab\ncd", &[(Some((0, 0, FAR, FAR)), "")], Some("")),
+    ("no text", "", &[(Some((0, 0, 3, 3)), "x")], Some("x")),
     (
         "ends at one place",
         "ab",
         &[(Some((0, 9, 0, 7)), "x")],
-        "abx",
+        Some("abx"),
     ),
     (
         "a line and a character",
         "ab",
         &[(Some((1, 0, 0, 9)), "x")],
-        "abx",
+        Some("abx"),
     ),
     (
         "behind in the line",
         "abc",
         &[(Some((0, 2, 0, 1)), "x")],
-        REFUSED,
+        None,
     ),
     (
         "behind by a line",
         "ab\ncd",
         &[(Some((1, 0, 0, 2)), "x")],
-        REFUSED,
+        None,
     ),
 ];
 
-#[test]
-fn what_is_past_the_end_is_at_the_end(rt: HostRuntime) -> Result<(), RowError> {
-    hold(rt.alloc(), PAST)
-}
-
+// Changes are made in order, or not at all.
 const ORDER: &[Row] = &[
-    ("none", "ab", &[], "ab"),
-    ("an empty one", "ab", &[(Some((0, 1, 0, 1)), "")], "ab"),
-    ("the whole", "ab", &[(None, "c")], "c"),
-    ("the whole by nothing", "ab", &[(None, "")], ""),
+    ("none", "ab", &[], Some("ab")),
+    (
+        "an empty one",
+        "ab",
+        &[(Some((0, 1, 0, 1)), "")],
+        Some("ab"),
+    ),
+    ("the whole", "ab", &[(None, "c")], Some("c")),
+    ("the whole by nothing", "ab", &[(None, "")], Some("")),
     (
         "the second in what the first left",
         "ab",
         &[(Some((0, 0, 0, 0)), "x\n"), (Some((1, 0, 1, 1)), "y")],
-        "x\nyb",
+        Some("x\nyb"),
     ),
     (
         "one of the whole, one of a range",
         "ab",
         &[(None, "hello"), (Some((0, 0, 0, 1)), "J")],
-        "Jello",
+        Some("Jello"),
     ),
     (
         "a start that was behind its end before",
         "ab",
         &[(Some((0, 0, 0, 1)), ""), (Some((0, 2, 0, 1)), "x")],
-        "bx",
+        Some("bx"),
     ),
     (
         "the second is refused",
         "ab",
         &[(None, "hello"), (Some((0, 2, 0, 1)), "x")],
-        REFUSED,
+        None,
     ),
 ];
 
+const TABLES: &[&[Row]] = &[UNITS, ENDS, PAST, ORDER];
+
 #[test]
-fn changes_are_made_in_order_or_not_at_all(rt: HostRuntime) -> Result<(), RowError> {
-    hold(rt.alloc(), ORDER)
+fn changes_make_the_texts_of_the_rows(rt: HostRuntime) -> Result<(), RowError> {
+    let mut trial = Trial::new(rt.alloc());
+    for rows in TABLES {
+        for (what, text, changes, after) in *rows {
+            try_changes(&mut trial, rt.alloc(), what, text, changes, *after);
+        }
+    }
+    trial.end()
 }
 
 // A text, a change of a range, behind so many times a piece, in which it puts a `y`, and the text
@@ -300,26 +310,32 @@ fn behind(piece: &str, times: u32, line: u32, character: u32) -> (u32, u32) {
 
 // A piece so many times, and a text behind it.
 fn repeated(alloc: Global, piece: &str, times: u32, end: &str) -> Result<String, AllocError> {
-    let mut text = String::new(alloc);
-    for _ in 0..times {
-        text.push_str(piece)?;
-    }
+    let mut text = piece.repeat(alloc, times as usize)?;
     text.push_str(end)?;
     Ok(text)
 }
 
-fn try_edge(trial: &mut Trial, alloc: Global, edge: &Edge, times: u32) -> Result<(), AllocError> {
-    let text = repeated(alloc, edge.piece, times, edge.text)?;
-    let expected = repeated(alloc, edge.piece, times, edge.after)?;
+// The range of the edge behind so many pieces.
+fn range_behind(edge: &Edge, times: u32) -> (u32, u32, u32, u32) {
     let (line, character, last, end) = edge.range;
     let (line, character) = behind(edge.piece, times, line, character);
     let (last, end) = behind(edge.piece, times, last, end);
-    let found = after(
+    (line, character, last, end)
+}
+
+fn try_edge(trial: &mut Trial, alloc: Global, edge: &Edge, times: u32) -> Result<(), AllocError> {
+    let range = range_behind(edge, times);
+    let text = repeated(alloc, edge.piece, times, edge.text)?;
+    let after = repeated(alloc, edge.piece, times, edge.after)?;
+    let changes = [(Some(range), "y")];
+    try_changes(
+        trial,
         alloc,
+        edge.what,
         text.as_str(),
-        &[(Some((line, character, last, end)), "y")],
+        &changes,
+        Some(after.as_str()),
     );
-    trial.text(edge.what, found, expected.as_str());
     Ok(())
 }
 
@@ -330,7 +346,8 @@ fn blocks_have_no_edges(rt: HostRuntime) -> Result<(), RowError> {
     let mut trial = Trial::new(rt.alloc());
     for times in 234..246 {
         for edge in EDGES {
-            try_edge(&mut trial, rt.alloc(), edge, times)?;
+            let tried = try_edge(&mut trial, rt.alloc(), edge, times);
+            trial.same(edge.what, tried, Ok(()));
         }
     }
     trial.end()

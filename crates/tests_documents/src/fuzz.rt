@@ -1,5 +1,5 @@
-//! Random changes of random texts, made by the store and by a plain walk over a list of characters.
-use crate::events::URI;
+//! Random changes of random texts, made by the store and by a plain walk over the characters.
+use crate::events::{URI, text_in};
 use lsp_base::{Position, Range, TextDocumentContentChangeEvent};
 use lsp_documents::{ChangeError, Documents};
 use lsp_rows::{RowError, Trial};
@@ -23,7 +23,7 @@ struct Scale {
     pieces: u32,
     lines: u32,
     characters: u32,
-    // A text of more characters is replaced as a whole.
+    // A text of more bytes is replaced as a whole.
     longest: usize,
 }
 
@@ -58,19 +58,20 @@ fn some_range(random: &mut Pcg32, scale: Scale) -> Option<Range> {
     Some(Range::new(one, other))
 }
 
-// How many characters stand before a position.
-fn plain_place(text: &[char], position: Position) -> usize {
+// The byte at which a position is.
+fn plain_place(text: &str, position: Position) -> usize {
     let mut lines = position.line;
     let mut units = position.character;
-    for (i, c) in text.iter().enumerate() {
-        let ends = *c == '\n' || *c == '\r';
+    for (i, c) in text.char_indices() {
+        let ends = c == '\n' || c == '\r';
         if lines > 0 {
-            if ends && (*c == '\n' || text.get(i + 1) != Some(&'\n')) {
+            let next = text.as_bytes().get(i.saturating_add(1));
+            if ends && (c == '\n' || next != Some(&b'\n')) {
                 lines -= 1;
             }
             continue;
         }
-        let width = if *c < '\u{10000}' { 1 } else { 2 };
+        let width = if c < '\u{10000}' { 1 } else { 2 };
         if ends || units < width {
             return i;
         }
@@ -79,71 +80,28 @@ fn plain_place(text: &[char], position: Position) -> usize {
     text.len()
 }
 
-// The text after a change, or none where its start is behind its end.
+// Makes a change, and tells what the store is to answer.
 fn plain_change(
     alloc: Global,
-    text: &[char],
+    text: &mut String,
     range: Option<Range>,
     new: &str,
-) -> Result<Option<Vec<char>>, AllocError> {
+) -> Result<Result<(), ChangeError>, AllocError> {
+    let old = text.as_str();
     let (start, end) = match range {
-        None => (0, text.len()),
-        Some(range) => (plain_place(text, range.start), plain_place(text, range.end)),
+        None => (0, old.len()),
+        Some(range) => (plain_place(old, range.start), plain_place(old, range.end)),
     };
     if end < start {
-        return Ok(None);
+        return Ok(Err(ChangeError::StartBehindEnd));
     }
-    let before = text.get(..start).unwrap_or(text);
-    let behind = text.get(end..).unwrap_or(text);
-    Ok(Some(joined(alloc, before, new, behind)?))
+    let before = old.get(..start).unwrap_or(old);
+    let behind = old.get(end..).unwrap_or(old);
+    *text = format!(in alloc; "{before}{new}{behind}")?;
+    Ok(Ok(()))
 }
 
-// The characters, the text's, and those behind it.
-fn joined(
-    alloc: Global,
-    before: &[char],
-    new: &str,
-    behind: &[char],
-) -> Result<Vec<char>, AllocError> {
-    let mut all = Vec::from_slice(alloc, before)?;
-    for c in new.chars() {
-        all.push(c)?;
-    }
-    all.extend_from_slice(behind)?;
-    Ok(all)
-}
-
-// The document has the text of these characters.
-fn has_text(documents: &Documents, text: &[char]) -> bool {
-    match documents.get(URI) {
-        Some(document) => document.text().chars().eq(text.iter().copied()),
-        None => false,
-    }
-}
-
-// One change both ways.
-fn step(
-    alloc: Global,
-    documents: &mut Documents,
-    text: &mut Vec<char>,
-    version: i32,
-    change: TextDocumentContentChangeEvent,
-    trial: &mut Trial,
-) -> Result<(), AllocError> {
-    let changed = plain_change(alloc, text.as_slice(), change.range, change.text.as_str())?;
-    let found = documents.change(URI, version, &[change]);
-    match changed {
-        None => trial.same(version, found, Err(ChangeError::StartBehindEnd)),
-        Some(changed) => {
-            trial.same(version, found, Ok(()));
-            *text = changed;
-        }
-    }
-    trial.is_true(version, has_text(documents, text.as_slice()));
-    Ok(())
-}
-
-// A change of a text of that many characters.
+// A change of a text of that many bytes.
 fn some_change(
     alloc: Global,
     random: &mut Pcg32,
@@ -162,24 +120,46 @@ fn some_change(
     })
 }
 
+// One change both ways.
+fn step(
+    alloc: Global,
+    documents: &mut Documents,
+    text: &mut String,
+    random: &mut Pcg32,
+    scale: Scale,
+    version: i32,
+    trial: &mut Trial,
+) -> Result<(), AllocError> {
+    let change = some_change(alloc, random, scale, text.len())?;
+    let expected = plain_change(alloc, text, change.range, change.text.as_str())?;
+    let found = documents.change(URI, version, &[change]);
+    trial.same(version, found, expected);
+    trial.same(version, text_in(documents), Some(text.as_str()));
+    Ok(())
+}
+
 // So many changes both ways.
 fn run(alloc: Global, seed: u64, changes: i32, scale: Scale) -> Result<(), RowError> {
-    let mut trial = Trial::new(alloc);
-    let mut documents = Documents::new(alloc);
     let mut random = Pcg32::new(seed, 54);
-    let mut text = Vec::new(alloc);
-    trial.same("opened", documents.open(URI, 0, String::new(alloc)), Ok(()));
+    let mut documents = Documents::new(alloc);
+    let mut text = String::new(alloc);
+    let mut trial = Trial::new(alloc);
+    let opened = documents.open(URI, 0, String::new(alloc));
+    trial.same("opened", opened, Ok(()));
     for version in 0..changes {
-        let change = some_change(alloc, &mut random, scale, text.len())?;
-        step(
+        let made = step(
             alloc,
             &mut documents,
             &mut text,
+            &mut random,
+            scale,
             version,
-            change,
             &mut trial,
-        )?;
+        );
+        trial.same(version, made, Ok(()));
     }
+    drop(documents);
+    drop(text);
     trial.end()
 }
 
@@ -189,7 +169,7 @@ fn a_plain_walk_makes_the_same_of_short_texts(rt: HostRuntime) -> Result<(), Row
         pieces: 5,
         lines: 7,
         characters: 9,
-        longest: 60,
+        longest: 120,
     };
     run(rt.alloc(), 20261128, 100_000, scale)
 }
@@ -201,7 +181,7 @@ fn a_plain_walk_makes_the_same_of_long_texts(rt: HostRuntime) -> Result<(), RowE
         pieces: 800,
         lines: 300,
         characters: 1200,
-        longest: 2000,
+        longest: 4000,
     };
     run(rt.alloc(), 20261129, 3_000, scale)
 }

@@ -1,123 +1,119 @@
 //! Which documents are open, and where positions are.
-use crate::events::{Change, events};
+use crate::events::{Change, URI, change, open};
 use lsp_base::Position;
 use lsp_documents::{Document, Documents};
 use lsp_rows::{RowError, Trial};
-use std::alloc::{AllocError, Global};
+use std::alloc::Global;
 
 // What the editor tells, or what is asked, of the document of a URI.
 enum Call {
     Open(&'static str, i32, &'static str),
-    // With that `rangeLength`.
-    Change(&'static str, i32, Option<u32>, &'static [Change]),
+    // Of that of `URI`, with that `rangeLength`.
+    Change(i32, Option<u32>, &'static [Change]),
     Close(&'static str),
     Get(&'static str),
 }
 
-// Calls, and what they give: the version and the text of a document, or what `Debug` shows.
-const CALLS: &[(&str, Call, &str)] = &[
+// A name, a call, and what `Debug` shows of what it gives: of a document its version and its text.
+type Row = (&'static str, Call, &'static str);
+
+const CALLS: &[Row] = &[
     ("one is opened", Call::Open("file:///a", 5, "ab"), "Ok(())"),
     (
         "it is open",
         Call::Open("file:///a", 6, "cd"),
         "Err(AlreadyOpen)",
     ),
-    ("the first stays", Call::Get("file:///a"), "5 ab"),
+    (
+        "the first stays",
+        Call::Get("file:///a"),
+        r#"Some((5, "ab"))"#,
+    ),
     (
         "another text of a URI",
         Call::Open("file:///A", 1, "ef"),
         "Ok(())",
     ),
+    ("a change", Call::Change(4, None, &[(None, "gh")]), "Ok(())"),
     (
-        "a change",
-        Call::Change("file:///a", 4, None, &[(None, "gh")]),
-        "Ok(())",
+        "its version went back",
+        Call::Get("file:///a"),
+        r#"Some((4, "gh"))"#,
     ),
-    ("its version went back", Call::Get("file:///a"), "4 gh"),
+    ("no change", Call::Change(7, None, &[]), "Ok(())"),
     (
-        "no change",
-        Call::Change("file:///a", 7, None, &[]),
-        "Ok(())",
+        "it has a version",
+        Call::Get("file:///a"),
+        r#"Some((7, "gh"))"#,
     ),
-    ("it has a version", Call::Get("file:///a"), "7 gh"),
     (
         "a bad range",
-        Call::Change("file:///a", 8, None, &[(Some((0, 2, 0, 1)), "x")]),
+        Call::Change(8, None, &[(Some((0, 2, 0, 1)), "x")]),
         "Err(StartBehindEnd)",
     ),
-    ("nothing changed", Call::Get("file:///a"), "7 gh"),
+    (
+        "nothing changed",
+        Call::Get("file:///a"),
+        r#"Some((7, "gh"))"#,
+    ),
     (
         "a length that lies",
-        Call::Change("file:///a", 8, Some(99), &[(Some((0, 0, 0, 1)), "i")]),
+        Call::Change(8, Some(99), &[(Some((0, 0, 0, 1)), "i")]),
         "Ok(())",
     ),
-    ("is ignored", Call::Get("file:///a"), "8 ih"),
-    ("the other stays", Call::Get("file:///A"), "1 ef"),
-    ("one is closed", Call::Close("file:///a"), "8 ih"),
-    ("it is not open", Call::Get("file:///a"), "none"),
-    ("nor is it closed again", Call::Close("file:///a"), "none"),
+    ("is ignored", Call::Get("file:///a"), r#"Some((8, "ih"))"#),
+    (
+        "the other stays",
+        Call::Get("file:///A"),
+        r#"Some((1, "ef"))"#,
+    ),
+    (
+        "one is closed",
+        Call::Close("file:///a"),
+        r#"Some((8, "ih"))"#,
+    ),
+    ("it is not open", Call::Get("file:///a"), "None"),
+    ("nor is it closed again", Call::Close("file:///a"), "None"),
     (
         "nor changed",
-        Call::Change("file:///a", 9, None, &[(None, "gh")]),
+        Call::Change(9, None, &[(None, "gh")]),
         "Err(NotOpen)",
     ),
 ];
 
-fn shown(alloc: Global, document: Option<&Document>) -> Result<String, AllocError> {
-    match document {
-        Some(document) => {
-            let version = document.version();
-            let text = document.text();
-            format!(in alloc; "{version} {text}")
-        }
-        None => String::from_str(alloc, "none"),
-    }
+fn shown(document: Option<&Document>) -> Option<(i32, &str)> {
+    let document = document?;
+    Some((document.version(), document.text()))
 }
 
-// What a call gives.
-fn given(alloc: Global, documents: &mut Documents, call: &Call) -> Result<String, AllocError> {
+// A call gives what `Debug` shows so.
+fn try_call(trial: &mut Trial, alloc: Global, documents: &mut Documents, row: &Row) {
+    let (what, call, gives) = row;
     match call {
-        Call::Open(uri, version, text) => opened(alloc, documents, uri, *version, text),
-        Call::Change(uri, version, range_length, changes) => {
-            changed(alloc, documents, uri, *version, *range_length, changes)
+        Call::Open(uri, version, text) => {
+            trial.shows(*what, open(alloc, documents, uri, *version, text), gives);
         }
-        Call::Close(uri) => shown(alloc, documents.close(uri).as_ref()),
-        Call::Get(uri) => shown(alloc, documents.get(uri)),
+        Call::Change(version, range_length, changes) => {
+            let changed = change(alloc, documents, *version, *range_length, changes);
+            trial.shows(*what, changed, gives);
+        }
+        Call::Close(uri) => {
+            let closed = documents.close(uri);
+            trial.shows(*what, shown(closed.as_ref()), gives);
+            drop(closed);
+        }
+        Call::Get(uri) => trial.shows(*what, shown(documents.get(uri)), gives),
     }
-}
-
-fn opened(
-    alloc: Global,
-    documents: &mut Documents,
-    uri: &str,
-    version: i32,
-    text: &str,
-) -> Result<String, AllocError> {
-    let text = String::from_str(alloc, text)?;
-    let opened = documents.open(uri, version, text);
-    format!(in alloc; "{opened:?}")
-}
-
-fn changed(
-    alloc: Global,
-    documents: &mut Documents,
-    uri: &str,
-    version: i32,
-    range_length: Option<u32>,
-    changes: &[Change],
-) -> Result<String, AllocError> {
-    let changes = events(alloc, changes, range_length)?;
-    let changed = documents.change(uri, version, changes.as_slice());
-    format!(in alloc; "{changed:?}")
 }
 
 #[test]
 fn documents_are_opened_changed_and_closed(rt: HostRuntime) -> Result<(), RowError> {
-    let mut trial = Trial::new(rt.alloc());
     let mut documents = Documents::new(rt.alloc());
-    for (what, call, gives) in CALLS {
-        trial.text(*what, given(rt.alloc(), &mut documents, call), gives);
+    let mut trial = Trial::new(rt.alloc());
+    for row in CALLS {
+        try_call(&mut trial, rt.alloc(), &mut documents, row);
     }
+    drop(documents);
     trial.end()
 }
 
@@ -161,13 +157,14 @@ fn try_places(trial: &mut Trial, document: &Document) {
 
 #[test]
 fn positions_are_found(rt: HostRuntime) -> Result<(), RowError> {
-    let mut trial = Trial::new(rt.alloc());
     let mut documents = Documents::new(rt.alloc());
-    let text = String::from_str(rt.alloc(), TEXT)?;
-    trial.same("opened", documents.open("file:///a", 1, text), Ok(()));
-    match documents.get("file:///a") {
+    let mut trial = Trial::new(rt.alloc());
+    let opened = open(rt.alloc(), &mut documents, URI, 1, TEXT);
+    trial.same("opened", opened, Ok(()));
+    match documents.get(URI) {
         Some(document) => try_places(&mut trial, document),
         None => trial.is_true("it is open", false),
     }
+    drop(documents);
     trial.end()
 }
