@@ -1,4 +1,5 @@
 pub mod Back
+pub mod Cancel
 pub mod Faults
 pub mod Ids
 pub mod Message

@@ -7,6 +7,7 @@
 //! and `specs/Back.antt` which messages are read back from their text.
 #![tactic(auto)]
 
+mod cancel;
 mod code;
 mod error;
 mod id;
@@ -18,6 +19,7 @@ mod response;
 mod value;
 mod write;
 
+pub use cancel::cancelled_id;
 pub use code::ErrorCode;
 pub use error::Error;
 pub use id::Id;
