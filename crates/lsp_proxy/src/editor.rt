@@ -8,14 +8,13 @@ ghost use Rattle.lsp_proxy.specs.Tables.{show_asker};
 ghost use Rattle.lsp_proxy.specs.Shown.{show_proxy, show_opening, MakesSent, IsSame};
 
 use crate::parts::{
-    LAST_ID, Sent, answered_id, cancels, exit, named_by, one, refusal, response, shutdown, split,
-    under_drawn,
+    LAST_ID, Sent, answered_id, cancels, exit, one, refusal, response, shutdown, split, under_drawn,
 };
 use crate::presence::{are_others_gone, is_lowest, presence_of};
 use crate::proxy::{Opening, Proxy};
 use crate::side::{Presence, Side};
 use crate::table::{Asker, Table};
-use lsp_rpc::{ErrorCode, Id, Message, NoMemory, Request, Response};
+use lsp_rpc::{ErrorCode, Id, Message, NoMemory, Request, Response, cancelled_id};
 use serde_json::Value;
 
 // Another asker waits for the response to `initialize`.
@@ -227,7 +226,7 @@ impl Proxy {
         ensures { IfOk result (MakesSent self.now self.now (cancel_heard k (show_request request))) }
     {
         let (_, _, params) = request.into_parts();
-        let place = match named_by(params) {
+        let place = match cancelled_id(params) {
             Some(id) => self.asked.place(&Asker { editor: k, id }),
             None => None,
         };

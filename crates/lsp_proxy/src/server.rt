@@ -11,14 +11,13 @@ ghost use Rattle.lsp_proxy.specs.Shown.{show_opening, show_proxy, MakesSent, IsS
 
 use crate::outgoing::{Outgoing, here};
 use crate::parts::{
-    LAST_ID, Sent, answered_id, cancels, copy, exit, named_by, one, refusal, response, split,
-    under_drawn,
+    LAST_ID, Sent, answered_id, cancels, copy, exit, one, refusal, response, split, under_drawn,
 };
 use crate::presence::{lowest_of, presence_of};
 use crate::proxy::{Opening, Proxy};
 use crate::side::{Presence, Side};
 use crate::table::Asker;
-use lsp_rpc::{Error, ErrorCode, Id, Message, NoMemory, Request, Response};
+use lsp_rpc::{Error, ErrorCode, Id, Message, NoMemory, Request, Response, cancelled_id};
 use serde_json::Value;
 use std::alloc::Global;
 
@@ -202,7 +201,7 @@ impl Proxy {
         ensures { IfOk result (MakesSent self.now self.now (server_cancel (show_request request))) }
     {
         let (_, _, params) = request.into_parts();
-        match named_by(params) {
+        match cancelled_id(params) {
             Some(id) => self.cancels_of(id),
             None => Ok(Vec::new(self.alloc)),
         }
