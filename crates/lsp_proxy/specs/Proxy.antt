@@ -1,6 +1,6 @@
 -- The state of a proxy between editors and one server, and what it makes of each message: the rows
 -- of the table in docs/DEFINITIONS.md, "The proxy", in its order.
-use Rattle.std.specs.Prelude.{IsTrue, ℕ, ◌+◌, pos, List, [], ◌∷◌, ◌++◌, map, Bool, true, false, not, ◌||◌, ◌&&◌, ◌==◌, Option, Some, None, option_and_then, Result, Ok, Err, bytes_eq, codes, nat_lt, slice_get, slice_set, replicate, unwrap_or, if◌then◌else◌}
+use Rattle.std.specs.Prelude.{◌≡◌, ◌<◌, length, IsTrue, ℕ, ◌+◌, pos, List, [], ◌∷◌, ◌++◌, map, Bool, true, false, not, ◌||◌, ◌&&◌, ◌==◌, Option, Some, None, option_and_then, Result, Ok, Err, bytes_eq, codes, nat_lt, slice_get, slice_set, replicate, unwrap_or, if◌then◌else◌}
 use Rattle.std.specs.List.{filter}
 use Rattle.serde_json.specs.Data.{Data, unsigned, null, number, object, no_members, member}
 use Rattle.lsp_rpc.specs.declared.code.ErrorCode.TheVariants.{InvalidRequest, InternalError}
@@ -73,6 +73,11 @@ presence_in ps k = unwrap_or (slice_get ps k) Gone
 
 abbrev pub presence : ℕ → ProxyState → Presence
 presence k s = presence_in s.editors k
+
+-- editor k is one of the editors, and isn't gone
+pub record IsPresent (k : ℕ) (s : ProxyState) : Type 0 where
+  pub known : k < length s.editors
+  pub here : is_gone (presence k s) ≡ false
 
 -- every entry is of that editor
 abbrev pub is_editor : Option ℕ → ℕ → Bool
