@@ -44,6 +44,13 @@ pub record CountsWrite {S A : Type 0} (faults_of : S → ℕ) (old new : S) (res
   pub unfailed : OnOk result (faults_of new ≡ faults_of old)
   pub no_memory : IsErrOf result NoMemory → faults_of new ≡ faults_of old
 
+-- a call hands bytes to a sink, flushes none, and changes nothing beside it; the count of its faults rises exactly where a
+-- write failed
+pub record OnlyTakes {S B A : Type 0} (flushed_of : S → Option ℕ) (faults_of : S → ℕ) (beside_of : S → B) (old new : S) (result : Result A Refused) : Type 0 where
+  pub flushed : flushed_of new ≡ flushed_of old
+  pub beside : beside_of new ≡ beside_of old
+  pub counts : CountsWrite faults_of old new result
+
 -- each refused write or flush failed, and is counted once, up to the count's last value
 pub record CountsRefused {S A : Type 0} (faults_of : S → ℕ) (old new : S) (result : Result A Refused) : Type 0 where
   pub only : OnErr result (IsErrOf result Failed)
