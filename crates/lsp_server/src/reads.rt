@@ -1,10 +1,10 @@
 // The loop over the reads, whatever is done with their bytes.
-ghost use Rattle.std.specs.Prelude.{◌≡◌, ◌≤◌, IfErr};
+ghost use Rattle.std.specs.Prelude.{◌≡◌, IfErr};
 ghost use Rattle.std.specs.Result.{result_err};
 ghost use Rattle.lsp_server.specs.Consuming.{IsLawfulConsumer, Did, Took, TookLast, AllTook, piece as a_piece, end as the_end, consumer_outcome, last_outcome};
-ghost use Rattle.lsp_server.specs.Leaves.{LeavesFaults, StaysFlushed, TellsFaults, WithinReads};
+ghost use Rattle.lsp_server.specs.Leaves.{StaysFlushed, StepsFlushed, TellsFaults, WithinReads};
 ghost use Rattle.lsp_server.specs.Reads.{moment, Made, InOrder};
-ghost use Rattle.lsp_server.specs.Errors.{IsBetweenReads, IsInStep, EndsInStep};
+ghost use Rattle.lsp_server.specs.Errors.{IsBetweenReads, EndsInStep};
 
 use crate::step::{flush, flush_after};
 use crate::{Consumer, Failed, ServeError, Sink, Transport};
@@ -78,10 +78,7 @@ fn take_flushed<O: Sink, S, C: Consumer<S>>(
     requires opened { C.meaning.is_open (consumer.old, state.old) }
     ensures did { Did C.meaning (consumer.old, state.old) (a_piece piece.now) (consumer_outcome result)
         (O.taken sink.old) (O.taken sink.new) (consumer.new, state.new) }
-    ensures flushed { StaysFlushed (O.taken sink.old) (O.flushed sink.old)
-        (O.taken sink.new) (O.flushed sink.new) (result_err result) }
-    ensures sink { LeavesFaults O.faults O.beside sink.old sink.new (result_err result) }
-    ensures others { IfErr result IsInStep }
+    ensures sink { StepsFlushed O.taken O.flushed O.faults O.beside sink.old sink.new result }
     ensures tied { C.tied consumer.new ≡ C.tied consumer.old }
 {
     match consumer.take(state, piece, sink) {
@@ -103,10 +100,7 @@ fn end_flushed<O: Sink, S, C: Consumer<S>>(
     requires opened { C.meaning.is_open (consumer.old, state.old) }
     ensures did { Did C.meaning (consumer.old, state.old) the_end (last_outcome result)
         (O.taken sink.old) (O.taken sink.new) (consumer.new, state.new) }
-    ensures flushed { StaysFlushed (O.taken sink.old) (O.flushed sink.old)
-        (O.taken sink.new) (O.flushed sink.new) (result_err result) }
-    ensures sink { LeavesFaults O.faults O.beside sink.old sink.new (result_err result) }
-    ensures others { IfErr result IsInStep }
+    ensures sink { StepsFlushed O.taken O.flushed O.faults O.beside sink.old sink.new result }
     ensures tied { C.tied consumer.new ≡ C.tied consumer.old }
 {
     match consumer.end(state, sink) {
