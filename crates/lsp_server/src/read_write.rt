@@ -1,6 +1,6 @@
 // A reader and a writer of std as a source and a sink: the edge of what is proved.
 ghost use Rattle.std.specs.Prelude.{◌≡◌, ◌<◌, length, OnErr};
-ghost use Rattle.lsp_server.specs.Memory.{next_number};
+ghost use Rattle.lsp_server.specs.Memory.{number_after};
 ghost use Rattle.lsp_server.specs.Calls.{GivesBytes, CountsRead, TakesBytes, FlushesBytes, CountsRefused};
 
 use crate::{Failed, Refused, Sink, Source};
@@ -40,7 +40,7 @@ impl<R: Read> Source for ReadSource<R> {
 
         // A failed read is counted once, up to the count's last value.
         ensures one_more { OnErr result (failed_reads self.new
-            ≡ next_number (failed_reads self.old)) }
+            ≡ number_after (failed_reads self.old)) }
     {
         match self.reader.read(piece) {
             Ok(n) => Ok(n),
