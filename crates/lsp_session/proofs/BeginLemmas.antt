@@ -13,7 +13,8 @@ use Rattle.lsp_session.specs.declared.life_check.LifeCheck.{LifeCheck}
 use Rattle.lsp_session.specs.declared.life_check.LifeCheck.TheVariants.{Passes, NotInitialized, Invalid}
 use Rattle.lsp_session.specs.Item.{ItemData, message, fault, tick}
 use Rattle.lsp_session.specs.Semantics.{Semantics, Reading, call, missing, unexpected, unfit, Fresh, Held, Progress, Pending, Done}
-use Rattle.lsp_session.specs.Admission.{Verdict, Silence, Refuses, Answers, Cancels, Exits, Starts, Occasion, is_live, refuse, cancel, cancel_live, cancels, cancelled_id, started as started_verdict, unless_crowded, is_limited, if_of_kind, check_life, passed, quiet, called, by_layer, by_entry}
+use Rattle.lsp_rpc.specs.Cancel.{cancelled_id}
+use Rattle.lsp_session.specs.Admission.{Verdict, Silence, Refuses, Answers, Cancels, Exits, Starts, Occasion, is_live, refuse, cancel, cancel_live, cancels, started as started_verdict, unless_crowded, is_limited, if_of_kind, check_life, passed, quiet, called, by_layer, by_entry}
 use Rattle.lsp_session.specs.State.{Work, State, Effect, marked, dues, moved_up, moved_slots, moved_queue, entered, has_room, is_of, is_notification, without, notifications}
 use Rattle.lsp_session.specs.Run.{reads_in, Applies, admission_of, occasion, after_poll, Order, Poll, PollsAt, Rounds, Picked, Step, Run}
 use Rattle.lsp_session.specs.Begins.{Begin, passing, begins, begun_by_polls, begun_by_rounds, begun, starts, started, IsRequested, BeginsWhereStarted}

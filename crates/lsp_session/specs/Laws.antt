@@ -12,7 +12,8 @@ use Rattle.lsp_session.specs.declared.table.Layer.{Layer}
 use Rattle.lsp_session.specs.declared.table.Layer.TheVariants.{Initialize, Exit, Cancel}
 use Rattle.lsp_session.specs.Item.{ItemData, message, item_has_float}
 use Rattle.lsp_session.specs.Semantics.{Semantics, Phase, Fresh, Held}
-use Rattle.lsp_session.specs.Admission.{Cancels, Starts, is_live, cancelled_id}
+use Rattle.lsp_session.specs.Admission.{Cancels, Starts, is_live}
+use Rattle.lsp_rpc.specs.Cancel.{cancelled_id}
 use Rattle.lsp_session.specs.State.{Work, State, Effect, IsSettled, FitsLife, live, opening_by, marked, dues}
 use Rattle.lsp_session.specs.Works.{AreSound}
 use Rattle.lsp_session.specs.Run.{answer, cancelled, Admits, admission_of, Order, Poll, PollsAt, Round, Drains, Picked, Step, Run, is_exit, has_exit}
