@@ -1,5 +1,5 @@
 -- What the exit status tells of what answering a query ended with.
-use Rattle.std.proofs.Common.{◌≡◌, ◌≢◌, ℕ, ◌≤◌, ◌<◌, ◌+◌, ◌⊎◌, inl, inr, List, length, Bool, true, false, refl, ap, arith}
+use Rattle.std.proofs.Common.{◌≡◌, ◌≢◌, ℕ, ◌≤◌, ◌<◌, ◌+◌, ◌-◌, ◌^◌, ◌⊎◌, inl, inr, List, length, Bool, true, false, refl, ap, arith}
 use Rattle.std.specs.Prelude.{Option, Some, None, Result, Ok, Err, IfOk, IfErr, OnErr, IfSome}
 use Rattle.std.specs.Bool.{MatchBool}
 use Rattle.std.specs.Result.{result_err}
@@ -9,15 +9,17 @@ use Rattle.lsp_server.specs.Errors.{IsBetweenReads}
 use Rattle.lsp_server.specs.Leaves.{StaysFlushed, TellsFaults, WithinReads}
 use Rattle.lsp_server.specs.Reads.{Moment}
 use Rattle.lsp_server.specs.Served.{call_bytes}
+use Rattle.lsp_server.specs.ServesSession.{SourceSinkTold}
 use Rattle.lsp_server.specs.SourceSink.{CountRose, IsFlushed}
 use Rattle.lsp_program.specs.Status.{status_of}
 use Rattle.lsp_program.proofs.StatusLemmas.{status_of_high, status_three, status_four, status_five, status_between}
 use Rattle.lsp_index.specs.Answered.{WroteNone}
-use Rattle.lsp_index.specs.Ended.{status_from}
+use Rattle.lsp_index.specs.Ended.{AnswerEnded, StatusTells, status_from}
+use Rattle.lsp_index.specs.Queries.{QueryData}
 
 -- ---- which status it is
 
-pub known_of : (r : Result Bool ServeError) → IfErr r (λ e. (n : ℕ) → e ≢ DeskSpent n)
+known_of : (r : Result Bool ServeError) → IfErr r (λ e. (n : ℕ) → e ≢ DeskSpent n)
     → (status_from r ≤ 8) × (status_from r ≢ 1) × (status_from r ≢ 2) × (status_from r ≢ 7)
 known_of (Ok true) h = (omega arith, λ e. absurd (cc), λ e. absurd (cc), λ e. absurd (cc))
 known_of (Ok false) h = (omega arith, λ e. absurd (cc), λ e. absurd (cc), λ e. absurd (cc))
@@ -30,12 +32,12 @@ known_of (Err (DeskSpent n)) h = absurd (h n refl)
 -- ---- no line is bad, or one is
 
 module _ (left : Option (List ℕ)) (A B : List ℕ → Type 0) where
-  pub done_of : (r : Result Bool ServeError) → IfOk r (λ good. IfSome left (λ bytes. MatchBool good (A bytes) (B bytes))) → status_from r ≡ 0 → IfSome left A
+  done_of : (r : Result Bool ServeError) → IfOk r (λ good. IfSome left (λ bytes. MatchBool good (A bytes) (B bytes))) → status_from r ≡ 0 → IfSome left A
   done_of (Ok true) d h = d
   done_of (Ok false) d h = absurd (cc)
   done_of (Err e) d h = absurd (omega (arith, status_of_high e))
 
-  pub bad_of : (r : Result Bool ServeError) → IfOk r (λ good. IfSome left (λ bytes. MatchBool good (A bytes) (B bytes))) → status_from r ≡ 8 → IfSome left B
+  bad_of : (r : Result Bool ServeError) → IfOk r (λ good. IfSome left (λ bytes. MatchBool good (A bytes) (B bytes))) → status_from r ≡ 8 → IfSome left B
   bad_of (Ok true) d h = absurd (cc)
   bad_of (Ok false) d h = d
   bad_of (Err ReadFault) d h = absurd (cc)
@@ -46,7 +48,7 @@ module _ (left : Option (List ℕ)) (A B : List ℕ → Type 0) where
 
 -- ---- what is flushed
 
-pub flushed_of : (r : Result Bool ServeError) (taken taken_after : Option (List ℕ)) (count count_after : Option ℕ) → StaysFlushed taken count taken_after count_after (result_err r)
+flushed_of : (r : Result Bool ServeError) (taken taken_after : Option (List ℕ)) (count count_after : Option ℕ) → StaysFlushed taken count taken_after count_after (result_err r)
     → (status_from r ≡ 0) ⊎ (status_from r ≡ 3) ⊎ (status_from r ≡ 5) ⊎ (status_from r ≡ 8) → IsFlushed taken count → IsFlushed taken_after count_after
 flushed_of (Ok b) taken taken_after count count_after s h = s.flushed
 flushed_of (Err ReadFault) taken taken_after count count_after s h = s.flushed_at tt
@@ -61,26 +63,26 @@ is_some_error : (e f : ServeError) → Some e ≡ Some f → e ≡ f
 is_some_error e f is = cc
 
 module _ (reads reads_after writes writes_after : ℕ) where
-  pub read_of : (r : Result Bool ServeError) → TellsFaults reads reads_after writes writes_after (result_err r) → status_from r ≡ 3 → CountRose reads reads_after
+  read_of : (r : Result Bool ServeError) → TellsFaults reads reads_after writes writes_after (result_err r) → status_from r ≡ 3 → CountRose reads reads_after
   read_of (Ok true) t h = absurd (cc)
   read_of (Ok false) t h = absurd (cc)
   read_of (Err e) t h = t.read (status_three e h)
 
-  pub write_of : (r : Result Bool ServeError) → TellsFaults reads reads_after writes writes_after (result_err r) → status_from r ≡ 4 → CountRose writes writes_after
+  write_of : (r : Result Bool ServeError) → TellsFaults reads reads_after writes writes_after (result_err r) → status_from r ≡ 4 → CountRose writes writes_after
   write_of (Ok true) t h = absurd (cc)
   write_of (Ok false) t h = absurd (cc)
   write_of (Err e) t h = t.write (status_four e h)
 
-  pub read_told_of : (r : Result Bool ServeError) → TellsFaults reads reads_after writes writes_after (result_err r) → reads < reads_after → status_from r ≡ 3
+  read_told_of : (r : Result Bool ServeError) → TellsFaults reads reads_after writes writes_after (result_err r) → reads < reads_after → status_from r ≡ 3
   read_told_of (Ok b) t h = let e = t.read_told h in absurd (cc)
   read_told_of (Err e) t h = ap status_of (is_some_error e ReadFault (t.read_told h))
 
-  pub write_told_of : (r : Result Bool ServeError) → TellsFaults reads reads_after writes writes_after (result_err r) → writes < writes_after → status_from r ≡ 4
+  write_told_of : (r : Result Bool ServeError) → TellsFaults reads reads_after writes writes_after (result_err r) → writes < writes_after → status_from r ≡ 4
   write_told_of (Ok b) t h = let e = t.write_told h in absurd (cc)
   write_told_of (Err e) t h = ap status_of (is_some_error e WriteFault (t.write_told h))
 
 module _ (count size : ℕ) (left left_after : Option (List ℕ)) (told told_after : Option (List Moment)) where
-  pub spent_of : (r : Result Bool ServeError) → WithinReads count size left left_after told told_after (result_err r) → status_from r ≡ 5
+  spent_of : (r : Result Bool ServeError) → WithinReads count size left left_after told told_after (result_err r) → status_from r ≡ 5
       → IfSome left (λ bytes. IfSome left_after (λ rest. count + length rest ≤ length bytes))
   spent_of (Ok true) w h = absurd (cc)
   spent_of (Ok false) w h = absurd (cc)
@@ -102,7 +104,7 @@ module _ (count size reads reads_after writes writes_after : ℕ) (told told_aft
   at_error left_after NoMemory t w desk none = inr (inl refl)
   at_error left_after (DeskSpent n) t w desk none = absurd (desk n refl)
 
-pub complete_of : (count size reads reads_after writes writes_after : ℕ) (told told_after : Option (List Moment)) (taken taken_after left left_after : Option (List ℕ)) (r : Result Bool ServeError)
+complete_of : (count size reads reads_after writes writes_after : ℕ) (told told_after : Option (List Moment)) (taken taken_after left left_after : Option (List ℕ)) (r : Result Bool ServeError)
     → TellsFaults reads reads_after writes writes_after (result_err r) → WithinReads count size left left_after told told_after (result_err r) → IfErr r (λ e. (n : ℕ) → e ≢ DeskSpent n)
     → IfErr r (λ e. IsBetweenReads e → IfSome left (λ bytes. WroteNone (call_bytes bytes left_after taken taken_after)))
     → IfSome left (λ bytes. length bytes < count → (CountRose reads reads_after → ⊥) → (CountRose writes writes_after → ⊥) → (status_from r ≡ 0) ⊎ (status_from r ≡ 6) ⊎ (status_from r ≡ 8))
@@ -114,12 +116,30 @@ complete_of count size reads reads_after writes writes_after told told_after tak
 
 -- ---- what was written
 
-pub unwritten_of : (P : Type 0) (r : Result Bool ServeError) → IfErr r (λ e. IsBetweenReads e → P) → (status_from r ≡ 3) ⊎ (status_from r ≡ 5) → P
+unwritten_of : (P : Type 0) (r : Result Bool ServeError) → IfErr r (λ e. IsBetweenReads e → P) → (status_from r ≡ 3) ⊎ (status_from r ≡ 5) → P
 unwritten_of P (Ok true) none h = absurd (omega arith)
 unwritten_of P (Ok false) none h = absurd (omega arith)
 unwritten_of P (Err e) none h = none (status_between e h)
 
-pub part_of : (P : Type 0) (r : Result Bool ServeError) → OnErr r P → (status_from r ≡ 4) ⊎ (status_from r ≡ 6) → P
+part_of : (P : Type 0) (r : Result Bool ServeError) → OnErr r P → (status_from r ≡ 4) ⊎ (status_from r ≡ 6) → P
 part_of P (Ok true) part h = absurd (omega arith)
 part_of P (Ok false) part h = absurd (omega arith)
 part_of P (Err e) part h = part
+
+-- ---- all of it
+
+pub status_tells : (q : QueryData) (told : SourceSinkTold) (r : Result Bool ServeError) → AnswerEnded q (2 ^ 64 - 1) told None None r → StatusTells q told (status_from r)
+status_tells q told r ended = record {
+  known = known_of r ended.no_desk;
+  done = done_of _ _ _ r ended.done;
+  bad = bad_of _ _ _ r ended.done;
+  flushed = flushed_of r _ _ _ _ ended.flushed;
+  read = read_of _ _ _ _ r ended.faults;
+  write = write_of _ _ _ _ r ended.faults;
+  spent = spent_of _ _ _ _ _ _ r ended.within;
+  read_told = read_told_of _ _ _ _ r ended.faults;
+  write_told = write_told_of _ _ _ _ r ended.faults;
+  complete = complete_of _ _ _ _ _ _ _ _ _ _ _ _ r ended.faults ended.within ended.no_desk ended.between;
+  unwritten = unwritten_of _ r ended.between;
+  part = part_of _ r ended.part;
+}

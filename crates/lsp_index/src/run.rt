@@ -4,7 +4,7 @@ ghost use Rattle.lsp_server.specs.SourceSink.{CountRose, IsFlushed};
 ghost use Rattle.lsp_server.specs.Served.{call_bytes};
 ghost use Rattle.lsp_uri.specs.Uri.{uri_text};
 ghost use Rattle.lsp_index.specs.Answered.{IsQueryAnswered, IsRefused, WroteBegun, WroteNone, WhereAsked, AreAnswers};
-ghost use Rattle.lsp_index.specs.Ended.{AnswerEnded, ended_with, status_from};
+ghost use Rattle.lsp_index.specs.Ended.{AnswerEnded, StatusTells, ended_with, status_from};
 ghost use Rattle.lsp_index.specs.Shown.{show_query};
 ghost use Rattle.lsp_index.specs.Words.{query_asked};
 
@@ -79,53 +79,7 @@ pub fn answer<I: Source, O: Sink>(
 
 // Answers a query, with all the reads that can be counted. No desk could be spent.
 fn answer_query<I: Source, O: Sink>(alloc: Global, query: Query, source: &mut I, sink: &mut O) -> u8
-    ensures known { (result ≤ 8) × (result ≢ 1) × (result ≢ 2) × (result ≢ 7) }
-    ensures done { result ≡ 0 → IfSome (I.left source.old) (λ bytes. IsQueryAnswered (show_query query)
-        (call_bytes bytes (I.left source.new) (O.taken sink.old) (O.taken sink.new))) }
-    ensures bad { result ≡ 8 → IfSome (I.left source.old) (λ bytes. IsRefused
-        (call_bytes bytes (I.left source.new) (O.taken sink.old) (O.taken sink.new))) }
-    ensures flushed { (result ≡ 0) ⊎ (result ≡ 3) ⊎ (result ≡ 5) ⊎ (result ≡ 8)
-        → IsFlushed (O.taken sink.old) (O.flushed sink.old)
-        → IsFlushed (O.taken sink.new) (O.flushed sink.new) }
-    ensures read { result ≡ 3 → CountRose (I.faults source.old) (I.faults source.new) }
-    ensures write { result ≡ 4 → CountRose (O.faults sink.old) (O.faults sink.new) }
-    ensures spent { result ≡ 5 → IfSome (I.left source.old) (λ bytes.
-        IfSome (I.left source.new) (λ rest. 2 ^ 64 - 1 + length rest ≤ length bytes)) }
-    ensures read_told { I.faults source.old < I.faults source.new → result ≡ 3 }
-    ensures write_told { O.faults sink.old < O.faults sink.new → result ≡ 4 }
-    ensures complete { IfSome (I.left source.old) (λ bytes. length bytes < 2 ^ 64 - 1
-        → ¬ CountRose (I.faults source.old) (I.faults source.new)
-        → ¬ CountRose (O.faults sink.old) (O.faults sink.new)
-        → (result ≡ 0) ⊎ (result ≡ 6) ⊎ (result ≡ 8)) }
-    ensures unwritten { (result ≡ 3) ⊎ (result ≡ 5)
-        → IfSome (I.left source.old) (λ bytes. WroteNone
-        (call_bytes bytes (I.left source.new) (O.taken sink.old) (O.taken sink.new))) }
-    ensures part { (result ≡ 4) ⊎ (result ≡ 6)
-        → IfSome (I.left source.old) (λ bytes. WroteBegun (show_query query)
-        (call_bytes bytes (I.left source.new) (O.taken sink.old) (O.taken sink.new))) }
-{
-    status_from(answer_ends(alloc, query, source, sink, u64::MAX))
-}
-
-fn status_from(ended: Result<bool, ServeError>) -> u8
-    ensures { result ≡ status_from ended }
-{
-    match ended {
-        Ok(true) => Status::Done as u8,
-        Ok(false) => Status::BadInput as u8,
-        Err(error) => status_of(error),
-    }
-}
-
-// Answers a query over a source and a sink, and says whether no line is bad.
-fn answer_ends<I: Source, O: Sink>(
-    alloc: Global,
-    query: Query,
-    source: &mut I,
-    sink: &mut O,
-    reads: u64,
-) -> Result<bool, ServeError>
-    ensures { AnswerEnded (show_query query) reads
+    ensures { StatusTells (show_query query)
         (record {
           left = I.left source.old;
           left_after = I.left source.new;
@@ -137,10 +91,20 @@ fn answer_ends<I: Source, O: Sink>(
           flushed_after = O.flushed sink.new;
           writes_failed = O.faults sink.old;
           writes_failed_after = O.faults sink.new;
-        }) None None result }
+        }) result }
 {
     let mut ends = Ends { source, sink };
-    answer_over(alloc, query, &mut ends, reads)
+    status_from(answer_over(alloc, query, &mut ends, u64::MAX))
+}
+
+fn status_from(ended: Result<bool, ServeError>) -> u8
+    ensures { result ≡ status_from ended }
+{
+    match ended {
+        Ok(true) => Status::Done as u8,
+        Ok(false) => Status::BadInput as u8,
+        Err(error) => status_of(error),
+    }
 }
 
 // Answers a query over a transport, and says whether no line is bad.

@@ -1,19 +1,17 @@
 // What a query answers of an index.
-ghost use Rattle.std.specs.Prelude.{◌≡◌, ◌++◌, ◌∷◌, List, [], true, map, slice_get, IfOk, OnOk, Some, None, option_map, option_and_then, unwrap_or, fold, string_bytes};
+ghost use Rattle.std.specs.Prelude.{◌≡◌, ◌++◌, ◌∷◌, [], true, map, slice_get, IfOk, OnOk, Some, None, option_map, option_and_then, unwrap_or, fold, string_bytes};
 ghost use Rattle.std.specs.Bool.{MatchBool};
 ghost use Rattle.std.specs.List.{list_any};
 ghost use Rattle.serde_json.specs.Written.{comma_if, compact_text};
-ghost use Rattle.lsp_rpc.specs.Message.{IdData};
 ghost use Rattle.lsp_rpc.specs.Ids.{same_id};
 ghost use Rattle.lsp_rpc.specs.Shown.{show_id};
-ghost use Rattle.lsp_base.specs.Position.{id_of};
 ghost use Rattle.lsp_uri.specs.Uri.{uri_text};
 ghost use Rattle.lsp_shape.specs.Read.{text_is};
 ghost use Rattle.lsp_index.specs.Entries.{entry_ids};
 ghost use Rattle.lsp_index.specs.Graph.{Graph, at_id};
 ghost use Rattle.lsp_index.specs.Kept.{IsKept};
 ghost use Rattle.lsp_index.specs.Shown.{show_ids, show_item_edge, show_location, show_named, show_link, show_outgoing, show_vertex_of};
-ghost use Rattle.lsp_index.specs.Queries.{is_before, holds_position, is_closer, closest_of, range_holding, candidate_in, with_candidate, chosen_at, with_new_id, with_contained, named_in, document_at, hover_at, IsReached, IsReachedFrom, with_location, with_range, with_ranges, with_item_ranges, with_items, with_linked, with_place, with_places, with_results, AreResults, location_value, locations_text as locations_text_lem, null_text as null_text_lem, IsDefinition, IsReferences, IsAnswerFrom};
+ghost use Rattle.lsp_index.specs.Queries.{is_before, holds_position, is_closer, closest_of, range_holding, candidate_in, with_candidate, chosen_at, with_new_id, with_contained, named_in, document_at, hover_at, IsReached, IsReachedFrom, with_range, with_ranges, with_item_ranges, with_linked, with_place, with_places, AreResults, location_value, locations_text as locations_text_lem, null_text as null_text_lem, IsDefinition, IsReferences, IsAnswerFrom};
 
 use crate::Request;
 use crate::entry::key_of;
@@ -47,17 +45,6 @@ fn is_closer(range: Range, other: Range) -> bool
         || (!is_before(range.start, other.start) && is_before(range.end, other.end))
 }
 
-// Puts the location of a range after those that were found, where it is new.
-fn add_location(uri: &Uri, range: Range, found: &mut IndexSet<Location>) -> Result<(), NoMemory>
-    ensures { OnOk result (map show_location found.new.keys
-        ≡ with_location (map show_location found.old.keys)
-        (record { uri = uri_text uri.now; range = range })) }
-{
-    let uri = uri.clone()?;
-    found.insert(Location::new(uri, range))?;
-    Ok(())
-}
-
 // Puts the location of a range, if there is one, after those that were found, where it is new.
 fn add_range(
     uri: &Uri,
@@ -68,18 +55,13 @@ fn add_range(
         ≡ with_range (uri_text uri.now) (map show_location found.old.keys) range) }
 {
     match range {
-        Some(range) => add_location(uri, range, found),
+        Some(range) => {
+            let uri = uri.clone()?;
+            found.insert(Location::new(uri, range))?;
+            Ok(())
+        }
         None => Ok(()),
     }
-}
-
-// Puts an id after those of the set, where it is new.
-fn add_id(alloc: Global, id: &NumberOrString, set: &mut IndexSet<Id>) -> Result<(), NoMemory>
-    ensures { OnOk result (show_ids set.new.keys
-        ≡ with_new_id (show_ids set.old.keys) (id_of id.now)) }
-{
-    set.insert(key_of(alloc, id)?)?;
-    Ok(())
 }
 
 // Puts an id that is new after those of the set, and says whether it is.
@@ -97,7 +79,7 @@ fn add_ids(alloc: Global, ids: &Vec<NumberOrString>, set: &mut IndexSet<Id>) -> 
         ≡ fold with_new_id (show_ids set.old.keys) (entry_ids ids.now.items)) }
 {
     for id in ids {
-        add_id(alloc, id, set)?;
+        set.insert(key_of(alloc, id)?)?;
     }
     Ok(())
 }
@@ -251,17 +233,8 @@ impl Index {
         }
     }
 
-    /// The result that a vertex leads to: its own, or that of the vertex that its edge `next` leads
-    /// to.
-    fn reached<'a>(&'a self, from: &'a Id) -> Result<Option<&'a Id>, NoMemory>
-        ensures { IfOk result (λ o. (g : Graph) → IsKept g self.now
-            → IsReached g (show_id from.now) (option_map (λ id. show_id id.now) o)) }
-    {
-        let mut passed: IndexSet<Id> = IndexSet::new(self.alloc);
-        self.walk(from, &mut passed)
-    }
-
-    // Walks over edges `next`, and puts the vertices that it passes into the set.
+    // The result that a vertex leads to: its own, or that of the vertex that its edge `next` leads
+    // to. The vertices that it passes go into the set.
     fn walk<'a>(
         &'a self,
         from: &'a Id,
@@ -319,18 +292,6 @@ impl Index {
         }
     }
 
-    // The locations of the items of a result.
-    fn definition(&self, from: &Id) -> Result<IndexSet<Location>, NoMemory>
-        ensures { IfOk result (λ found. (g : Graph) → IsKept g self.now
-            → map show_location found.keys ≡ with_items g [] (show_id from.now)) }
-    {
-        let mut found = IndexSet::new(self.alloc);
-        for item in self.items_of(from) {
-            self.add_item(item, &mut found)?;
-        }
-        Ok(found)
-    }
-
     // A result, with all that it includes.
     fn results_with(&self, first: Id) -> Result<IndexSet<Id>, NoMemory>
         ensures { IfOk result (λ all. (g : Graph) → IsKept g self.now
@@ -373,16 +334,6 @@ impl Index {
         Ok(())
     }
 
-    // The places of a result and of all that it includes.
-    fn references(&self, from: &Id) -> Result<IndexSet<Location>, NoMemory>
-        ensures { IfOk result (λ found. (g : Graph) → IsKept g self.now → (rs : List IdData)
-            × AreResults g (show_id from.now) rs
-            × (map show_location found.keys ≡ fold (with_places g) [] rs)) }
-    {
-        let results = self.results_with(from.clone(self.alloc)?)?;
-        self.all_places(results.as_slice())
-    }
-
     // The places of these results.
     fn all_places(&self, results: &[Id]) -> Result<IndexSet<Location>, NoMemory>
         ensures { IfOk result (λ found. (g : Graph) → IsKept g self.now → map show_location found.keys
@@ -413,24 +364,33 @@ impl Index {
             (option_map (λ id. show_id id.now) o)) }
     {
         match self.chosen(uri, position)? {
-            Some(range) => self.reached(range),
+            Some(range) => {
+                let mut passed = IndexSet::new(self.alloc);
+                self.walk(range, &mut passed)
+            }
             None => Ok(None),
         }
     }
 
+    // The text of the locations of the items of a result.
     fn definition_text(&self, from: &Id) -> Result<String, NoMemory>
         ensures { IfOk result (λ text. (g : Graph) → IsKept g self.now
             → IsDefinition g (Some (show_id from.now)) (string_bytes text)) }
     {
-        let found = self.definition(from)?;
+        let mut found = IndexSet::new(self.alloc);
+        for item in self.items_of(from) {
+            self.add_item(item, &mut found)?;
+        }
         locations_text(self.alloc, &found)
     }
 
+    // The text of the places of a result and of all that it includes.
     fn references_text(&self, from: &Id) -> Result<String, NoMemory>
         ensures { IfOk result (λ text. (g : Graph) → IsKept g self.now
             → IsReferences g (Some (show_id from.now)) (string_bytes text)) }
     {
-        let found = self.references(from)?;
+        let results = self.results_with(from.clone(self.alloc)?)?;
+        let found = self.all_places(results.as_slice())?;
         locations_text(self.alloc, &found)
     }
 

@@ -1,8 +1,8 @@
 //! Random dumps, on which queries are answered as by plain walks.
-use crate::plain::{Dump, Entry, Item, Names, Place, Query, Span, Vertex, plain_answer};
+use crate::plain::{Dump, Entry, Item, Names, Query, Vertex, plain_answer};
 use crate::rows::run;
 use crate::text::{Name, Part, put};
-use lsp_base::Position;
+use lsp_base::{Position, Range};
 use lsp_index::{Request, answer_each};
 use lsp_rows::{RowError, Trial};
 use lsp_uri::Uri;
@@ -23,6 +23,7 @@ struct Size {
     positions: u32,
 }
 
+// 12,000 queries.
 const SMALL: &[Size] = &[
     Size {
         entries: 12,
@@ -53,6 +54,7 @@ const SMALL: &[Size] = &[
     },
 ];
 
+// 7,900 queries.
 const MIDDLING: &[Size] = &[Size {
     entries: 500,
     ids: 8,
@@ -63,6 +65,7 @@ const MIDDLING: &[Size] = &[Size {
     positions: 4,
 }];
 
+// 100 queries one by one, and 20,000 in rounds.
 const LARGE: &[Size] = &[Size {
     entries: 10_000,
     ids: 250,
@@ -118,26 +121,23 @@ fn some_ids(random: &mut Pcg32, size: &Size, kind: Kind) -> Names {
 }
 
 fn some_uri(random: &mut Pcg32) -> &'static str {
-    if below(random, 4) == 0 { "b" } else { "a" }
-}
-
-fn some_place(random: &mut Pcg32, size: &Size) -> Place {
-    let line = below(random, size.lines);
-    Place {
-        line,
-        character: below(random, 6),
+    if below(random, 4) == 0 {
+        "file:///b"
+    } else {
+        "file:///a"
     }
 }
 
+fn some_position(random: &mut Pcg32, size: &Size) -> Position {
+    let line = below(random, size.lines);
+    Position::new(line, below(random, 6))
+}
+
 // The end may stand before the start.
-fn some_span(random: &mut Pcg32, size: &Size) -> Span {
-    let start = some_place(random, size);
+fn some_range(random: &mut Pcg32, size: &Size) -> Range {
+    let start = some_position(random, size);
     let line = start.line.saturating_add(below(random, 2));
-    let end = Place {
-        line,
-        character: below(random, 6),
-    };
-    Span { start, end }
+    Range::new(start, Position::new(line, below(random, 6)))
 }
 
 fn some_vertex(random: &mut Pcg32, size: &Size) -> Entry {
@@ -147,7 +147,7 @@ fn some_vertex(random: &mut Pcg32, size: &Size) -> Entry {
         6 => (Kind::Result, Vertex::Other("definitionResult")),
         7 => (Kind::Result, Vertex::Other("referenceResult")),
         8 => (Kind::Result, Vertex::Hover(below(random, 1000))),
-        _ => (Kind::Range, Vertex::Range(some_span(random, size))),
+        _ => (Kind::Range, Vertex::Range(some_range(random, size))),
     };
     Entry::Vertex(some_id(random, size, kind), vertex)
 }
@@ -212,34 +212,33 @@ const FROM: Part = Part::Text("\",\"outV\":");
 
 const TARGETS: Part = Part::Text(",\"inVs\":[");
 
-fn put_span(text: &mut String, span: Span) -> Result<(), AllocError> {
-    put(
-        text,
-        &[
-            Part::Text("range\",\"start\":{\"line\":"),
-            Part::Number(span.start.line),
-            Part::Text(",\"character\":"),
-            Part::Number(span.start.character),
-            Part::Text("},\"end\":{\"line\":"),
-            Part::Number(span.end.line),
-            Part::Text(",\"character\":"),
-            Part::Number(span.end.character),
-            Part::Text("}"),
-        ],
-    )
-}
+const CHARACTER: Part = Part::Text(",\"character\":");
 
-fn put_vertex(text: &mut String, vertex: Vertex) -> Result<(), AllocError> {
+fn put_vertex(text: &mut String, id: Name, vertex: Vertex) -> Result<(), AllocError> {
+    put(text, &[ID, Part::Id(id), VERTEX])?;
     match vertex {
         Vertex::Document(uri) => put(
             text,
             &[
-                Part::Text("document\",\"languageId\":\"x\",\"uri\":\"file:///"),
+                Part::Text("document\",\"languageId\":\"x\",\"uri\":\""),
                 Part::Text(uri),
                 Part::Text("\""),
             ],
         ),
-        Vertex::Range(span) => put_span(text, span),
+        Vertex::Range(Range { start, end }) => put(
+            text,
+            &[
+                Part::Text("range\",\"start\":{\"line\":"),
+                Part::Number(start.line),
+                CHARACTER,
+                Part::Number(start.character),
+                Part::Text("},\"end\":{\"line\":"),
+                Part::Number(end.line),
+                CHARACTER,
+                Part::Number(end.character),
+                Part::Text("}"),
+            ],
+        ),
         Vertex::Hover(number) => put(
             text,
             &[
@@ -252,7 +251,7 @@ fn put_vertex(text: &mut String, vertex: Vertex) -> Result<(), AllocError> {
     }
 }
 
-fn put_item(text: &mut String, item: &Item) -> Result<(), AllocError> {
+fn put_item(text: &mut String, at: u32, item: &Item) -> Result<(), AllocError> {
     let (member, end) = if item.property.is_empty() {
         ("", "")
     } else {
@@ -261,6 +260,8 @@ fn put_item(text: &mut String, item: &Item) -> Result<(), AllocError> {
     put(
         text,
         &[
+            ID,
+            Part::Number(at),
             EDGE,
             Part::Text("item"),
             FROM,
@@ -276,13 +277,15 @@ fn put_item(text: &mut String, item: &Item) -> Result<(), AllocError> {
     )
 }
 
-// What follows the id.
-fn put_entry(text: &mut String, entry: &Entry) -> Result<(), AllocError> {
+// An edge has its place in the dump as its id.
+fn put_entry(text: &mut String, at: u32, entry: &Entry) -> Result<(), AllocError> {
     match entry {
-        Entry::Vertex(_, vertex) => put_vertex(text, *vertex),
+        Entry::Vertex(id, vertex) => put_vertex(text, *id, *vertex),
         Entry::Contains(from, targets) => put(
             text,
             &[
+                ID,
+                Part::Number(at),
                 EDGE,
                 Part::Text("contains"),
                 FROM,
@@ -295,6 +298,8 @@ fn put_entry(text: &mut String, entry: &Entry) -> Result<(), AllocError> {
         Entry::Link(label, from, to) => put(
             text,
             &[
+                ID,
+                Part::Number(at),
                 EDGE,
                 Part::Text(label),
                 FROM,
@@ -303,15 +308,7 @@ fn put_entry(text: &mut String, entry: &Entry) -> Result<(), AllocError> {
                 Part::Id(*to),
             ],
         ),
-        Entry::Item(item) => put_item(text, item),
-    }
-}
-
-// An edge has its place in the dump as its id.
-fn begun(at: u32, entry: &Entry) -> [Part; 3] {
-    match entry {
-        Entry::Vertex(id, _) => [ID, Part::Id(*id), VERTEX],
-        _ => [ID, Part::Number(at), Part::Text("")],
+        Entry::Item(item) => put_item(text, at, item),
     }
 }
 
@@ -320,8 +317,7 @@ fn dump_text(alloc: Global, random: &mut Pcg32, dump: &[Entry]) -> Result<String
     let mut text = String::new(alloc);
     let mut at: u32 = 0;
     for entry in dump {
-        put(&mut text, &begun(at, entry))?;
-        put_entry(&mut text, entry)?;
+        put_entry(&mut text, at, entry)?;
         let end = match below(random, 8) {
             0 => "}\r\n",
             1 => "}\n\r\n\n",
@@ -342,16 +338,17 @@ const REFERENCES: &str = "textDocument/references";
 const HOVER: &str = "textDocument/hover";
 
 fn some_query(random: &mut Pcg32, size: &Size) -> Query {
-    let (word, label) = match below(random, 3) {
-        0 => ("definition", DEFINITION),
-        1 => ("references", REFERENCES),
-        _ => ("hover", HOVER),
+    let (request, word, label) = match below(random, 3) {
+        0 => (Request::Definition, "definition", DEFINITION),
+        1 => (Request::References, "references", REFERENCES),
+        _ => (Request::Hover, "hover", HOVER),
     };
     Query {
+        request,
         word,
         label,
         uri: some_uri(random),
-        position: some_place(random, size),
+        position: some_position(random, size),
     }
 }
 
@@ -370,7 +367,7 @@ fn asked(alloc: Global, dump: &Dump, query: &Query) -> Result<String, AllocError
     put(
         &mut words,
         &[
-            Part::Text(" file:///"),
+            Part::Text(" "),
             Part::Text(query.uri),
             Part::Text(" "),
             Part::Number(query.position.line),
@@ -381,18 +378,27 @@ fn asked(alloc: Global, dump: &Dump, query: &Query) -> Result<String, AllocError
     run(alloc, words.as_str(), dump.text.as_bytes(), 4096)
 }
 
-// Compares what was given for the query with what plain walks find, and says whether they find
-// something.
+// What was tried, and how many queries found something.
+#[derive(Drop)]
+struct Tried {
+    trial: Trial,
+    found: u32,
+}
+
+// Compares what was given for the query with what plain walks find.
 fn compare(
     alloc: Global,
     dump: &Dump,
     query: &Query,
     given: Result<String, AllocError>,
-    trial: &mut Trial,
-) -> Result<bool, AllocError> {
+    tried: &mut Tried,
+) -> Result<(), AllocError> {
     let line = plain_answer(alloc, dump, query)?;
-    trial.text(query.word, given, line.as_str());
-    Ok(line.len() > 7)
+    tried.trial.text(query.word, given, line.as_str());
+    if line.len() > 7 {
+        tried.found = tried.found.saturating_add(1);
+    }
+    Ok(())
 }
 
 fn some_positions(
@@ -402,8 +408,7 @@ fn some_positions(
 ) -> Result<Vec<Position>, AllocError> {
     let mut positions = Vec::new(alloc);
     for _ in 0..size.positions {
-        let place = some_place(random, size);
-        positions.push(Position::new(place.line, place.character))?;
+        positions.push(some_position(random, size))?;
     }
     Ok(positions)
 }
@@ -415,96 +420,77 @@ fn asked_each(
     query: &Query,
     positions: &[Position],
 ) -> Result<Vec<String>, RowError> {
-    let request = match query.word {
-        "definition" => Request::Definition,
-        "references" => Request::References,
-        _ => Request::Hover,
-    };
-    let text = if query.uri == "a" {
-        "file:///a"
-    } else {
-        "file:///b"
-    };
-    let Ok(uri) = Uri::parse(alloc, text) else {
+    let Ok(uri) = Uri::parse(alloc, query.uri) else {
         return Ok(Vec::new(alloc));
     };
-    match answer_each(alloc, request, uri, positions, dump.text.as_bytes())? {
+    match answer_each(alloc, query.request, uri, positions, dump.text.as_bytes())? {
         Some(lines) => Ok(lines),
         None => Ok(Vec::new(alloc)),
     }
 }
 
-// A round of queries of a dump. It says how many found something.
+// A round of queries of a dump.
 fn try_round(
     alloc: Global,
     random: &mut Pcg32,
     size: &Size,
     dump: &Dump,
-    trial: &mut Trial,
-) -> Result<u32, RowError> {
+    tried: &mut Tried,
+) -> Result<(), RowError> {
     let mut query = some_query(random, size);
     let positions = some_positions(alloc, random, size)?;
     let lines = asked_each(alloc, dump, &query, &positions)?;
-    trial.same("lines", lines.len(), positions.len());
-    let mut found: u32 = 0;
+    tried.trial.same("lines", lines.len(), positions.len());
     for (position, line) in positions.iter().zip(lines.iter()) {
-        query.position = Place {
-            line: position.line,
-            character: position.character,
-        };
+        query.position = *position;
         let given = format!(in alloc; "0 {line}");
-        found = found.saturating_add(u32::from(compare(alloc, dump, &query, given, trial)?));
+        compare(alloc, dump, &query, given, tried)?;
     }
-    Ok(found)
+    Ok(())
 }
 
-// All queries of a random dump. It says how many found something.
+// All queries of a random dump.
 fn try_dump(
     alloc: Global,
     random: &mut Pcg32,
     size: &Size,
-    trial: &mut Trial,
-) -> Result<u32, RowError> {
+    tried: &mut Tried,
+) -> Result<(), RowError> {
     let dump = some_dump(alloc, random, size)?;
-    let mut found: u32 = 0;
     for _ in 0..size.queries {
         let query = some_query(random, size);
         let given = asked(alloc, &dump, &query);
-        found = found.saturating_add(u32::from(compare(alloc, &dump, &query, given, trial)?));
+        compare(alloc, &dump, &query, given, tried)?;
     }
     for _ in 0..size.rounds {
-        found = found.saturating_add(try_round(alloc, random, size, &dump, trial)?);
+        try_round(alloc, random, size, &dump, tried)?;
     }
-    Ok(found)
+    Ok(())
 }
 
 // All dumps of these sizes, of whose queries at least so many have to find something.
 fn walks(alloc: Global, sizes: &[Size], least: u32) -> Result<(), RowError> {
-    let mut trial = Trial::new(alloc);
+    let mut tried = Tried {
+        trial: Trial::new(alloc),
+        found: 0,
+    };
     let mut random = Pcg32::new(20261129, 54);
-    let mut found: u32 = 0;
     for size in sizes {
         for _ in 0..size.dumps {
-            found = found.saturating_add(try_dump(alloc, &mut random, size, &mut trial)?);
+            try_dump(alloc, &mut random, size, &mut tried)?;
         }
     }
-    trial.is_true(found, found >= least);
-    trial.end()
+    let found = tried.found;
+    tried.trial.is_true(found, found >= least);
+    tried.trial.end()
 }
 
-// 12,000 queries.
 #[test]
 fn plain_walks_over_small_dumps(rt: HostRuntime) -> Result<(), RowError> {
-    walks(rt.alloc(), SMALL, 1_200)
-}
-
-// 7,900 queries.
-#[test]
-fn plain_walks_over_middling_dumps(rt: HostRuntime) -> Result<(), RowError> {
+    walks(rt.alloc(), SMALL, 1_200)?;
     walks(rt.alloc(), MIDDLING, 2_800)
 }
 
-// 100 queries one by one, and 20,000 in rounds.
 #[test]
 fn plain_walks_over_a_large_dump(rt: HostRuntime) -> Result<(), RowError> {
     walks(rt.alloc(), LARGE, 5_000)

@@ -1,5 +1,7 @@
 //! A dump as a list of entries, and what a query answers of it by plain walks over lists.
 use crate::text::{Name, Part, put};
+use lsp_base::{Position, Range};
+use lsp_index::Request;
 use std::alloc::{AllocError, Global};
 
 /// Up to five ids.
@@ -19,30 +21,11 @@ impl Names {
     }
 }
 
-/// A position: a line, and a character in it.
-#[derive(Clone, Copy, PartialEq)]
-pub(crate) struct Place {
-    pub(crate) line: u32,
-    pub(crate) character: u32,
-}
-
-impl Place {
-    fn is_before(self, other: Place) -> bool {
-        self.line < other.line || (self.line == other.line && self.character < other.character)
-    }
-}
-
-#[derive(Clone, Copy, PartialEq)]
-pub(crate) struct Span {
-    pub(crate) start: Place,
-    pub(crate) end: Place,
-}
-
 #[derive(Clone, Copy)]
 pub(crate) enum Vertex {
-    /// Of the URI that ends so.
+    /// Of that URI.
     Document(&'static str),
-    Range(Span),
+    Range(Range),
     /// A hover that shows this number.
     Hover(u32),
     /// One of that label.
@@ -151,7 +134,7 @@ impl Dump {
     fn range(&self, id: Name) -> Option<Candidate> {
         let First { at, vertex } = self.first(id);
         match vertex {
-            Vertex::Range(span) => Some(Candidate { at, id, span }),
+            Vertex::Range(range) => Some(Candidate { at, id, range }),
             _ => None,
         }
     }
@@ -162,22 +145,22 @@ impl Dump {
 struct Candidate {
     at: usize,
     id: Name,
-    span: Span,
+    range: Range,
 }
 
 impl Candidate {
     fn is_closer(self, other: Candidate) -> bool {
-        let (one, two) = (self.span, other.span);
-        two.start.is_before(one.start)
-            || (one.start == two.start && one.end.is_before(two.end))
+        let (one, two) = (self.range, other.range);
+        one.start > two.start
+            || (one.start == two.start && one.end < two.end)
             || (one == two && self.at < other.at)
     }
 }
 
-/// Where something is: in the document whose URI ends so.
+/// Where something is.
 #[derive(Clone, Copy, PartialEq)]
 struct Location {
-    span: Span,
+    range: Range,
     uri: &'static str,
 }
 
@@ -194,8 +177,8 @@ fn link(entries: &[Entry], label: &str, from: Name) -> Option<Name> {
 }
 
 // The closer of a candidate and another range, if that holds the position.
-fn closer(best: Option<Candidate>, other: Candidate, position: Place) -> Option<Candidate> {
-    if position.is_before(other.span.start) || !position.is_before(other.span.end) {
+fn closer(best: Option<Candidate>, other: Candidate, position: Position) -> Option<Candidate> {
+    if position < other.range.start || position >= other.range.end {
         return best;
     }
     match best {
@@ -209,7 +192,7 @@ fn closest(
     dump: &Dump,
     best: Option<Candidate>,
     ids: &[Name],
-    position: Place,
+    position: Position,
 ) -> Option<Candidate> {
     let mut best = best;
     for id in ids {
@@ -255,8 +238,8 @@ fn add_item(dump: &Dump, item: &Item, found: &mut Vec<Location>) -> Result<(), A
         return Ok(());
     }
     for id in item.targets.as_slice() {
-        if let Some(Candidate { span, .. }) = dump.range(*id) {
-            let location = Location { span, uri };
+        if let Some(Candidate { range, .. }) = dump.range(*id) {
+            let location = Location { range, uri };
             if !found.contains(&location) {
                 found.push(location)?;
             }
@@ -297,15 +280,6 @@ fn results_with(alloc: Global, items: &[Item], first: Name) -> Result<Vec<Name>,
     Ok(results)
 }
 
-impl Item {
-    // Whether the targets are places.
-    fn is_place(&self) -> bool {
-        self.property == "declarations"
-            || self.property == "definitions"
-            || self.property == "references"
-    }
-}
-
 // Puts the locations of the items of a result after those that were found: of all, or of places
 // alone.
 fn add_locations(
@@ -315,7 +289,8 @@ fn add_locations(
     found: &mut Vec<Location>,
 ) -> Result<(), AllocError> {
     for item in &dump.items {
-        if item.from == from && (of_all || item.is_place()) {
+        let is_place = matches!(item.property, "declarations" | "definitions" | "references");
+        if item.from == from && (of_all || is_place) {
             add_item(dump, item, found)?;
         }
     }
@@ -341,7 +316,7 @@ fn locations(
 }
 
 fn put_location(line: &mut String, location: &Location, comma: &str) -> Result<(), AllocError> {
-    let Span { start, end } = location.span;
+    let Range { start, end } = location.range;
     put(
         line,
         &[
@@ -354,7 +329,7 @@ fn put_location(line: &mut String, location: &Location, comma: &str) -> Result<(
             Part::Number(start.character),
             Part::Text(",\"line\":"),
             Part::Number(start.line),
-            Part::Text("}},\"uri\":\"file:///"),
+            Part::Text("}},\"uri\":\""),
             Part::Text(location.uri),
             Part::Text("\"}"),
         ],
@@ -381,22 +356,15 @@ fn hover_line(alloc: Global, dump: &Dump, of: Name) -> Result<String, AllocError
     }
 }
 
-/// What is asked: a word, and the label of the edges to its results; and for which position of which
-/// document.
+/// What is asked, its word, and the label of the edges to its results; and for which position of
+/// which document.
 #[derive(Clone, Copy)]
 pub(crate) struct Query {
+    pub(crate) request: Request,
     pub(crate) word: &'static str,
     pub(crate) label: &'static str,
     pub(crate) uri: &'static str,
-    pub(crate) position: Place,
-}
-
-// The result that is reached from the range at the position.
-fn result_of(dump: &Dump, query: &Query) -> Option<Name> {
-    match chosen(dump, query) {
-        Some(range) => reached(&dump.entries, query.label, range.id),
-        None => None,
-    }
+    pub(crate) position: Position,
 }
 
 /// The status of a query, which is 0, and the line of its answer.
@@ -406,7 +374,11 @@ pub(crate) fn plain_answer(
     query: &Query,
 ) -> Result<String, AllocError> {
     let is_hover = query.word == "hover";
-    match result_of(dump, query) {
+    let result = match chosen(dump, query) {
+        Some(range) => reached(&dump.entries, query.label, range.id),
+        None => None,
+    };
+    match result {
         Some(of) if is_hover => hover_line(alloc, dump, of),
         Some(of) => line_of(alloc, &locations(alloc, dump, query.word, of)?),
         None if is_hover => String::from_str(alloc, "0 null\n"),

@@ -11,7 +11,7 @@ use Rattle.lsp_index.proofs.graph.Index.reached_at.Goals as goal
 pub returns-in-Some : goal.returns-in-Some
 returns-in-Some c =
     let chosen = rw c.in-Some.is at c.in_ok-range.ensures in
-    if_ok c.reached.result (λ o p g kept. reached_from_some g (chosen_at g (uri_text c.args.uri.now) c.args.position) (show_id c.in-Some.range.now) (option_map (λ (id : Bor Id). show_id id.now) o) (chosen g kept) (p g kept)) c.reached.ensures
+    if_ok c.walk.result (λ o p g kept. reached_from_some g (chosen_at g (uri_text c.args.uri.now) c.args.position) (show_id c.in-Some.range.now) (option_map (λ (id : Bor Id). show_id id.now) o) (chosen g kept) (p g kept)) c.walk.ensures
 
 pub returns-in-None : goal.returns-in-None
 returns-in-None c = λ g kept.
