@@ -14,7 +14,7 @@ use Rattle.lsp_server.specs.SourceSink.{CountRose, IsFlushed}
 use Rattle.lsp_program.specs.Status.{status_of}
 use Rattle.lsp_program.proofs.StatusLemmas.{status_of_high, status_three, status_four, status_five, status_between}
 use Rattle.lsp_index.specs.Answered.{WroteNone}
-use Rattle.lsp_index.specs.Ended.{AnswerEnded, StatusTells, status_from}
+use Rattle.lsp_index.specs.Ended.{AnswerEnded, AnswerTells, status_from}
 use Rattle.lsp_index.specs.Queries.{QueryData}
 
 -- ---- which status it is
@@ -128,7 +128,7 @@ part_of P (Err e) part h = part
 
 -- ---- all of it
 
-pub status_tells : (q : QueryData) (told : SourceSinkTold) (r : Result Bool ServeError) → AnswerEnded q (2 ^ 64 - 1) told None None r → StatusTells q told (status_from r)
+pub status_tells : (q : QueryData) (told : SourceSinkTold) (r : Result Bool ServeError) → AnswerEnded q (2 ^ 64 - 1) told None None r → AnswerTells q told (status_from r)
 status_tells q told r ended = record {
   known = known_of r ended.no_desk;
   done = done_of _ _ _ r ended.done;

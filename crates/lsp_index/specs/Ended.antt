@@ -34,7 +34,7 @@ status_from (Ok false) = 8
 status_from (Err e) = status_of e
 
 -- what the exit status of answering a query tells, after all the reads that can be counted
-pub record StatusTells (q : QueryData) (told : SourceSinkTold) (status : ℕ) : Type 0 where
+pub record AnswerTells (q : QueryData) (told : SourceSinkTold) (status : ℕ) : Type 0 where
   pub known : (status ≤ 8) × (status ≢ 1) × (status ≢ 2) × (status ≢ 7)
   pub done : status ≡ 0 → IfSome told.left (λ bytes. IsQueryAnswered q (bytes_told told bytes))
   pub bad : status ≡ 8 → IfSome told.left (λ bytes. IsRefused (bytes_told told bytes))

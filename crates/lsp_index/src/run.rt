@@ -4,7 +4,7 @@ ghost use Rattle.lsp_server.specs.SourceSink.{CountRose, IsFlushed};
 ghost use Rattle.lsp_server.specs.Served.{call_bytes};
 ghost use Rattle.lsp_uri.specs.Uri.{uri_text};
 ghost use Rattle.lsp_index.specs.Answered.{IsQueryAnswered, IsRefused, WroteBegun, WroteNone, WhereAsked, AreAnswers};
-ghost use Rattle.lsp_index.specs.Ended.{AnswerEnded, StatusTells, ended_with, status_from};
+ghost use Rattle.lsp_index.specs.Ended.{AnswerEnded, AnswerTells, ended_with, status_from};
 ghost use Rattle.lsp_index.specs.Shown.{show_query};
 ghost use Rattle.lsp_index.specs.Words.{query_asked};
 
@@ -79,7 +79,7 @@ pub fn answer<I: Source, O: Sink>(
 
 // Answers a query, with all the reads that can be counted. No desk could be spent.
 fn answer_query<I: Source, O: Sink>(alloc: Global, query: Query, source: &mut I, sink: &mut O) -> u8
-    ensures { StatusTells (show_query query)
+    ensures { AnswerTells (show_query query)
         (record {
           left = I.left source.old;
           left_after = I.left source.new;

@@ -3,7 +3,7 @@ use Rattle.std.proofs.Common.{◌-◌, ◌^◌, sym, subst, rules}
 use Rattle.std.specs.Prelude.{None}
 use Rattle.lsp_server.specs.ServesSession.{SourceSinkTold}
 use Rattle.lsp_index.specs.Shown.{show_query}
-use Rattle.lsp_index.specs.Ended.{AnswerEnded, StatusTells}
+use Rattle.lsp_index.specs.Ended.{AnswerEnded, AnswerTells}
 use Rattle.lsp_index.proofs.EndedLemmas.{status_tells}
 use Rattle.lsp_index.proofs.run.answer_query.Goals as goal
 
@@ -22,6 +22,6 @@ returns g c =
       writes_failed_after = g.O.Sink.faults c.answer_over.new.io.sink.now;
     } in
     let ended : AnswerEnded (show_query c.args.query) (2 ^ 64 - 1) told None None c.answer_over.result = c.answer_over.ensures.ended in
-    let tells : StatusTells (show_query c.args.query) told c.status_from.result =
-    subst (StatusTells (show_query c.args.query) told) (sym c.status_from.ensures) (status_tells (show_query c.args.query) told c.answer_over.result ended) in
+    let tells : AnswerTells (show_query c.args.query) told c.status_from.result =
+    subst (AnswerTells (show_query c.args.query) told) (sym c.status_from.ensures) (status_tells (show_query c.args.query) told c.answer_over.result ended) in
     search rules
