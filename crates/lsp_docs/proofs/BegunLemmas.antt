@@ -12,7 +12,7 @@ use Rattle.lsp_session.specs.Admission.{Verdict, Silence, Refuses, Answers, Canc
 use Rattle.lsp_session.specs.Item.{ItemData}
 use Rattle.lsp_session.specs.Run.{Order, Picked, Step, Run, Rounds, Round, PollsAt, Poll, Applies, after_poll, admission_of}
 use Rattle.lsp_session.specs.Semantics.{Semantics, Progress, Done, Fresh, Polls}
-use Rattle.lsp_session.specs.State.{State, Work, Effect, marked, dues, entered, moved_up, moved_slots, moved_queue, without, notifications}
+use Rattle.lsp_session.specs.State.{State, Work, Effect, marked, dues, entered, moved_up, moved_slots, moved_queue, without_request, notifications}
 use Rattle.lsp_docs.specs.Begun.{LeadsOn, begun_by, calls_begun}
 
 module _ {H C T P X : Type 0} (semantics : Semantics H C T) (order : Order P) (show : H → X) (leads : semantics.Call → X → X → Type 0) (
@@ -142,8 +142,8 @@ module _ {H C T P X : Type 0} (semantics : Semantics H C T) (order : Order P) (s
   quits : (s s2 t : S) → s2 ≡ moved_up t → IsIdle t → t.service ≡ s.service → IsIdle s2 × (s2.service ≡ s.service)
   quits s s2 t e h same = kept s s2 (moved_up t) e (idle_moved t h) same
 
-  without_none : (s : S) (i : IdData) → IsIdle s → IsIdle (record s { slots = without i s.slots; queue = without i s.queue })
-  without_none s i h = record { no_slots = ap (without i) h.no_slots; no_queue = ap (without i) h.no_queue; has_slots = h.has_slots }
+  without_none : (s : S) (i : IdData) → IsIdle s → IsIdle (record s { slots = without_request i s.slots; queue = without_request i s.queue })
+  without_none s i h = record { no_slots = ap (without_request i) h.no_slots; no_queue = ap (without_request i) h.no_queue; has_slots = h.has_slots }
 
   no_notifications : (s : S) (desk : DeskState) (exited : Option Life) → IsIdle s → IsIdle (record s { desk = desk; exited = exited; slots = notifications s.slots; queue = notifications s.queue })
   no_notifications s desk exited h = record { no_slots = ap notifications h.no_slots; no_queue = ap notifications h.no_queue; has_slots = h.has_slots }
@@ -163,7 +163,7 @@ module _ {H C T P X : Type 0} (semantics : Semantics H C T) (order : Order P) (s
   applied Silence s e s2 h a = kept s s2 s a.1 h refl
   applied (Refuses i error) s e s2 h a = kept s s2 s a.1 h refl
   applied (Answers r) s e s2 h a = kept s s2 (record s { desk = a.desk }) a.leaves (idle_with s a.desk h) refl
-  applied (Cancels i) s e s2 h a = quits s s2 (record s { slots = without i s.slots; queue = without i s.queue }) a.1 (without_none s i h) refl
+  applied (Cancels i) s e s2 h a = quits s s2 (record s { slots = without_request i s.slots; queue = without_request i s.queue }) a.1 (without_none s i h) refl
   applied Exits s e s2 h a = quits s s2 (record s { desk = a.desk; exited = Some s.desk.life; slots = notifications s.slots; queue = notifications s.queue }) a.leaves (no_notifications s a.desk (Some s.desk.life) h) refl
   applied (Starts id entry call) s e s2 h a =
       let w : W = record { id = id; entry = entry; phase = Fresh call; due = true } in

@@ -16,7 +16,7 @@ use Rattle.lsp_session.specs.Admission.{Verdict, Silence, Refuses, Answers, Canc
 use Rattle.lsp_session.specs.Item.{ItemData}
 use Rattle.lsp_session.specs.Run.{Order, Picked, Step, Run, Rounds, Round, PollsAt, Poll, Applies, Admits, Changes, GivesAnswer, Quits, Drains, after_poll, admission_of, occasion, replied, changing, poll_change, answers_for, cancelled}
 use Rattle.lsp_session.specs.Semantics.{Semantics, Phase, Progress, Pending, Done, Fresh, Polls}
-use Rattle.lsp_session.specs.State.{State, Work, Effect, marked, dues, entered, moved_up, without, notifications, live, both}
+use Rattle.lsp_session.specs.State.{State, Work, Effect, marked, dues, entered, moved_up, without_request, notifications, live, both}
 
 -- ---- what is made on a desk that others don't use
 
@@ -165,7 +165,7 @@ module _ {H C T P X : Type 0} (semantics : Semantics H C T) (order : Order P) (s
   same_applied (Refuses i error) s t e e2 s2 t2 q h k all all2 = (k.0 ∙ sym h.0, ap seen k.1 ∙ q ∙ sym (ap seen h.1))
   same_applied (Answers r) s t e e2 s2 t2 q h k all all2 = same_given s t r e e2 s2 t2 q h k all all2
   same_applied (Cancels i) s t e e2 s2 t2 q h k all all2 =
-      (k.0 ∙ sym h.0, ap seen k.1 ∙ ap (λ (x : V). moved_up (record x { slots = without i x.slots; queue = without i x.queue })) q ∙ sym (ap seen h.1))
+      (k.0 ∙ sym h.0, ap seen k.1 ∙ ap (λ (x : V). moved_up (record x { slots = without_request i x.slots; queue = without_request i x.queue })) q ∙ sym (ap seen h.1))
   same_applied Exits s t e e2 s2 t2 q h k all all2 = same_quits s t e e2 s2 t2 q h k all all2
   same_applied (Starts id entry call) s t e e2 s2 t2 q h k all all2 =
       let w : W = record { id = id; entry = entry; phase = Fresh call; due = true } in

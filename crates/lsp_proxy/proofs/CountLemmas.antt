@@ -7,7 +7,8 @@ use Rattle.lsp_rpc.specs.Ids.{same_id}
 use Rattle.lsp_proxy.specs.declared.side.Side.{Side}
 use Rattle.lsp_proxy.specs.declared.side.Side.TheVariants.{Server, Editor}
 use Rattle.lsp_proxy.specs.Entries.{AskerData, Entry, asker_at, without_entry}
-use Rattle.lsp_proxy.specs.Proxy.{ProxyState, Sent, Outcome, Opening, awaited, bare, refused, answers_internal, cancel_note, cancel_limit, shutdown_request, exit_note, is_asked_by, cancel_passed, asked_place, cancel_target, answered_to, opening_after, is_here_in, is_here, first_requested, cancel_entry, here_from, opening_state}
+use Rattle.lsp_rpc.specs.Cancel.{cancelled_id}
+use Rattle.lsp_proxy.specs.Proxy.{ProxyState, Sent, Outcome, Opening, awaited, bare, refused, answers_internal, cancel_note, cancel_limit, shutdown_request, exit_note, is_asked_by, cancel_passed, asked_place, answered_to, opening_after, is_here_in, is_here, first_requested, cancel_entry, here_from, opening_state}
 use Rattle.lsp_proxy.specs.Law.{Event, react, sent_over, one_if, same_side, is_response_at, responses_at, is_same_id, is_request_at, requests_at, responses_to, times_requested}
 use Rattle.lsp_proxy.proofs.RowLemmas.{Row, idle, begins, waits, shuts, passes, answers, announces, notes, cancels, leaves, closes, ends, replies, stray, is_shut, opens, returns, calls, refuses, server_cancels, tells, event_of, after, sent_at, by_rows}
 
@@ -145,7 +146,7 @@ module _ (side : Side) (i : IdData) where
       let more = total-append (λ (e : Entry). owed_asker e.asker) s.asked (record { n = s.next; asker = record { editor = k; id = id } }) in
       omega (arith, pays, more)
   bound_row s (answers k r id body under own here) = let pays = paid (Editor k) r id under in omega (arith, pays)
-  bound_row s (cancels k r) = let none = none_cancel Server (asked_place k (cancel_target r.params) s) in omega (arith, none)
+  bound_row s (cancels k r) = let none = none_cancel Server (asked_place k (cancelled_id r.params) s) in omega (arith, none)
   bound_row s (leaves k r exit) =
       let refusals = all_refused (filter (is_asked_by k) s.requested) in
       let parts = total-filter (λ e. owed_server e.asker) (is_asked_by k) s.requested in
@@ -167,7 +168,7 @@ module _ (side : Side) (i : IdData) where
       let more = total-append (λ (e : Entry). owed_server e.asker) s.requested (record { n = s.next; asker = record { editor = k; id = id } }) in
       omega (arith, pays, more)
   bound_row s (refuses r id under) = let pays = paid Server r id under in omega (arith, pays)
-  bound_row s (server_cancels r) = let none = none_entry (option_and_then (λ x. first_requested x s.requested) (cancel_target r.params)) in omega (arith, none)
+  bound_row s (server_cancels r) = let none = none_entry (option_and_then (λ x. first_requested x s.requested) (cancelled_id r.params)) in omega (arith, none)
   bound_row s (tells r) = let none = none_noted (bare r) (here_from 0 s.editors) in omega (arith, none)
   bound_row s (idle e quiet) = omega arith
   bound_row s (announces k r) = omega arith

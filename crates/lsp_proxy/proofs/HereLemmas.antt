@@ -12,7 +12,8 @@ use Rattle.lsp_proxy.specs.declared.side.Side.TheVariants.{Server, Editor}
 use Rattle.lsp_proxy.specs.declared.side.Presence.{Presence}
 use Rattle.lsp_proxy.specs.declared.side.Presence.TheVariants.{Here, Down, Gone}
 use Rattle.lsp_proxy.specs.Entries.{AskerData, Entry}
-use Rattle.lsp_proxy.specs.Proxy.{ProxyState, Sent, Outcome, bare, cancel_limit, cancel_note, shutdown_request, exit_note, refused, is_asked_by, cancel_passed, asked_place, cancel_target, answered_to, is_here_in, is_here, first_requested, cancel_entry, here_from, first_editor, lowest, presence_in, presence, is_gone, AreOf, last_id, last_message, answers_internal, left, closing_drawn, leave, call_heard, are_gone_but, from_editor}
+use Rattle.lsp_rpc.specs.Cancel.{cancelled_id}
+use Rattle.lsp_proxy.specs.Proxy.{ProxyState, Sent, Outcome, bare, cancel_limit, cancel_note, shutdown_request, exit_note, refused, is_asked_by, cancel_passed, asked_place, answered_to, is_here_in, is_here, first_requested, cancel_entry, here_from, first_editor, lowest, presence_in, presence, is_gone, AreOf, last_id, last_message, answers_internal, left, closing_drawn, leave, call_heard, are_gone_but, from_editor}
 use Rattle.lsp_proxy.specs.Law.{Event, react, GoesToOneHere, is_none, says_exit, is_exit_of, is_here_after}
 use Rattle.lsp_proxy.specs.Origin.{state_of}
 use Rattle.lsp_proxy.proofs.ProxyLemmas.{of_head, of_tail, of-without, of-pushed, of_left, lowest-down}
@@ -112,7 +113,7 @@ goes_row s of (passes k r i under) = (tt, tt)
 goes_row s of (answers k r i body under own here) = (here, tt)
 goes_row s of (announces k r) = (tt, tt)
 goes_row s of (notes k r) = (tt, tt)
-goes_row s of (cancels k r) = goes_cancel s Server (asked_place k (cancel_target r.params) s) tt
+goes_row s of (cancels k r) = goes_cancel s Server (asked_place k (cancelled_id r.params) s) tt
 goes_row s of (leaves k r exit) = all_refused s (filter (is_asked_by k) s.requested)
 goes_row s of (closes k r exit) = goes_refused s (filter (is_asked_by k) s.requested) ((Server, shutdown_request s.next) ∷ []) (tt, tt)
 goes_row s of (ends k r exit) = goes_refused s (filter (is_asked_by k) s.requested) ((Server, exit_note) ∷ []) (tt, tt)
@@ -123,7 +124,7 @@ goes_row s of (opens r n m askers under is at) = goes_answered s r.body askers
 goes_row s of (returns r n a under at apart) = goes_returned s r.body a (is_here s a) refl
 goes_row s of (calls k r i under to) = (lowest_here s.editors k to, tt)
 goes_row s of (refuses r i under) = (tt, tt)
-goes_row s of (server_cancels r) = go (cancel_target r.params)
+goes_row s of (server_cancels r) = go (cancelled_id r.params)
   where
     go : (o : Option IdData) → Goes s (cancel_entry (option_and_then (λ i. first_requested i s.requested) o))
     go None = tt

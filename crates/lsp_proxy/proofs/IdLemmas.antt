@@ -8,7 +8,8 @@ use Rattle.lsp_rpc.specs.Ids.{same_id, same_id-Decides}
 use Rattle.lsp_proxy.specs.declared.side.Side.{Side}
 use Rattle.lsp_proxy.specs.declared.side.Side.TheVariants.{Server, Editor}
 use Rattle.lsp_proxy.specs.Entries.{AskerData, Entry}
-use Rattle.lsp_proxy.specs.Proxy.{ProxyState, Sent, Outcome, drawn, bare, cancel_limit, shutdown_request, exit_note, refused, answers_internal, cancel_note, is_asked_by, cancel_passed, asked_place, cancel_target, answered_to, is_here_in, is_here, first_requested, cancel_entry, here_from}
+use Rattle.lsp_rpc.specs.Cancel.{cancelled_id}
+use Rattle.lsp_proxy.specs.Proxy.{ProxyState, Sent, Outcome, drawn, bare, cancel_limit, shutdown_request, exit_note, refused, answers_internal, cancel_note, is_asked_by, cancel_passed, asked_place, answered_to, is_here_in, is_here, first_requested, cancel_entry, here_from}
 use Rattle.lsp_proxy.specs.Law.{Event, react, sent_over, request_ids, with_id_of, with_some, AreDistinct}
 use Rattle.lsp_proxy.proofs.RowLemmas.{Row, begins, passes, leaves, closes, ends, cancels, opens, returns, calls, server_cancels, tells, after, sent_at, by_rows}
 
@@ -72,11 +73,11 @@ draws_row s (passes k r i under) = inr (refl, refl)
 draws_row s (leaves k r exit) = inl (no_ids_refused (filter (is_asked_by k) s.requested), refl)
 draws_row s (closes k r exit) = inr (ids_last k s (shutdown_request s.next), refl)
 draws_row s (ends k r exit) = inl (ids_last k s exit_note, refl)
-draws_row s (cancels k r) = inl (no_ids_cancel Server (asked_place k (cancel_target r.params) s), refl)
+draws_row s (cancels k r) = inl (no_ids_cancel Server (asked_place k (cancelled_id r.params) s), refl)
 draws_row s (opens r n m askers under is at) = inl (no_ids_answered r.body (filter (is_here_in s.editors) askers), refl)
 draws_row s (returns r n a under at apart) = inl (no_ids_returned (is_here s a) r.body a, refl)
 draws_row s (calls k r i under to) = inr (refl, refl)
-draws_row s (server_cancels r) = inl (no_ids_entry (option_and_then (λ i. first_requested i s.requested) (cancel_target r.params)), refl)
+draws_row s (server_cancels r) = inl (no_ids_entry (option_and_then (λ i. first_requested i s.requested) (cancelled_id r.params)), refl)
 draws_row s (tells r) = inl (no_ids_noted r (here_from 0 s.editors), refl)
 draws_row s other = inl (refl, refl)
 

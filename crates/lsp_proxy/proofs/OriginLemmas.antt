@@ -10,7 +10,8 @@ use Rattle.lsp_rpc.specs.Ids.{same_id-Decides}
 use Rattle.lsp_proxy.specs.declared.side.Side.{Side}
 use Rattle.lsp_proxy.specs.declared.side.Side.TheVariants.{Server, Editor}
 use Rattle.lsp_proxy.specs.Entries.{AskerData, Entry, asker_at, without_entry, AreBelow}
-use Rattle.lsp_proxy.specs.Proxy.{ProxyState, Sent, Opening, unopened, awaited, opened, response_to, drawn, drawn_of, bare, cancel_limit, cancel_note, shutdown_request, exit_note, refused, is_asked_by, cancel_passed, asked_place, cancel_target, answered_to, opening_after, is_here_in, is_here, is_closing, first_requested, cancel_entry, here_from}
+use Rattle.lsp_rpc.specs.Cancel.{cancelled_id}
+use Rattle.lsp_proxy.specs.Proxy.{ProxyState, Sent, Opening, unopened, awaited, opened, response_to, drawn, drawn_of, bare, cancel_limit, cancel_note, shutdown_request, exit_note, refused, is_asked_by, cancel_passed, asked_place, answered_to, opening_after, is_here_in, is_here, is_closing, first_requested, cancel_entry, here_from}
 use Rattle.lsp_proxy.specs.Law.{Event, react, is_same_id, is_request_of}
 use Rattle.lsp_proxy.specs.Origin.{state_of, is_drawn, is_response_under, WasPassed, HasInitialized, AwaitsInitialize, since_initialize, HasAnswered, IsOwn, HasOrigin}
 use Rattle.lsp_proxy.proofs.EntryLemmas.{below_head, below_tail, below_cons}
@@ -492,7 +493,7 @@ module _ (editors : ℕ) where
     sends_row (answers k r i body under own here) = (inl (asked_by k r i under, own_is k r body own), tt)
     sends_row (announces k r) = (tt, tt)
     sends_row (notes k r) = (tt, tt)
-    sends_row (cancels k r) = no_cancel (Editor k, request r) h Server (asked_place k (cancel_target r.params) s)
+    sends_row (cancels k r) = no_cancel (Editor k, request r) h Server (asked_place k (cancelled_id r.params) s)
     sends_row (leaves k r exit) = subst (Sends h (Editor k, request r)) (append-nil (map refused (filter (is_asked_by k) s.requested))) (no_refused (Editor k, request r) h (filter (is_asked_by k) s.requested) [] tt)
     sends_row (closes k r exit) = no_refused (Editor k, request r) h (filter (is_asked_by k) s.requested) ((Server, shutdown_request s.next) ∷ []) (tt, tt)
     sends_row (ends k r exit) = no_refused (Editor k, request r) h (filter (is_asked_by k) s.requested) ((Server, exit_note) ∷ []) (tt, tt)
@@ -509,7 +510,7 @@ module _ (editors : ℕ) where
         go false = tt
     sends_row (calls k r i under to) = (tt, tt)
     sends_row (refuses r i under) = (tt, tt)
-    sends_row (server_cancels r) = no_entry (Server, request r) h (option_and_then (λ i. first_requested i s.requested) (cancel_target r.params))
+    sends_row (server_cancels r) = no_entry (Server, request r) h (option_and_then (λ i. first_requested i s.requested) (cancelled_id r.params))
     sends_row (tells r) = no_note (Server, request r) h (bare r) (here_from 0 s.editors)
 
     -- ---- after an event

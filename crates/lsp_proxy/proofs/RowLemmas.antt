@@ -9,7 +9,8 @@ use Rattle.lsp_proxy.specs.declared.side.Side.TheVariants.{Server, Editor}
 use Rattle.lsp_proxy.specs.declared.side.Presence.{Presence}
 use Rattle.lsp_proxy.specs.declared.side.Presence.TheVariants.{Here, Down, Gone}
 use Rattle.lsp_proxy.specs.Entries.{AskerData, asker_at, place_of, without_entry}
-use Rattle.lsp_proxy.specs.Proxy.{ProxyState, Sent, Outcome, Opening, unopened, awaited, opened, response_to, drawn_of, bare, passed_as, invalid, internal, last_id, shutdown_request, exit_note, begin_initialize, initialize_at, initialize, initialized_heard, shut_down, pass_request, ask_at, ask_as, ask, answers_internal, left, closing_drawn, are_gone_but, leave, cancel_passed, asked_place, cancel_target, cancel_heard, note_as, note, call_heard, reply_to, replied_under, reply_heard, heard, from_editor, answered_to, opening_after, is_here_in, is_here, waiting_sent, by_waiting, initialize_answered, answer_to, answer_heard, is_closing, response_under, server_response, pass_to, request_to, lowest, server_request, first_requested, cancel_entry, server_cancel, here_from, broadcast, server_called, from_server, presence, is_gone}
+use Rattle.lsp_rpc.specs.Cancel.{cancelled_id}
+use Rattle.lsp_proxy.specs.Proxy.{ProxyState, Sent, Outcome, Opening, unopened, awaited, opened, response_to, drawn_of, bare, passed_as, invalid, internal, last_id, shutdown_request, exit_note, begin_initialize, initialize_at, initialize, initialized_heard, shut_down, pass_request, ask_at, ask_as, ask, answers_internal, left, closing_drawn, are_gone_but, leave, cancel_passed, asked_place, cancel_heard, note_as, note, call_heard, reply_to, replied_under, reply_heard, heard, from_editor, answered_to, opening_after, is_here_in, is_here, waiting_sent, by_waiting, initialize_answered, answer_to, answer_heard, is_closing, response_under, server_response, pass_to, request_to, lowest, server_request, first_requested, cancel_entry, server_cancel, here_from, broadcast, server_called, from_server, presence, is_gone}
 use Rattle.lsp_proxy.specs.Law.{Event, react, is_none, says_exit}
 use Rattle.lsp_proxy.specs.Origin.{is_drawn, is_response_under}
 
@@ -100,7 +101,7 @@ module _ {s : ProxyState} where
   sent_at (answers k r i body under own here) = (Editor k, response_to i body) ∷ []
   sent_at (announces k r) = (Server, request (bare r)) ∷ []
   sent_at (notes k r) = (Server, request (bare r)) ∷ []
-  sent_at (cancels k r) = cancel_passed Server (asked_place k (cancel_target r.params) s)
+  sent_at (cancels k r) = cancel_passed Server (asked_place k (cancelled_id r.params) s)
   sent_at (leaves k r exit) = answers_internal k s.requested
   sent_at (closes k r exit) = answers_internal k s.requested ++ (Server, shutdown_request s.next) ∷ []
   sent_at (ends k r exit) = answers_internal k s.requested ++ (Server, exit_note) ∷ []
@@ -110,7 +111,7 @@ module _ {s : ProxyState} where
   sent_at (returns r n a under at apart) = cond (is_here s a) (answered_to r.body a ∷ []) []
   sent_at (calls k r i under to) = (Editor k, passed_as s.next (bare r)) ∷ []
   sent_at (refuses r i under) = (Server, response_to i internal) ∷ []
-  sent_at (server_cancels r) = cancel_entry (option_and_then (λ i. first_requested i s.requested) (cancel_target r.params))
+  sent_at (server_cancels r) = cancel_entry (option_and_then (λ i. first_requested i s.requested) (cancelled_id r.params))
   sent_at (tells r) = map (λ k. (Editor k, request (bare r))) (here_from 0 s.editors)
   sent_at other = []
 

@@ -11,7 +11,8 @@ use Rattle.lsp_proxy.specs.declared.side.Side.TheVariants.{Server, Editor}
 use Rattle.lsp_proxy.specs.declared.side.Presence.{Presence}
 use Rattle.lsp_proxy.specs.declared.side.Presence.TheVariants.{Here, Down, Gone}
 use Rattle.lsp_proxy.specs.Entries.{AskerData, Entry, same_asker, same_asker-Decides, place_of}
-use Rattle.lsp_proxy.specs.Proxy.{ProxyState, Outcome, Opening, unopened, awaited, opened, bare, last_id, begin_initialize, initialize_at, initialize, shut_down, pass_request, ask_at, ask_as, ask, cancel_limit, cancel_note, cancel_passed, asked_place, cancel_target, cancel_heard, note_as, note, call_heard, from_editor, from_server, server_called, server_cancel, first_requested, cancel_entry, presence, is_gone}
+use Rattle.lsp_rpc.specs.Cancel.{cancelled_id}
+use Rattle.lsp_proxy.specs.Proxy.{ProxyState, Outcome, Opening, unopened, awaited, opened, bare, last_id, begin_initialize, initialize_at, initialize, shut_down, pass_request, ask_at, ask_as, ask, cancel_limit, cancel_note, cancel_passed, asked_place, cancel_heard, note_as, note, call_heard, from_editor, from_server, server_called, server_cancel, first_requested, cancel_entry, presence, is_gone}
 use Rattle.lsp_proxy.specs.Law.{react, OnlySends, IsAmong, IsTaken, is_none, is_cancel, CancelsAsked, CancelsRequested}
 
 last_among : {X : Type 0} (xs : List X) (x : X) → IsAmong x (xs ++ x ∷ [])
@@ -109,7 +110,7 @@ module _ (r : RequestData) (s : ProxyState) (is : is_cancel r ≡ true) where
   other name apart = ap (λ m. bytes_eq m name) ((bytes_eq-Decides r.method (codes "$/cancelRequest")).0 cancelled) ∙ apart
 
   module _ (k : ℕ) where
-    named_asked : (o : Option IdData) → cancel_target r.params ≡ o → AllByRecursion (CancelsAsked k r s) (cancel_passed Server (asked_place k o s))
+    named_asked : (o : Option IdData) → cancelled_id r.params ≡ o → AllByRecursion (CancelsAsked k r s) (cancel_passed Server (asked_place k o s))
     named_asked None under = tt
     named_asked (Some i) under = go (place_of (record { editor = k; id = i }) s.asked) refl
       where
@@ -119,7 +120,7 @@ module _ (r : RequestData) (s : ProxyState) (is : is_cancel r ≡ true) where
 
     note_cancels : (p : Presence) → OnlySends s (CancelsAsked k r s) (note_as p k (bare r) s)
     unfolding cancel_heard
-    note_cancels Here = subst (λ b. OnlySends s (CancelsAsked k r s) (cond b (cancel_heard k (bare r) s) (s, (Server, request (bare r)) ∷ []))) (sym cancelled) (named_asked (cancel_target r.params) refl, refl)
+    note_cancels Here = subst (λ b. OnlySends s (CancelsAsked k r s) (cond b (cancel_heard k (bare r) s) (s, (Server, request (bare r)) ∷ []))) (sym cancelled) (named_asked (cancelled_id r.params) refl, refl)
     note_cancels Down = (tt, refl)
     note_cancels Gone = (tt, refl)
 
@@ -135,7 +136,7 @@ module _ (r : RequestData) (s : ProxyState) (is : is_cancel r ≡ true) where
         go true = (tt, refl)
         go false = subst (λ o. OnlySends s (CancelsAsked k r s) (call_heard k r o s)) (sym unnumbered) called_cancels
 
-  named_requested : (o : Option IdData) → cancel_target r.params ≡ o → AllByRecursion (CancelsRequested r s) (cancel_entry (option_and_then (λ i. first_requested i s.requested) o))
+  named_requested : (o : Option IdData) → cancelled_id r.params ≡ o → AllByRecursion (CancelsRequested r s) (cancel_entry (option_and_then (λ i. first_requested i s.requested) o))
   named_requested None under = tt
   named_requested (Some i) under = go (first_requested i s.requested) refl
     where
@@ -150,4 +151,4 @@ module _ (r : RequestData) (s : ProxyState) (is : is_cancel r ≡ true) where
   unfolding from_server server_cancel
   server_cancels =
       subst (λ o. OnlySends s (CancelsRequested r s) (server_called r o s)) (sym unnumbered)
-      (rw (cancelled) (named_requested (cancel_target r.params) refl, refl))
+      (rw (cancelled) (named_requested (cancelled_id r.params) refl, refl))

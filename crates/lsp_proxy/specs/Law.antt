@@ -7,7 +7,8 @@ use Rattle.lsp_rpc.specs.Ids.{same_id}
 use Rattle.lsp_proxy.specs.declared.side.Side.{Side}
 use Rattle.lsp_proxy.specs.declared.side.Side.TheVariants.{Server, Editor}
 use Rattle.lsp_proxy.specs.Entries.{AskerData, Entry}
-use Rattle.lsp_proxy.specs.Proxy.{ProxyState, Sent, Outcome, Opening, awaited, from_editor, from_server, response_to, bare, passed_as, cancel_note, cancel_target}
+use Rattle.lsp_rpc.specs.Cancel.{cancelled_id}
+use Rattle.lsp_proxy.specs.Proxy.{ProxyState, Sent, Outcome, Opening, awaited, from_editor, from_server, response_to, bare, passed_as, cancel_note}
 
 -- a message, and the side that it comes from
 abbrev pub Event : Type 0
@@ -148,11 +149,11 @@ is_cancel r = is_none r.id && bytes_eq r.method (codes "$/cancelRequest")
 -- the server is sent the number of an entry of editor k under the id that the cancel names
 abbrev pub CancelsAsked : ℕ → RequestData → ProxyState → Side × MessageData → Type 0
 CancelsAsked k r s sent =
-    (i : IdData) × (n : ℕ) × (cancel_target r.params ≡ Some i) × (sent ≡ (Server, cancel_note n))
+    (i : IdData) × (n : ℕ) × (cancelled_id r.params ≡ Some i) × (sent ≡ (Server, cancel_note n))
     × IsAmong {X = Entry} (record { n = n; asker = record { editor = k; id = i } }) s.asked
 
 -- an editor is sent the number of an entry of its own under the id that the server's cancel names
 abbrev pub CancelsRequested : RequestData → ProxyState → Side × MessageData → Type 0
 CancelsRequested r s sent =
-    (i : IdData) × (n : ℕ) × (k : ℕ) × (cancel_target r.params ≡ Some i) × (sent ≡ (Editor k, cancel_note n))
+    (i : IdData) × (n : ℕ) × (k : ℕ) × (cancelled_id r.params ≡ Some i) × (sent ≡ (Editor k, cancel_note n))
     × IsAmong {X = Entry} (record { n = n; asker = record { editor = k; id = i } }) s.requested

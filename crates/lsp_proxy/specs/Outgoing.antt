@@ -1,5 +1,5 @@
 -- What is sent for a message of the server, where a notification to several editors stands once.
-use Rattle.std.specs.Prelude.{◌≡◌, map, Bool, true, false}
+use Rattle.std.specs.Prelude.{◌≡◌, map, Bool, true, false, Result, IfOk, OnErr}
 use Rattle.lsp_rpc.specs.Message.{request}
 use Rattle.lsp_rpc.specs.Shown.{show_request}
 use Rattle.lsp_proxy.specs.declared.outgoing.Outgoing.{Outgoing}
@@ -26,3 +26,9 @@ is_broadcast (Broadcast editors note) = true
 -- a broadcast changes nothing of the proxy
 abbrev pub KeepsAtBroadcast : Proxy → Proxy → Outgoing → Type 0
 KeepsAtBroadcast old new outgoing = is_broadcast outgoing ≡ true → IsSame old new
+
+-- the call gives what these rows say, or it lacks memory and keeps the proxy
+pub record GivesOrKeeps {E : Type 0} (old new : Proxy) (rows : ProxyState → Outcome) (result : Result Outgoing E) : Type 0 where
+  pub ok : IfOk result (GivesOutgoing old new rows)
+  pub broadcast : IfOk result (KeepsAtBroadcast old new)
+  pub err : OnErr result (IsSame old new)

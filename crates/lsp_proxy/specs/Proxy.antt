@@ -1,12 +1,12 @@
 -- The state of a proxy between editors and one server, and what it makes of each message: the rows
 -- of the table in docs/DEFINITIONS.md, "The proxy", in its order.
-use Rattle.std.specs.Prelude.{IsTrue, ℕ, ◌+◌, ℤ, pos, negsuc, List, [], ◌∷◌, ◌++◌, map, Bool, true, false, not, ◌||◌, ◌&&◌, ◌==◌, Option, Some, None, option_and_then, Result, Ok, Err, bytes_eq, codes, nat_lt, slice_get, slice_set, replicate, unwrap_or, if◌then◌else◌}
+use Rattle.std.specs.Prelude.{◌≡◌, ◌<◌, length, IsTrue, ℕ, ◌+◌, pos, List, [], ◌∷◌, ◌++◌, map, Bool, true, false, not, ◌||◌, ◌&&◌, ◌==◌, Option, Some, None, option_and_then, Result, Ok, Err, bytes_eq, codes, nat_lt, slice_get, slice_set, replicate, unwrap_or, if◌then◌else◌}
 use Rattle.std.specs.List.{filter}
-use Rattle.serde_json.specs.Data.{Data, unsigned, null, number, string, object, no_members, member}
-use Rattle.serde_json.specs.Find.{get, as_i64}
+use Rattle.serde_json.specs.Data.{Data, unsigned, null, number, object, no_members, member}
 use Rattle.lsp_rpc.specs.declared.code.ErrorCode.TheVariants.{InvalidRequest, InternalError}
-use Rattle.lsp_rpc.specs.Message.{IdData, number_id, text_id, ErrorData, RequestData, ResponseData, MessageData, response, request, error_with_code}
+use Rattle.lsp_rpc.specs.Message.{IdData, number_id, ErrorData, RequestData, ResponseData, MessageData, response, request, error_with_code}
 use Rattle.lsp_rpc.specs.Ids.{same_id}
+use Rattle.lsp_rpc.specs.Cancel.{cancelled_id}
 use Rattle.lsp_proxy.specs.declared.side.Side.{Side}
 use Rattle.lsp_proxy.specs.declared.side.Side.TheVariants.{Server, Editor}
 use Rattle.lsp_proxy.specs.declared.side.Presence.{Presence}
@@ -74,6 +74,11 @@ presence_in ps k = unwrap_or (slice_get ps k) Gone
 abbrev pub presence : ℕ → ProxyState → Presence
 presence k s = presence_in s.editors k
 
+-- editor k is one of the editors, and isn't gone
+pub record IsPresent (k : ℕ) (s : ProxyState) : Type 0 where
+  pub known : k < length s.editors
+  pub here : is_gone (presence k s) ≡ false
+
 -- every entry is of that editor
 abbrev pub is_editor : Option ℕ → ℕ → Bool
 is_editor None k = false
@@ -127,22 +132,6 @@ exit_note = request (record { method = codes "exit"; params = None; id = None })
 
 abbrev pub cancel_note : ℕ → MessageData
 cancel_note n = request (record { method = codes "$/cancelRequest"; params = Some (object (member (codes "id") (number (unsigned n)) no_members)); id = None })
-
-abbrev pub is_small : ℤ → Bool
-is_small (pos n) = nat_lt n 2147483648
-is_small (negsuc n) = nat_lt n 2147483648
-
-abbrev pub small_id : ℤ → Option IdData
-small_id z = if is_small z then Some (number_id z) else None
-
--- the id that a cancel names: a string, or an integer of 32 bits
-abbrev pub named_id : Data → Option IdData
-named_id (string t) = Some (text_id t)
-named_id (number n) = option_and_then small_id (as_i64 n)
-named_id other = None
-
-abbrev pub cancel_target : Option Data → Option IdData
-cancel_target params = option_and_then named_id (option_and_then (get (codes "id")) params)
 
 -- the n that a response answers, where its id is one that could be drawn
 abbrev pub drawn_of : IdData → Option ℕ
@@ -234,7 +223,7 @@ asked_place k None s = None
 asked_place k (Some i) s = place_of (record { editor = k; id = i }) s.asked
 
 unfoldable pub cancel_heard : ℕ → RequestData → ProxyState → Outcome
-cancel_heard k r s = (s, cancel_passed Server (asked_place k (cancel_target r.params) s))
+cancel_heard k r s = (s, cancel_passed Server (asked_place k (cancelled_id r.params) s))
 
 abbrev pub note_as : Presence → ℕ → RequestData → ProxyState → Outcome
 note_as Here k r s = if bytes_eq r.method (codes "$/cancelRequest") then cancel_heard k r s else (s, (Server, request r) ∷ [])
@@ -356,7 +345,7 @@ cancel_entry None = []
 cancel_entry (Some e) = cancel_passed (Editor e.asker.editor) (Some e.n)
 
 unfoldable pub server_cancel : RequestData → ProxyState → Outcome
-server_cancel r s = (s, cancel_entry (option_and_then (λ i. first_requested i s.requested) (cancel_target r.params)))
+server_cancel r s = (s, cancel_entry (option_and_then (λ i. first_requested i s.requested) (cancelled_id r.params)))
 
 -- to every editor that isn't gone
 unfoldable pub broadcast : RequestData → ProxyState → Outcome

@@ -1,5 +1,5 @@
 -- The plain data that the code's values stand for.
-use Rattle.std.specs.Prelude.{◌≡◌, map, Vec}
+use Rattle.std.specs.Prelude.{◌≡◌, map, Vec, Result, IfOk, OnErr}
 use Rattle.std.specs.declared.alloc.Global.{Global}
 use Rattle.serde_json.specs.View.{view}
 use Rattle.lsp_rpc.specs.declared.message.Message.{Message}
@@ -35,3 +35,8 @@ MakesSent old new rows sent = (show_proxy new ≡ (rows (show_proxy old)).0) × 
 -- the proxy shows the same
 abbrev pub IsSame : Proxy → Proxy → Type 0
 IsSame old new = show_proxy new ≡ show_proxy old
+
+-- the call makes what these rows say, or it lacks memory and keeps the proxy
+pub record MakesOrKeeps {E : Type 0} (old new : Proxy) (rows : ProxyState → Outcome) (result : Result (Vec (Side × Message) Global) E) : Type 0 where
+  pub ok : IfOk result (MakesSent old new rows)
+  pub err : OnErr result (IsSame old new)

@@ -1,21 +1,20 @@
 //! What editors send, row by row.
-ghost use Rattle.std.specs.Prelude.{◌≡◌, ◌<◌, ◌+◌, ◌^◌, length, Some, not, false, IfOk, OnOk, OnErr};
+ghost use Rattle.std.specs.Prelude.{◌≡◌, ◌<◌, ◌+◌, ◌^◌, length, Some, not, IfOk, OnOk, OnErr};
 ghost use Rattle.std.specs.List.{filter};
 ghost use Rattle.lsp_rpc.specs.Shown.{show_id, show_message, show_request, show_response};
-ghost use Rattle.lsp_proxy.specs.Proxy.{begin_initialize, initialize, initialized_heard, shut_down, pass_request, ask, leave, cancel_heard, note, request_heard, notification_heard, call_heard, reply_heard, is_gone, presence, with_waiting, answers_internal, last_message, last_id, closing_drawn, left, is_asked_by, lowest, AreOf};
+ghost use Rattle.lsp_proxy.specs.Proxy.{begin_initialize, initialize, initialized_heard, shut_down, pass_request, ask, leave, cancel_heard, note, request_heard, notification_heard, call_heard, reply_heard, with_waiting, answers_internal, last_message, last_id, closing_drawn, left, is_asked_by, lowest, AreOf, IsPresent};
 ghost use Rattle.lsp_proxy.specs.Sent.{all_sent};
 ghost use Rattle.lsp_proxy.specs.Tables.{show_asker};
-ghost use Rattle.lsp_proxy.specs.Shown.{show_proxy, show_opening, MakesSent, IsSame};
+ghost use Rattle.lsp_proxy.specs.Shown.{show_proxy, show_opening, MakesSent, MakesOrKeeps};
 
 use crate::parts::{
-    LAST_ID, Sent, answered_id, cancels, exit, named_by, one, refusal, response, shutdown, split,
-    under_drawn,
+    LAST_ID, Sent, answered_id, cancels, exit, one, refusal, response, shutdown, split, under_drawn,
 };
 use crate::presence::{are_others_gone, is_lowest, presence_of};
 use crate::proxy::{Opening, Proxy};
 use crate::side::{Presence, Side};
 use crate::table::{Asker, Table};
-use lsp_rpc::{ErrorCode, Id, Message, NoMemory, Request, Response};
+use lsp_rpc::{ErrorCode, Id, Message, NoMemory, Request, Response, cancelled_id};
 use serde_json::Value;
 
 // Another asker waits for the response to `initialize`.
@@ -50,9 +49,8 @@ impl Proxy {
     // Passes the first `initialize` on.
     #[tactic(auto, unfolding(crate::specs::Proxy::begin_initialize))]
     fn begin_initialize(&mut self, k: u32, request: Request, id: Id) -> Result<Sent, NoMemory>
-        ensures ok { IfOk result
-            (MakesSent self.old self.new (begin_initialize k (show_request request) (show_id id))) }
-        ensures err { OnErr result (IsSame self.old self.new) }
+        ensures { MakesOrKeeps self.old self.new
+            (begin_initialize k (show_request request) (show_id id)) result }
     {
         if self.next >= LAST_ID {
             let refused = refusal(self.alloc, id, ErrorCode::InternalError)?;
@@ -69,9 +67,8 @@ impl Proxy {
 
     #[tactic(auto, unfolding(crate::specs::Proxy::initialize))]
     fn initialize(&mut self, k: u32, request: Request, id: Id) -> Result<Sent, NoMemory>
-        ensures ok { IfOk result
-            (MakesSent self.old self.new (initialize k (show_request request) (show_id id))) }
-        ensures err { OnErr result (IsSame self.old self.new) }
+        ensures { MakesOrKeeps self.old self.new
+            (initialize k (show_request request) (show_id id)) result }
     {
         match &self.opening {
             Opening::Unopened => self.begin_initialize(k, request, id),
@@ -89,8 +86,7 @@ impl Proxy {
     // The first `initialized` is passed on.
     #[tactic(auto, unfolding(crate::specs::Proxy::initialized_heard))]
     fn initialized(&mut self, request: Request) -> Result<Sent, NoMemory>
-        ensures ok { IfOk result (MakesSent self.old self.new (initialized_heard (show_request request))) }
-        ensures err { OnErr result (IsSame self.old self.new) }
+        ensures { MakesOrKeeps self.old self.new (initialized_heard (show_request request)) result }
     {
         if self.announced {
             return Ok(Vec::new(self.alloc));
@@ -102,10 +98,8 @@ impl Proxy {
 
     #[tactic(auto, unfolding(crate::specs::Proxy::shut_down))]
     fn shut_down(&mut self, k: u32, id: Id) -> Result<Sent, NoMemory>
-        requires known { k < length (show_proxy self.old).editors }
-        requires here { is_gone (presence k (show_proxy self.old)) ≡ false }
-        ensures ok { IfOk result (MakesSent self.old self.new (shut_down k (show_id id))) }
-        ensures err { OnErr result (IsSame self.old self.new) }
+        requires { IsPresent k (show_proxy self.old) }
+        ensures { MakesOrKeeps self.old self.new (shut_down k (show_id id)) result }
     {
         let sent = one(self.alloc, Side::Editor(k), response(id, Ok(Value::Null)))?;
         self.editors[k as usize] = Presence::Down;
@@ -115,9 +109,8 @@ impl Proxy {
     // Passes a request on under a drawn id.
     #[tactic(auto, unfolding(crate::specs::Proxy::pass_request))]
     fn pass_request(&mut self, k: u32, request: Request, id: Id) -> Result<Sent, NoMemory>
-        ensures ok { IfOk result
-            (MakesSent self.old self.new (pass_request k (show_request request) (show_id id))) }
-        ensures err { OnErr result (IsSame self.old self.new) }
+        ensures { MakesOrKeeps self.old self.new
+            (pass_request k (show_request request) (show_id id)) result }
     {
         if self.next >= LAST_ID {
             let refused = refusal(self.alloc, id, ErrorCode::InternalError)?;
@@ -133,9 +126,8 @@ impl Proxy {
 
     #[tactic(auto, unfolding(crate::specs::Proxy::ask))]
     fn ask(&mut self, k: u32, request: Request, id: Id) -> Result<Sent, NoMemory>
-        ensures ok { IfOk result
-            (MakesSent self.old self.new (ask k (show_request request) (show_id id))) }
-        ensures err { OnErr result (IsSame self.old self.new) }
+        ensures { MakesOrKeeps self.old self.new
+            (ask k (show_request request) (show_id id)) result }
     {
         let asker = Asker { editor: k, id };
         match presence_of(&self.editors, k) {
@@ -208,8 +200,7 @@ impl Proxy {
     #[tactic(auto, unfolding(crate::specs::Proxy::leave))]
     fn leave(&mut self, k: u32) -> Result<Sent, NoMemory>
         requires known { k < length (show_proxy self.old).editors }
-        ensures ok { IfOk result (MakesSent self.old self.new (leave k)) }
-        ensures err { OnErr result (IsSame self.old self.new) }
+        ensures { MakesOrKeeps self.old self.new (leave k) result }
     {
         let mut sent = self.answers_internal(k)?;
         if are_others_gone(&self.editors, k) {
@@ -227,7 +218,7 @@ impl Proxy {
         ensures { IfOk result (MakesSent self.now self.now (cancel_heard k (show_request request))) }
     {
         let (_, _, params) = request.into_parts();
-        let place = match named_by(params) {
+        let place = match cancelled_id(params) {
             Some(id) => self.asked.place(&Asker { editor: k, id }),
             None => None,
         };
@@ -251,11 +242,9 @@ impl Proxy {
     }
 
     fn with_id(&mut self, k: u32, request: Request, id: Id) -> Result<Sent, NoMemory>
-        requires known { k < length (show_proxy self.old).editors }
-        requires here { is_gone (presence k (show_proxy self.old)) ≡ false }
-        ensures ok { IfOk result
-            (MakesSent self.old self.new (request_heard k (show_request request) (show_id id))) }
-        ensures err { OnErr result (IsSame self.old self.new) }
+        requires { IsPresent k (show_proxy self.old) }
+        ensures { MakesOrKeeps self.old self.new
+            (request_heard k (show_request request) (show_id id)) result }
     {
         match request.method() {
             "initialize" => self.initialize(k, request, id),
@@ -265,10 +254,9 @@ impl Proxy {
     }
 
     fn without_id(&mut self, k: u32, request: Request) -> Result<Sent, NoMemory>
-        requires known { k < length (show_proxy self.old).editors }
-        requires here { is_gone (presence k (show_proxy self.old)) ≡ false }
-        ensures ok { IfOk result (MakesSent self.old self.new (notification_heard k (show_request request))) }
-        ensures err { OnErr result (IsSame self.old self.new) }
+        requires { IsPresent k (show_proxy self.old) }
+        ensures { MakesOrKeeps self.old self.new
+            (notification_heard k (show_request request)) result }
     {
         match request.method() {
             "initialize" => Ok(Vec::new(self.alloc)),
@@ -280,11 +268,9 @@ impl Proxy {
     }
 
     pub(crate) fn called(&mut self, k: u32, request: Request) -> Result<Sent, NoMemory>
-        requires known { k < length (show_proxy self.old).editors }
-        requires here { is_gone (presence k (show_proxy self.old)) ≡ false }
-        ensures ok { IfOk result
-            (MakesSent self.old self.new (call_heard k (show_request request) (show_request request).id)) }
-        ensures err { OnErr result (IsSame self.old self.new) }
+        requires { IsPresent k (show_proxy self.old) }
+        ensures { MakesOrKeeps self.old self.new
+            (call_heard k (show_request request) (show_request request).id) result }
     {
         let (request, id) = split(request);
         match id {
@@ -296,8 +282,7 @@ impl Proxy {
     // Passes the response to a request of the server on, under the server's id.
     #[tactic(auto, unfolding(crate::specs::Proxy::reply_heard))]
     pub(crate) fn replied(&mut self, k: u32, reply: Response) -> Result<Sent, NoMemory>
-        ensures ok { IfOk result (MakesSent self.old self.new (reply_heard k (show_response reply))) }
-        ensures err { OnErr result (IsSame self.old self.new) }
+        ensures { MakesOrKeeps self.old self.new (reply_heard k (show_response reply)) result }
     {
         let (id, body) = reply.into_parts();
         let Some(n) = answered_id(&id) else {

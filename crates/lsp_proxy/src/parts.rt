@@ -1,10 +1,9 @@
 //! The messages that a proxy makes, and what it reads of the ones that it is given.
-ghost use Rattle.std.specs.Prelude.{◌≡◌, ◌<◌, [], ◌∷◌, Err, IfOk, option_map, option_and_then, codes};
-ghost use Rattle.serde_json.specs.Find.{get, get_member};
-ghost use Rattle.serde_json.specs.View.{view, members_view};
+ghost use Rattle.std.specs.Prelude.{◌≡◌, ◌<◌, [], ◌∷◌, Err, IfOk, option_map};
+ghost use Rattle.serde_json.specs.View.{view};
 ghost use Rattle.lsp_rpc.specs.Message.{error_with_code};
 ghost use Rattle.lsp_rpc.specs.Shown.{show_id, show_body, show_request, show_message};
-ghost use Rattle.lsp_proxy.specs.Proxy.{response_to, bare, passed_as, shutdown_request, exit_note, cancel_note, is_small, named_id, cancel_target, drawn_of, cancel_passed, last_id, cancel_limit};
+ghost use Rattle.lsp_proxy.specs.Proxy.{response_to, bare, passed_as, shutdown_request, exit_note, cancel_note, drawn_of, cancel_passed, last_id, cancel_limit};
 ghost use Rattle.lsp_proxy.specs.Sent.{all_sent};
 
 use crate::side::Side;
@@ -103,62 +102,6 @@ pub(crate) fn cancels(alloc: Global, side: Side, place: Option<u64>) -> Result<S
     match place {
         Some(n) if n < CANCEL_LIMIT => one(alloc, side, cancel(alloc, n)?),
         _ => Ok(Vec::new(alloc)),
-    }
-}
-
-fn is_small_number(n: i64) -> bool
-    ensures { result ≡ is_small n }
-{
-    -2147483648 <= n && n <= 2147483647
-}
-
-fn named(value: Value) -> Option<Id>
-    ensures { option_map show_id result ≡ named_id (view value) }
-{
-    match value {
-        Value::String(text) => Some(Id::String(text)),
-        Value::Number(number) => match number.as_i64() {
-            Some(n) if is_small_number(n) => Some(Id::Number(n)),
-            _ => None,
-        },
-        _ => None,
-    }
-}
-
-/// Takes the member of that name out.
-pub(crate) fn take(members: &mut Map<String, Value>, name: &str) -> Option<Value>
-    ensures { option_map view result ≡ get_member name.now (members_view members.old.entries) }
-{
-    members.remove(name)
-}
-
-fn named_member(mut members: Map<String, Value>) -> Option<Id>
-    ensures { option_map show_id result
-        ≡ option_and_then named_id (get_member (codes "id") (members_view members.entries)) }
-{
-    match take(&mut members, "id") {
-        Some(value) => named(value),
-        None => None,
-    }
-}
-
-fn named_in(params: Value) -> Option<Id>
-    ensures { option_map show_id result
-        ≡ option_and_then named_id (get (codes "id") (view params)) }
-{
-    match params {
-        Value::Object(members) => named_member(members),
-        _ => None,
-    }
-}
-
-/// The id that a cancel names.
-pub(crate) fn named_by(params: Option<Value>) -> Option<Id>
-    ensures { option_map show_id result ≡ cancel_target (option_map view params) }
-{
-    match params {
-        Some(params) => named_in(params),
-        None => None,
     }
 }
 

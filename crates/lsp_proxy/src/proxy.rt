@@ -1,5 +1,5 @@
 //! The proxy, and what it makes of each message.
-ghost use Rattle.std.specs.Prelude.{IsTrue, ◌≡◌, ◌<◌, ◌≤◌, ◌^◌, length, replicate, IfOk, OnErr};
+ghost use Rattle.std.specs.Prelude.{IsTrue, ◌≡◌, ◌<◌, ◌≤◌, ◌^◌, length, replicate, IfOk};
 ghost use Rattle.lsp_proxy.specs.Entries.{are_below};
 ghost use Rattle.lsp_proxy.specs.Proxy.{opening_state, last_id, lowest, are_of};
 
@@ -55,9 +55,9 @@ fn all_here(alloc: Global, n: u32) -> Result<Vec<Presence>, NoMemory>
 
 impl Proxy {
     ghost use Rattle.lsp_rpc.specs.Shown.{show_message};
-    ghost use Rattle.lsp_proxy.specs.Outgoing.{GivesOutgoing, KeepsAtBroadcast};
+    ghost use Rattle.lsp_proxy.specs.Outgoing.{GivesOrKeeps};
     ghost use Rattle.lsp_proxy.specs.Proxy.{from_editor, from_server};
-    ghost use Rattle.lsp_proxy.specs.Shown.{show_proxy, MakesSent, IsSame};
+    ghost use Rattle.lsp_proxy.specs.Shown.{show_proxy, MakesOrKeeps};
 
     /// A proxy for that many editors, at least one. They are numbered from 0.
     pub fn new(alloc: Global, editors: u32) -> Result<Proxy, NoMemory>
@@ -83,8 +83,7 @@ impl Proxy {
     /// the number of editors is as one that is gone. Out of memory changes nothing.
     #[tactic(auto, unfolding(crate::specs::Proxy::from_editor))]
     pub fn editor(&mut self, k: u32, message: Message) -> Result<Sent, NoMemory>
-        ensures ok { IfOk result (MakesSent self.old self.new (from_editor k (show_message message))) }
-        ensures err { OnErr result (IsSame self.old self.new) }
+        ensures { MakesOrKeeps self.old self.new (from_editor k (show_message message)) result }
     {
         if presence_of(&self.editors, k).is_gone() {
             return Ok(Vec::new(self.alloc));
@@ -98,8 +97,7 @@ impl Proxy {
     /// Takes a message of the server, and gives what is to be sent for it. Out of memory changes
     /// nothing.
     pub fn server(&mut self, message: Message) -> Result<Sent, NoMemory>
-        ensures ok { IfOk result (MakesSent self.old self.new (from_server (show_message message))) }
-        ensures err { OnErr result (IsSame self.old self.new) }
+        ensures { MakesOrKeeps self.old self.new (from_server (show_message message)) result }
     {
         match self.server_outgoing(message)? {
             Outgoing::Each(sent) => Ok(sent),
@@ -111,9 +109,7 @@ impl Proxy {
     /// notification that goes to several editors is there once, with these editors.
     #[tactic(auto, unfolding(crate::specs::Proxy::from_server))]
     pub fn server_outgoing(&mut self, message: Message) -> Result<Outgoing, NoMemory>
-        ensures ok { IfOk result (GivesOutgoing self.old self.new (from_server (show_message message))) }
-        ensures broadcast { IfOk result (KeepsAtBroadcast self.old self.new) }
-        ensures err { OnErr result (IsSame self.old self.new) }
+        ensures { GivesOrKeeps self.old self.new (from_server (show_message message)) result }
     {
         match message {
             Message::Response(response) => Ok(Outgoing::Each(self.server_response(response)?)),

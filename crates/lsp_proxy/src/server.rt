@@ -1,24 +1,23 @@
 //! What the server sends, row by row.
-ghost use Rattle.std.specs.Prelude.{◌≡◌, ◌<◌, ◌^◌, [], ◌∷◌, length, Some, IfOk, OnErr, option_map, map, if◌then◌else◌};
+ghost use Rattle.std.specs.Prelude.{◌≡◌, ◌<◌, ◌^◌, [], ◌∷◌, length, Some, IfOk, option_map, map, if◌then◌else◌};
 ghost use Rattle.lsp_rpc.specs.Message.{request};
 ghost use Rattle.lsp_rpc.specs.Shown.{show_id, show_body, show_request, show_response};
 ghost use Rattle.std.specs.List.{filter};
 ghost use Rattle.lsp_proxy.specs.Proxy.{waiting_sent, opening_after, initialize_answered, answer_heard, server_response, pass_to, server_request, first_requested, cancel_entry, server_cancel, broadcast, lowest, last_id, response_to, internal, server_called, here_from, is_here_in, answered_to};
-ghost use Rattle.lsp_proxy.specs.Outgoing.{GivesOutgoing, KeepsAtBroadcast};
+ghost use Rattle.lsp_proxy.specs.Outgoing.{GivesOutgoing, GivesOrKeeps};
 ghost use Rattle.lsp_proxy.specs.Sent.{all_sent};
 ghost use Rattle.lsp_proxy.specs.Tables.{show_asker};
-ghost use Rattle.lsp_proxy.specs.Shown.{show_opening, show_proxy, MakesSent, IsSame};
+ghost use Rattle.lsp_proxy.specs.Shown.{show_opening, show_proxy, MakesSent, MakesOrKeeps};
 
 use crate::outgoing::{Outgoing, here};
 use crate::parts::{
-    LAST_ID, Sent, answered_id, cancels, copy, exit, named_by, one, refusal, response, split,
-    under_drawn,
+    LAST_ID, Sent, answered_id, cancels, copy, exit, one, refusal, response, split, under_drawn,
 };
 use crate::presence::{lowest_of, presence_of};
 use crate::proxy::{Opening, Proxy};
 use crate::side::{Presence, Side};
 use crate::table::Asker;
-use lsp_rpc::{Error, ErrorCode, Id, Message, NoMemory, Request, Response};
+use lsp_rpc::{Error, ErrorCode, Id, Message, NoMemory, Request, Response, cancelled_id};
 use serde_json::Value;
 use std::alloc::Global;
 
@@ -91,9 +90,7 @@ impl Proxy {
     // The response to `initialize`, or to an editor's request.
     #[tactic(auto, unfolding(crate::specs::Proxy::initialize_answered))]
     fn initialize_answered(&mut self, n: u64, body: Result<Value, Error>) -> Result<Sent, NoMemory>
-        ensures ok { IfOk result
-            (MakesSent self.old self.new (initialize_answered n (show_body body))) }
-        ensures err { OnErr result (IsSame self.old self.new) }
+        ensures { MakesOrKeeps self.old self.new (initialize_answered n (show_body body)) result }
     {
         match self.waiting_sent(n, &body)? {
             Some(sent) => {
@@ -107,8 +104,7 @@ impl Proxy {
     // The response to an editor's request goes to that editor, under its own id.
     #[tactic(auto, unfolding(crate::specs::Proxy::answer_heard))]
     fn answered(&mut self, n: u64, body: Result<Value, Error>) -> Result<Sent, NoMemory>
-        ensures ok { IfOk result (MakesSent self.old self.new (answer_heard n (show_body body))) }
-        ensures err { OnErr result (IsSame self.old self.new) }
+        ensures { MakesOrKeeps self.old self.new (answer_heard n (show_body body)) result }
     {
         let Some(asker) = self.asked.asker(n) else {
             return Ok(Vec::new(self.alloc));
@@ -120,8 +116,7 @@ impl Proxy {
 
     #[tactic(auto, unfolding(crate::specs::Proxy::server_response))]
     pub(crate) fn server_response(&mut self, reply: Response) -> Result<Sent, NoMemory>
-        ensures ok { IfOk result (MakesSent self.old self.new (server_response (show_response reply))) }
-        ensures err { OnErr result (IsSame self.old self.new) }
+        ensures { MakesOrKeeps self.old self.new (server_response (show_response reply)) result }
     {
         let (id, body) = reply.into_parts();
         let Some(n) = answered_id(&id) else {
@@ -140,9 +135,8 @@ impl Proxy {
     fn pass_to(&mut self, k: u32, request: Request, id: Id) -> Result<Sent, NoMemory>
         requires lowest { lowest (show_proxy self.old).editors ≡ Some k }
         requires left { (show_proxy self.old).next < last_id }
-        ensures ok { IfOk result
-            (MakesSent self.old self.new (pass_to k (show_request request) (show_id id))) }
-        ensures err { OnErr result (IsSame self.old self.new) }
+        ensures { MakesOrKeeps self.old self.new
+            (pass_to k (show_request request) (show_id id)) result }
     {
         let n = self.next;
         let sent = one(self.alloc, Side::Editor(k), under_drawn(n, request))?;
@@ -161,9 +155,8 @@ impl Proxy {
 
     #[tactic(auto, unfolding(crate::specs::Proxy::server_request))]
     fn server_request(&mut self, request: Request, id: Id) -> Result<Sent, NoMemory>
-        ensures ok { IfOk result
-            (MakesSent self.old self.new (server_request (show_request request) (show_id id))) }
-        ensures err { OnErr result (IsSame self.old self.new) }
+        ensures { MakesOrKeeps self.old self.new
+            (server_request (show_request request) (show_id id)) result }
     {
         match lowest_of(&self.editors) {
             Some(k) => {
@@ -177,22 +170,17 @@ impl Proxy {
         }
     }
 
-    // The cancel of the server's first request of that id, all of which are of editor k.
-    fn cancels_at(&self, k: u32, id: Id) -> Result<Sent, NoMemory>
-        requires { lowest (show_proxy self.now).editors ≡ Some k }
-        ensures { IfOk result (λ sent. all_sent sent.items
-            ≡ cancel_entry (first_requested (show_id id) (show_proxy self.now).requested)) }
-    {
-        let place = self.requested.place(&Asker { editor: k, id });
-        cancels(self.alloc, Side::Editor(k), place)
-    }
-
+    // The cancel of the server's first request of that id. All of its requests are of the lowest
+    // editor.
     fn cancels_of(&self, id: Id) -> Result<Sent, NoMemory>
         ensures { IfOk result (λ sent. all_sent sent.items
             ≡ cancel_entry (first_requested (show_id id) (show_proxy self.now).requested)) }
     {
         match lowest_of(&self.editors) {
-            Some(k) => self.cancels_at(k, id),
+            Some(k) => {
+                let place = self.requested.place(&Asker { editor: k, id });
+                cancels(self.alloc, Side::Editor(k), place)
+            }
             None => Ok(Vec::new(self.alloc)),
         }
     }
@@ -202,7 +190,7 @@ impl Proxy {
         ensures { IfOk result (MakesSent self.now self.now (server_cancel (show_request request))) }
     {
         let (_, _, params) = request.into_parts();
-        match named_by(params) {
+        match cancelled_id(params) {
             Some(id) => self.cancels_of(id),
             None => Ok(Vec::new(self.alloc)),
         }
@@ -217,11 +205,8 @@ impl Proxy {
     }
 
     pub(crate) fn server_called(&mut self, request: Request) -> Result<Outgoing, NoMemory>
-        ensures ok { IfOk result
-            (GivesOutgoing self.old self.new (server_called (show_request request)
-            (show_request request).id)) }
-        ensures broadcast { IfOk result (KeepsAtBroadcast self.old self.new) }
-        ensures err { OnErr result (IsSame self.old self.new) }
+        ensures { GivesOrKeeps self.old self.new
+            (server_called (show_request request) (show_request request).id) result }
     {
         let (request, id) = split(request);
         match id {

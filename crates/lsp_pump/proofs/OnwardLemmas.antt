@@ -21,7 +21,7 @@ use Rattle.lsp_pump.specs.declared.job.Ended.TheVariants.{Exit, End, Failed, Spe
 use Rattle.lsp_pump.specs.Steps.{Way, MayGoOn, StandsAfter, MakesStep, MakesSteps}
 use Rattle.lsp_pump.specs.Reading.{KeepsAllBytes, LeavesReads, HasRead, EndsBy}
 use Rattle.lsp_pump.specs.Pumped.{PumpsOver}
-use Rattle.lsp_pump.specs.Onward.{course_at, bytes_of, ServesAt, ServesEnd, GoesOn, Stays, Finishes, PumpsOn}
+use Rattle.lsp_pump.specs.Onward.{course_at, call_bytes_from, ServesAt, StepsEnd, ServedFrom, Stays, Finishes, PumpsOn}
 use Rattle.lsp_pump.proofs.ReadingLemmas.{tells_none, counts_none, ended_now}
 use Rattle.lsp_pump.proofs.StepsLemmas.{steps_none, made_begun, makes_more, leaves_of, leaves_none}
 use Rattle.lsp_pump.proofs.PumpedLemmas.{ends_on, nothing_on, pumped_exit, pumped_error, pumped_on, pumped_lost}
@@ -60,7 +60,7 @@ module _ {X S D B : Type 0} (way : Way X S D B) (rounds : ℕ) where
     Begun d items = RanPart (way.step rounds) way.meaning (way.place a) (served (way.table (way.place a).state) items) (way.place d).desk (way.place d).taken
 
     -- memory was short before any step
-    pub end_short : ServesEnd way rounds codec a (Some OutOfMemory) a
+    pub end_short : StepsEnd way rounds codec a (Some OutOfMemory) a
     end_short =
         let failed : Result Bool ServeError = Err OutOfMemory in
         record {
@@ -70,7 +70,7 @@ module _ {X S D B : Type 0} (way : Way X S D B) (rounds : ℕ) where
         }
 
     -- the step of the fault failed
-    pub end_failed : (code : ErrorCode) (b : X) (e : ServeError) → fault code ∷ [] ≡ all_admitted (items_at codec) → MakesStep way rounds a (fault code) (Err e) b → ServesEnd way rounds codec a (Some e) b
+    pub end_failed : (code : ErrorCode) (b : X) (e : ServeError) → fault code ∷ [] ≡ all_admitted (items_at codec) → MakesStep way rounds a (fault code) (Err e) b → StepsEnd way rounds codec a (Some e) b
     end_failed code b e only p =
         let failed : Result Bool ServeError = Err e in
         record {
@@ -81,7 +81,7 @@ module _ {X S D B : Type 0} (way : Way X S D B) (rounds : ℕ) where
 
     -- the step of the fault was made, and then that of the tick
     pub end_fault : (code : ErrorCode) (b d : X) (exits : Bool) (r : Result Bool ServeError) → fault code ∷ [] ≡ all_admitted (items_at codec) → MakesStep way rounds a (fault code) (Ok exits) b → MakesStep way rounds b tick r d
-        → ServesEnd way rounds codec a (result_err r) d
+        → StepsEnd way rounds codec a (result_err r) d
     end_fault code b d exits r only p q = record {
       serves = ends_on (course_at way rounds codec.settings a) codec (way.place a).taken (way.place d).taken (way.place d).state (way.place d).desk r
           (on_ok r (λ ran. subst (Served d) only (ran_more (way.place a) (way.place b) (way.place d) (fault code ∷ []) (tick ∷ []) p.ran ran)) q.ran)
@@ -92,7 +92,7 @@ module _ {X S D B : Type 0} (way : Way X S D B) (rounds : ℕ) where
     }
 
     -- no fault is left, and the step of the tick was made
-    pub end_plain : (d : X) (r : Result Bool ServeError) → [] ≡ all_admitted (items_at codec) → MakesStep way rounds a tick r d → ServesEnd way rounds codec a (result_err r) d
+    pub end_plain : (d : X) (r : Result Bool ServeError) → [] ≡ all_admitted (items_at codec) → MakesStep way rounds a tick r d → StepsEnd way rounds codec a (result_err r) d
     end_plain d r only p = record {
       serves = ends_on (course_at way rounds codec.settings a) codec (way.place a).taken (way.place d).taken (way.place d).state (way.place d).desk r
           (on_ok r (λ ran. subst (Served d) only ran) p.ran) (on_err r (λ part. subst (Begun d) only part) p.part) (if_err r (λ _ f. f.in_step) p.makes.fails);
@@ -105,8 +105,8 @@ module _ {X S D B : Type 0} (way : Way X S D B) (rounds : ℕ) where
 pub goes_by : {X S D B I : Type 0} (way : Way X S D B) (left_of : I → Option (List ℕ)) (faults_of : I → ℕ) (rounds reads : ℕ) (codec : At) (source : I) (a : X) (e : Option ServeError) (source1 source2 : I) (b : X) → source2 ≡ source1
     → IfSome (left_of source) (λ bytes. ServesAt way rounds codec bytes (left_of source1) a e b) → IfNone e (way.is_ready b) → Grown way.meaning (way.place a).desk (way.place b).desk → IfSome e (SaysSpent way.meaning (way.place b).desk)
     → StaysFlushed (way.place a).taken (way.flushed a) (way.place b).taken (way.flushed b) e → TellsFaults (faults_of source) (faults_of source1) (way.faults a) (way.faults b) e → WithinReads reads 4096 (left_of source) (left_of source1) None None e
-    → GoesOn way left_of faults_of rounds reads codec source a e source2 b
-goes_by way left_of faults_of rounds reads codec source a e source1 source2 b is serves ready grown spent flushed faults within = subst (λ s. GoesOn way left_of faults_of rounds reads codec source a e s b) (sym is)
+    → ServedFrom way left_of faults_of rounds reads codec source a e source2 b
+goes_by way left_of faults_of rounds reads codec source a e source1 source2 b is serves ready grown spent flushed faults within = subst (λ s. ServedFrom way left_of faults_of rounds reads codec source a e s b) (sym is)
     (record { serves = serves; ready = ready; grown = grown; spent = spent; flushed = flushed; faults = faults; within = within })
 
 module _ {X S D B I : Type 0} (way : Way X S D B) (left_of : I → Option (List ℕ)) (faults_of : I → ℕ) (rounds reads : ℕ) (codec : At) (source : I) (a : X) where
@@ -174,7 +174,7 @@ module _ {X S D B I : Type 0} (way : Way X S D B) (left_of : I → Option (List 
       ServesAfter source2 e d bytes = ServesAt way rounds codec1 bytes (left_of source2) b e d
 
       pumps_over : (ended : Ended) → Has ended → KeepsAllBytes ended → (source2 : I) (e : Option ServeError) (d : X) (bytes : List ℕ) → left_of source ≡ Some bytes → IfSome (left_of source1) (ServesAfter source2 e d)
-          → PumpsOver (course_at way rounds codec.settings a) codec (bytes_of way rounds bytes (left_of source2) a d) (way.place d).state (way.place d).desk e
+          → PumpsOver (course_at way rounds codec.settings a) codec (call_bytes_from way rounds bytes (left_of source2) a d) (way.place d).state (way.place d).desk e
       pumps_over ended has keeps source2 e d bytes is on =
           pumped_on (course_at way rounds codec.settings a) (way.place a).taken codec bytes (left_of source) (left_of source1) is made given codec1 ended has keeps (way.place b) p.answered
           codec1.settings (way.table (way.place b).state) p.same (left_of source2) (way.place d).taken (way.place d).state (way.place d).desk e on
@@ -183,7 +183,7 @@ module _ {X S D B I : Type 0} (way : Way X S D B) (left_of : I → Option (List 
       grown_on_to d grown = grown_after (way.place a) (way.place b) (way.place d).desk p.answered.list p.answered.ran grown
 
       -- it was served on from source and codec
-      went_on : (ended : Ended) → Has ended → Ends ended → KeepsAllBytes ended → LeavesReads ended → ended ≢ Failed → (source2 : I) (e : Option ServeError) (d : X) → GoesOn way left_of faults_of rounds (reads - made) codec1 source1 b e source2 d → Pumps e source2 d
+      went_on : (ended : Ended) → Has ended → Ends ended → KeepsAllBytes ended → LeavesReads ended → ended ≢ Failed → (source2 : I) (e : Option ServeError) (d : X) → ServedFrom way left_of faults_of rounds (reads - made) codec1 source1 b e source2 d → Pumps e source2 d
       went_on ended has ends keeps leaves unfailed source2 e d f = record {
         pumps = if_told (left_of source) _ (λ bytes is. pumps_over ended has keeps source2 e d bytes is f.serves);
         ready = f.ready;
@@ -195,7 +195,7 @@ module _ {X S D B I : Type 0} (way : Way X S D B) (left_of : I → Option (List 
       }
 
       -- the end of input was
-      ended_input : Has End → Ends End → (source2 : I) (e : Option ServeError) (d : X) → ServesEnd way rounds codec1 b e d → source2 ≡ source1 → Pumps e source2 d
+      ended_input : Has End → Ends End → (source2 : I) (e : Option ServeError) (d : X) → StepsEnd way rounds codec1 b e d → source2 ≡ source1 → Pumps e source2 d
       ended_input has ends source2 e d f same = subst (λ s. Pumps e s d) (sym same) (record {
         pumps = if_told (left_of source) _ (λ bytes is.
             let empty : left_of source1 ≡ Some [] = some_at (left_of source) _ bytes is (ends.at_end refl) in

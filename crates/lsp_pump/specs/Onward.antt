@@ -27,21 +27,21 @@ module _ {X S D B : Type 0} (way : Way X S D B) (rounds : ℕ) where
     desk = (way.place x).desk;
   }
 
-  abbrev pub bytes_of : List ℕ → Option (List ℕ) → X → X → CallBytes
-  bytes_of bytes left old new = call_bytes bytes left (way.place old).taken (way.place new).taken
+  abbrev pub call_bytes_from : List ℕ → Option (List ℕ) → X → X → CallBytes
+  call_bytes_from bytes left old new = call_bytes bytes left (way.place old).taken (way.place new).taken
 
   -- what a call comes to that serves these bytes on from a codec
   abbrev pub ServesAt : At → List ℕ → Option (List ℕ) → X → Option ServeError → X → Type 0
-  ServesAt codec bytes left old error new = ServesOn (course_at codec.settings old) codec (bytes_of bytes left old new) (way.place new).state (way.place new).desk error
+  ServesAt codec bytes left old error new = ServesOn (course_at codec.settings old) codec (call_bytes_from bytes left old new) (way.place new).state (way.place new).desk error
 
   -- the steps of the end of input were made
-  pub record ServesEnd (codec : At) (old : X) (error : Option ServeError) (new : X) : Type 0 where
+  pub record StepsEnd (codec : At) (old : X) (error : Option ServeError) (new : X) : Type 0 where
     pub serves : ServesAt codec [] (Some []) old error new
     pub leaves : LeavesSteps way old error new
 
 module _ {X S D B I : Type 0} (way : Way X S D B) (left_of : I → Option (List ℕ)) (faults_of : I → ℕ) (rounds reads : ℕ) (codec : At) (source : I) (old : X) (error : Option ServeError) (source_after : I) (new : X) where
   -- a call served on from source and codec
-  pub record GoesOn : Type 0 where
+  pub record ServedFrom : Type 0 where
     pub serves : IfSome (left_of source) (λ bytes. ServesAt way rounds codec bytes (left_of source_after) old error new)
     pub ready : IfNone error (way.is_ready new)
     pub grown : Grown way.meaning (way.place old).desk (way.place new).desk
@@ -58,16 +58,16 @@ module _ {X S D B I : Type 0} (way : Way X S D B) (left_of : I → Option (List 
 
   -- what was served after all that a reading gave, by how it ended
   abbrev pub Finishes : Ended → Type 0
-  Finishes Exit = GoesOn
-  Finishes End = ServesEnd way rounds codec old error new × (source_after ≡ source)
+  Finishes Exit = ServedFrom
+  Finishes End = StepsEnd way rounds codec old error new × (source_after ≡ source)
   Finishes Failed = Stays ReadFault
   Finishes Spent = Stays ReadsSpent
   Finishes NoMemory = Stays OutOfMemory
-  Finishes Full = GoesOn
+  Finishes Full = ServedFrom
 
   -- what a call comes to that pumps on from a codec
   pub record PumpsOn : Type 0 where
-    pub pumps : IfSome (left_of source) (λ bytes. PumpsOver (course_at way rounds codec.settings old) codec (bytes_of way rounds bytes (left_of source_after) old new) (way.place new).state (way.place new).desk error)
+    pub pumps : IfSome (left_of source) (λ bytes. PumpsOver (course_at way rounds codec.settings old) codec (call_bytes_from way rounds bytes (left_of source_after) old new) (way.place new).state (way.place new).desk error)
     pub ready : IfNone error (way.is_ready new)
     pub grown : Grown way.meaning (way.place old).desk (way.place new).desk
     pub spent : IfSome error (SaysSpent way.meaning (way.place new).desk)

@@ -87,8 +87,8 @@ pub record ReadAndServed (codec : At) (left left_after : Option (List ℕ)) (mad
 
 module _ {I : Type 0} (left_of : I → Option (List ℕ)) (faults_of : I → ℕ) where
   -- what a reading hands over and hands back
-  abbrev pub given_by : ReadEnd I → List ItemData
-  given_by end = all_items (sent end.sender) ++ back_items end.back
+  abbrev pub handed_over : ReadEnd I → List ItemData
+  handed_over end = all_items (sent end.sender) ++ back_items end.back
 
   -- a reading goes on: so many reads told all these items, and all of them are on the ring
   pub record HasBegun (start : Reading I) (end : ReadEnd I) : Type 0 where
@@ -103,6 +103,6 @@ module _ {I : Type 0} (left_of : I → Option (List ℕ)) (faults_of : I → ℕ
   -- the promise of a reading thread
   pub record IsReadingOf (start : Reading I) (reads : ℕ) (end : ReadEnd I) : Type 0 where
     pub ring : SameProducer start.sender end.sender
-    pub has : HasRead start.codec (left_of start.source) (left_of end.source) end.made (given_by end) end.codec end.ended
+    pub has : HasRead start.codec (left_of start.source) (left_of end.source) end.made (handed_over end) end.codec end.ended
     pub ends : EndsBy (left_of start.source) (left_of end.source) (faults_of start.source) (faults_of end.source) reads end.made end.ended
     pub float_free : ItemsAreFloatFree (back_items end.back)

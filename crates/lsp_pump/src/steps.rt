@@ -10,7 +10,7 @@ ghost use Rattle.lsp_pump.specs.Pieces.{piece_items, all_items, back_items, Item
 ghost use Rattle.lsp_pump.specs.Steps.{Way, MakesStep, MakesSteps, MayGoOn};
 ghost use Rattle.lsp_pump.specs.SeatWay.{seat_way};
 ghost use Rattle.lsp_pump.specs.Reading.{KeepsAllBytes};
-ghost use Rattle.lsp_pump.specs.Onward.{GoesOn, Finishes, ServesEnd};
+ghost use Rattle.lsp_pump.specs.Onward.{ServedFrom, Finishes, StepsEnd};
 
 use crate::job::Ended;
 use crate::pieces::Pieces;
@@ -59,7 +59,7 @@ pub(crate) trait Steps {
     ) -> Result<(), ServeError>
         requires going { MayGoOn way self.old }
         requires told { told_at codec.old ≡ [] }
-        ensures goes { GoesOn way I.left I.faults rounds reads codec.old source.old self.old
+        ensures goes { ServedFrom way I.left I.faults rounds reads codec.old source.old self.old
             (result_err result) source.new self.new }
         ensures tied { tied self.new ≡ tied self.old };
 }
@@ -304,7 +304,7 @@ fn serve_end<S: Steps>(
 ) -> Result<bool, ServeError>
     requires going { MayGoOn S.way steps.old }
     requires told { told_at codec.old ≡ [] }
-    ensures ends { ServesEnd S.way rounds codec.old steps.old (result_err result) steps.new }
+    ensures ends { StepsEnd S.way rounds codec.old steps.old (result_err result) steps.new }
     ensures tied { S.tied steps.new ≡ S.tied steps.old }
 {
     match codec.finish()? {

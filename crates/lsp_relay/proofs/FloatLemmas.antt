@@ -8,7 +8,8 @@ use Rattle.lsp_proxy.specs.declared.side.Side.TheVariants.{Server, Editor}
 use Rattle.lsp_proxy.specs.declared.side.Presence.{Presence}
 use Rattle.lsp_proxy.specs.declared.side.Presence.TheVariants.{Here, Down, Gone}
 use Rattle.lsp_proxy.specs.Entries.{AskerData, Entry, asker_at}
-use Rattle.lsp_proxy.specs.Proxy.{ProxyState, Sent, Outcome, Opening, unopened, awaited, opened, bare, last_id, begin_initialize, initialize_at, initialize, initialized_heard, shut_down, pass_request, ask_at, ask_as, ask, refused, answers_internal, cancel_note, cancel_limit, exit_note, shutdown_request, is_asked_by, are_gone_but, leave, cancel_passed, asked_place, cancel_target, cancel_heard, note_as, note, call_heard, reply_to, replied_under, reply_heard, heard, from_editor, answered_to, opening_after, is_here_in, is_here, waiting_sent, by_waiting, initialize_answered, answer_to, answer_heard, is_closing, response_under, server_response, pass_to, request_to, last_message, closing_drawn, left, lowest, server_request, first_requested, cancel_entry, server_cancel, here_from, broadcast, server_called, from_server, presence, is_gone, drawn_of}
+use Rattle.lsp_rpc.specs.Cancel.{cancelled_id}
+use Rattle.lsp_proxy.specs.Proxy.{ProxyState, Sent, Outcome, Opening, unopened, awaited, opened, bare, last_id, begin_initialize, initialize_at, initialize, initialized_heard, shut_down, pass_request, ask_at, ask_as, ask, refused, answers_internal, cancel_note, cancel_limit, exit_note, shutdown_request, is_asked_by, are_gone_but, leave, cancel_passed, asked_place, cancel_heard, note_as, note, call_heard, reply_to, replied_under, reply_heard, heard, from_editor, answered_to, opening_after, is_here_in, is_here, waiting_sent, by_waiting, initialize_answered, answer_to, answer_heard, is_closing, response_under, server_response, pass_to, request_to, last_message, closing_drawn, left, lowest, server_request, first_requested, cancel_entry, server_cancel, here_from, broadcast, server_called, from_server, presence, is_gone, drawn_of}
 use Rattle.lsp_proxy.specs.Law.{Event, react}
 use Rattle.lsp_relay.specs.Floats.{AreFloatFree, opening_has_float}
 
@@ -111,7 +112,7 @@ module _ (k : ℕ) where
 
   free_cancels : (r : RequestData) (s : ProxyState) → IsKept s → IsFree (cancel_heard k r s)
   unfolding cancel_heard
-  free_cancels r s kept = (free_cancel Server (asked_place k (cancel_target r.params) s), kept)
+  free_cancels r s kept = (free_cancel Server (asked_place k (cancelled_id r.params) s), kept)
 
   free_note_as : (p : Presence) (r : RequestData) (s : ProxyState) → may_have_float r.params ≡ false → r.id ≡ None → IsKept s → IsFree (note_as p k r s)
   free_note_as Here r s h none kept = free_if (bytes_eq r.method (codes "$/cancelRequest")) _ _ (free_cancels r s kept) ((h, tt), kept)
@@ -196,7 +197,7 @@ unfolding server_request server_cancel broadcast
 free_server_called r (Some i) s h kept = free_request_to (lowest s.editors) (bare r) i s h kept
 free_server_called r None s h kept =
     free_if (bytes_eq r.method (codes "$/cancelRequest")) _ _
-    (free_cancel_entry (option_and_then (λ i. first_requested i s.requested) (cancel_target r.params)), kept)
+    (free_cancel_entry (option_and_then (λ i. first_requested i s.requested) (cancelled_id r.params)), kept)
     (free_noted (bare r) (here_from 0 s.editors) h, kept)
 
 free_server : (m : MessageData) (s : ProxyState) → message_has_float m ≡ false → IsKept s → IsFree (from_server m s)

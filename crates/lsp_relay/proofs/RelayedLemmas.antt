@@ -15,12 +15,12 @@ use Rattle.lsp_server.specs.Consuming.{Given, piece, end, ConsumerOutcome, done,
 use Rattle.lsp_server.proofs.KnownLemmas.{appends_none, appends_more, consumes_none, end_before}
 use Rattle.lsp_server.proofs.TakingLemmas.{did_none}
 use Rattle.lsp_relay.specs.Relay.{RelayPlace, opening_place, events, TookItems, IsRelayed, RelayWroteTold, AllPassed, RelayWrotePart}
-use Rattle.lsp_relay.specs.Relaying.{Stand, IsOpen, frames_from, Relays, relays}
+use Rattle.lsp_relay.specs.Relaying.{Stand, MayRelay, frames_from, Relays, relays}
 use Rattle.lsp_relay.proofs.RelaysLemmas.{relays_lawful}
 use Rattle.lsp_relay.proofs.GoingLemmas.{Going, exact, at_end, wrote_before, wrote_within}
 
 -- nothing was taken
-pub opened : (editors : ℕ) (a : Stand) → a.place ≡ opening_place editors → a.codec ≡ start_codec default_limits → IsOpen a
+pub opened : (editors : ℕ) (a : Stand) → a.place ≡ opening_place editors → a.codec ≡ start_codec default_limits → MayRelay a
 opened editors a opening fresh =
     let passed : a.place.passed ≡ 0 = ap (λ (p : RelayPlace). p.passed) opening in
     let dropped : a.place.dropped ≡ 0 = ap (λ (p : RelayPlace). p.dropped) opening in

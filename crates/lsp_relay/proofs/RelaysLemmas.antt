@@ -11,7 +11,7 @@ use Rattle.lsp_server.specs.Consuming.{Given, piece, end, ConsumerOutcome, goes_
 use Rattle.lsp_server.proofs.CodecLemmas.{decodes_nothing, decodes_more, decodes_fed, more_nothing, more_more}
 use Rattle.lsp_proxy.specs.Law.{sent_over, state_after}
 use Rattle.lsp_relay.specs.Relay.{RelayPlace, TookItems, TookTold, events, sent_frames, counted}
-use Rattle.lsp_relay.specs.Relaying.{Stand, IsOpen, RelaysTold, frames_from, Relays, relays}
+use Rattle.lsp_relay.specs.Relaying.{Stand, MayRelay, RelaysTold, frames_from, Relays, relays}
 use Rattle.lsp_relay.proofs.EventLemmas.{events-append, over_both}
 use Rattle.lsp_relay.proofs.TookLemmas.{took_none, took_more, took_after}
 
@@ -23,7 +23,7 @@ frames_on a xs ys = ap (λ l. sent_frames (sent_over l a.state)) (events-append 
 fits : (n more now : ℕ) → now ≡ counted (n + more) → now < 2 ^ 64
 fits n more now is = omega (arith, is)
 
-relays_none : (a : Stand) → IsOpen a → Relays a (piece []) goes_on [] a
+relays_none : (a : Stand) → MayRelay a → Relays a (piece []) goes_on [] a
 relays_none a is = record {
   given = [];
   decodes = subst (λ k. Decodes k [] a.codec) (sym (more_nothing a.codec)) (decodes_nothing a.codec);
@@ -64,7 +64,7 @@ relays_refused a b end goes_on written e p sink = absurd p
 relays_refused a b end done written e p sink = (sink, p.none)
 relays_refused a b end (stops e0) written e p sink = (sink, p.1)
 
-relays_opens : (a b : Stand) (given : Given) (written : List ℕ) → Relays a given goes_on written b → IsOpen b
+relays_opens : (a b : Stand) (given : Given) (written : List ℕ) → Relays a given goes_on written b → MayRelay b
 relays_opens a b (piece bytes) written p = p.opened
 relays_opens a b end written p = absurd p
 
@@ -74,7 +74,7 @@ relays_lawful = record { opens = relays_opens; none = relays_none; more = relays
 -- ---- what taking and writing come to
 
 -- all that waited was written
-pub did_told : (a b : Stand) (mid : RelayPlace) (bytes : List ℕ) (taken0 taken1 : Option (List ℕ)) → IsOpen a → TookTold a.place (more a.codec bytes) mid b.codec → told_at b.codec ≡ []
+pub did_told : (a b : Stand) (mid : RelayPlace) (bytes : List ℕ) (taken0 taken1 : Option (List ℕ)) → MayRelay a → TookTold a.place (more a.codec bytes) mid b.codec → told_at b.codec ≡ []
     → b.place ≡ record mid { waiting = [] } → Appends taken0 taken1 mid.waiting → Did relays a (piece bytes) goes_on taken0 taken1 b
 did_told a b mid bytes taken0 taken1 is told all rest writes =
     let took : TookItems a.place told.given (record b.place { waiting = mid.waiting }) = subst (λ p. TookItems a.place told.given (record p { waiting = mid.waiting })) (sym rest) told.took in
@@ -96,7 +96,7 @@ did_told a b mid bytes taken0 taken1 is told all rest writes =
     }
 
 -- some of what waited was written
-pub did_some : (a b : Stand) (mid : RelayPlace) (codec : At) (bytes : List ℕ) (taken0 taken1 : Option (List ℕ)) (e : ServeError) → IsOpen a → TookTold a.place (more a.codec bytes) mid codec → ComesOfSink e
+pub did_some : (a b : Stand) (mid : RelayPlace) (codec : At) (bytes : List ℕ) (taken0 taken1 : Option (List ℕ)) (e : ServeError) → MayRelay a → TookTold a.place (more a.codec bytes) mid codec → ComesOfSink e
     → (written : List ℕ) × IsPrefixOf written mid.waiting × Appends taken0 taken1 written → Did relays a (piece bytes) (stops e) taken0 taken1 b
 did_some a b mid codec bytes taken0 taken1 e is told sink part = record {
   written = part.0;

@@ -1,6 +1,7 @@
 -- The arguments of the program, and how it ends.
-use Rattle.std.specs.Prelude.{ℕ, ◌&&◌, List, [], ◌∷◌, nat_le, if◌then◌else◌, Option, Some, None, IfSome, option_and_then, map, String, string_bytes}
+use Rattle.std.specs.Prelude.{◌≡◌, ◌<◌, ◌≤◌, ◌⊎◌, ◌+◌, ◌-◌, ◌^◌, ℕ, ◌&&◌, List, [], ◌∷◌, length, nat_le, if◌then◌else◌, Option, Some, None, IfSome, option_and_then, map, String, string_bytes}
 use Rattle.std.specs.declared.alloc.Global.{Global}
+use Rattle.lsp_server.specs.SourceSink.{CountRose, IsFlushed}
 use Rattle.lsp_server.specs.Served.{CallBytes}
 use Rattle.lsp_program.specs.Number.{number_of}
 use Rattle.lsp_relay.specs.Relay.{IsRelayed}
@@ -31,3 +32,12 @@ pub record HasRelayed (editors : ℕ) (call : CallBytes) : Type 0 where
 -- the arguments ask for editors, over a source that tells its bytes: this holds of their number and these bytes
 abbrev pub WhereRelaying : List (String Global) → Option (List ℕ) → (ℕ → List ℕ → Type 0) → Type 0
 WhereRelaying arguments left P = IfSome (editors_asked arguments) (λ editors. IfSome left (P editors))
+
+-- what the exit status tells of a source and a sink: what was written is flushed, and each failure has its cause and is told
+pub record StatusTells {I O : Type 0} (left_of : I → Option (List ℕ)) (read_faults_of : I → ℕ) (taken_of : O → Option (List ℕ)) (flushed_of : O → Option ℕ) (faults_of : O → ℕ) (source source_after : I) (sink sink_after : O) (status : ℕ) : Type 0 where
+  pub flushed : (status ≡ 0) ⊎ (status ≡ 3) ⊎ (status ≡ 5) → IsFlushed (taken_of sink) (flushed_of sink) → IsFlushed (taken_of sink_after) (flushed_of sink_after)
+  pub read : status ≡ 3 → CountRose (read_faults_of source) (read_faults_of source_after)
+  pub write : status ≡ 4 → CountRose (faults_of sink) (faults_of sink_after)
+  pub spent : status ≡ 5 → IfSome (left_of source) (λ bytes. IfSome (left_of source_after) (λ rest. 2 ^ 64 - 1 + length rest ≤ length bytes))
+  pub read_told : read_faults_of source < read_faults_of source_after → status ≡ 3
+  pub write_told : faults_of sink < faults_of sink_after → status ≡ 4

@@ -6,3 +6,4 @@ pub mod Relaying
 pub mod Shown
 pub mod Arguments
 pub mod Broadcast
+pub mod Sends

@@ -14,7 +14,7 @@ pub record Stand : Type 0 where
   pub codec : At
 
 -- nothing waits to be written, all that the codec tells was taken, and the counts fit 64 bits
-pub record IsOpen (a : Stand) : Type 0 where
+pub record MayRelay (a : Stand) : Type 0 where
   pub empty : a.place.waiting ≡ []
   pub told : told_at a.codec ≡ []
   pub passed : a.place.passed < 2 ^ 64
@@ -26,7 +26,7 @@ pub record RelaysTold (a : Stand) (bytes written : List ℕ) (b : Stand) : Type 
   pub decodes : Decodes (more a.codec bytes) given b.codec
   pub took : TookItems a.place given (record b.place { waiting = written })
   pub before : a.place.waiting ≡ []
-  pub opened : IsOpen b
+  pub opened : MayRelay b
 
 -- what ends the input was taken, for which the proxy sends nothing
 pub record RelaysEnd (a : Stand) (written : List ℕ) (b : Stand) : Type 0 where
@@ -47,4 +47,4 @@ Relays a end done written b = RelaysEnd a written b
 Relays a end (stops e) written b = ComesOfSink e × (written ≡ [])
 
 abbrev pub relays : Consuming Stand
-relays = record { is_open = IsOpen; does = Relays }
+relays = record { is_open = MayRelay; does = Relays }

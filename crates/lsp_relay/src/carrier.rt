@@ -1,19 +1,15 @@
 //! A proxy that takes its messages from the items of a stream, and frames what it sends.
-ghost use Rattle.std.specs.Prelude.{◌≡◌, ◌<◌, ◌^◌, ◌++◌, [], ◌∷◌, ℕ, List, true, false, length, IfOk, IfErr, OnOk, OnErr};
-ghost use Rattle.std.specs.Result.{result_err};
-ghost use Rattle.std.specs.Io.KnownBytes.{Appends};
+ghost use Rattle.std.specs.Prelude.{◌≡◌, ◌<◌, ◌^◌, ◌++◌, [], ◌∷◌, true, false, length, IfOk, OnOk};
 ghost use Rattle.lsp_frame.specs.Codec.{message as message_item, items_at, told_at};
 ghost use Rattle.lsp_rpc.specs.Message.{message_has_float};
 ghost use Rattle.lsp_rpc.specs.Shown.{show_message};
-ghost use Rattle.lsp_server.specs.Errors.{ComesOfSink};
-ghost use Rattle.lsp_server.specs.Leaves.{LeavesFaults};
-ghost use Rattle.lsp_server.specs.Written.{IsPrefixOf};
 ghost use Rattle.lsp_proxy.specs.Law.{react};
 ghost use Rattle.lsp_proxy.specs.Outgoing.{expanded};
 ghost use Rattle.lsp_proxy.specs.Sent.{all_sent};
 ghost use Rattle.lsp_proxy.specs.Shown.{show_proxy};
 ghost use Rattle.lsp_relay.specs.Floats.{AreFloatFree, opening_has_float};
-ghost use Rattle.lsp_relay.specs.Relay.{opening_place, TookItems, TookTold, sent_frames, events};
+ghost use Rattle.lsp_relay.specs.Relay.{opening_place, TookItems, sent_frames, events};
+ghost use Rattle.lsp_relay.specs.Sends.{SendsBytes};
 
 use crate::broadcast::push_broadcast;
 use crate::notes::{event, note};
@@ -80,7 +76,7 @@ fn push_sent(alloc: Global, sent: Outgoing, out: &mut BytesMut) -> Result<(), No
 }
 
 impl Carrier {
-    ghost use Rattle.lsp_relay.specs.Shown.{show_carrier};
+    ghost use Rattle.lsp_relay.specs.Shown.{show_carrier, TakesTold};
 
     /// A carrier between so many editors and a server, which has taken nothing.
     pub(crate) fn new(alloc: Global, editors: u32) -> Result<Carrier, NoMemory>
@@ -121,8 +117,7 @@ impl Carrier {
 
     // Takes the next item that the codec tells, and says whether there was one.
     fn take_next(&mut self, codec: &mut LanguageServerCodec) -> Result<bool, NoMemory>
-        ensures took { OnOk result (TookTold (show_carrier self.old) codec.old
-            (show_carrier self.new) codec.new) }
+        ensures took { OnOk result (TakesTold self.old codec.old self.new codec.new) }
         ensures fewer { IfOk result (λ more. more ≡ true
             → length (told_at codec.new) < length (told_at codec.old)) }
         ensures all { IfOk result (λ more. more ≡ false → told_at codec.new ≡ []) }
@@ -142,8 +137,7 @@ impl Carrier {
 
     /// Takes each item that the codec tells.
     pub(crate) fn take_told(&mut self, codec: &mut LanguageServerCodec) -> Result<(), NoMemory>
-        ensures took { OnOk result (TookTold (show_carrier self.old) codec.old
-            (show_carrier self.new) codec.new) }
+        ensures took { OnOk result (TakesTold self.old codec.old self.new codec.new) }
         ensures all { OnOk result (told_at codec.new ≡ []) }
     {
         'items: while self.take_next(codec)? {}
@@ -168,15 +162,10 @@ impl Carrier {
 
     /// Writes the frames that wait.
     pub(crate) fn send<O: Sink>(&mut self, sink: &mut O) -> Result<(), ServeError>
-        ensures ok { OnOk result
-            (Appends (O.taken sink.old) (O.taken sink.new) self.old.waiting.items) }
+        ensures sent { SendsBytes O.taken O.flushed O.faults O.beside sink.old sink.new
+            self.old.waiting.items result }
         ensures rest { OnOk result
             (show_carrier self.new ≡ record (show_carrier self.old) { waiting = [] }) }
-        ensures part { OnErr result ((written : List ℕ) × IsPrefixOf written self.old.waiting.items
-            × Appends (O.taken sink.old) (O.taken sink.new) written) }
-        ensures flushed { O.flushed sink.new ≡ O.flushed sink.old }
-        ensures sink { LeavesFaults O.faults O.beside sink.old sink.new (result_err result) }
-        ensures others { IfErr result ComesOfSink }
     {
         send(sink, self.waiting.as_slice())?;
         self.waiting.clear();

@@ -1,9 +1,9 @@
 //! The program but for its `main`.
-ghost use Rattle.std.specs.Prelude.{◌≡◌, ◌≢◌, ℕ, ◌≤◌, ◌<◌, ◌⊎◌, ◌↔◌, ◌+◌, ◌-◌, ◌^◌, None, length, IfSome};
-ghost use Rattle.lsp_server.specs.SourceSink.{CountRose, IsFlushed};
+ghost use Rattle.std.specs.Prelude.{◌≡◌, ◌≢◌, ℕ, ◌≤◌, ◌<◌, ◌⊎◌, ◌↔◌, ◌-◌, ◌^◌, None, length, IfSome};
+ghost use Rattle.lsp_server.specs.SourceSink.{CountRose};
 ghost use Rattle.lsp_server.specs.Served.{call_bytes};
 ghost use Rattle.lsp_relay.specs.Relay.{RelayWroteTold, RelayWrotePart};
-ghost use Rattle.lsp_relay.specs.Arguments.{editors_asked, editors_of, HasRelayed, WhereRelaying};
+ghost use Rattle.lsp_relay.specs.Arguments.{editors_asked, HasRelayed, StatusTells, WhereRelaying};
 
 use crate::reads::relay;
 use lsp_program::{Status, number, status_of};
@@ -33,18 +33,9 @@ pub fn run_proxy<I: Source, O: Sink>(
         HasRelayed editors
         (call_bytes bytes (I.left source.new) (O.taken sink.old) (O.taken sink.new))) }
 
-    // What was written is flushed.
-    ensures flushed { (result ≡ 0) ⊎ (result ≡ 3) ⊎ (result ≡ 5)
-        → IsFlushed (O.taken sink.old) (O.flushed sink.old)
-        → IsFlushed (O.taken sink.new) (O.flushed sink.new) }
-
-    // Each failure has its cause, and is told.
-    ensures read { result ≡ 3 → CountRose (I.faults source.old) (I.faults source.new) }
-    ensures write { result ≡ 4 → CountRose (O.faults sink.old) (O.faults sink.new) }
-    ensures spent { result ≡ 5 → IfSome (I.left source.old) (λ bytes.
-        IfSome (I.left source.new) (λ rest. 2 ^ 64 - 1 + length rest ≤ length bytes)) }
-    ensures read_told { I.faults source.old < I.faults source.new → result ≡ 3 }
-    ensures write_told { O.faults sink.old < O.faults sink.new → result ≡ 4 }
+    // What was written is flushed, and each failure has its cause and is told.
+    ensures told { StatusTells I.left I.faults O.taken O.flushed O.faults
+        source.old source.new sink.old sink.new result }
 
     // So with no failure, and with fewer bytes than reads, only `NoMemory` may come.
     ensures complete { WhereRelaying arguments.now.items (I.left source.old) (λ _ bytes.
@@ -74,15 +65,8 @@ fn relay_all<I: Source, O: Sink>(alloc: Global, editors: u32, source: &mut I, si
     ensures known { (result ≤ 6) × (result ≢ 1) × (result ≢ 2) }
     ensures done { result ≡ 0 → IfSome (I.left source.old) (λ bytes. HasRelayed editors
         (call_bytes bytes (I.left source.new) (O.taken sink.old) (O.taken sink.new))) }
-    ensures flushed { (result ≡ 0) ⊎ (result ≡ 3) ⊎ (result ≡ 5)
-        → IsFlushed (O.taken sink.old) (O.flushed sink.old)
-        → IsFlushed (O.taken sink.new) (O.flushed sink.new) }
-    ensures read { result ≡ 3 → CountRose (I.faults source.old) (I.faults source.new) }
-    ensures write { result ≡ 4 → CountRose (O.faults sink.old) (O.faults sink.new) }
-    ensures spent { result ≡ 5 → IfSome (I.left source.old) (λ bytes.
-        IfSome (I.left source.new) (λ rest. 2 ^ 64 - 1 + length rest ≤ length bytes)) }
-    ensures read_told { I.faults source.old < I.faults source.new → result ≡ 3 }
-    ensures write_told { O.faults sink.old < O.faults sink.new → result ≡ 4 }
+    ensures told { StatusTells I.left I.faults O.taken O.flushed O.faults
+        source.old source.new sink.old sink.new result }
     ensures complete { IfSome (I.left source.old) (λ bytes. length bytes < 2 ^ 64 - 1
         → ¬ CountRose (I.faults source.old) (I.faults source.new)
         → ¬ CountRose (O.faults sink.old) (O.faults sink.new) → (result ≡ 0) ⊎ (result ≡ 6)) }
@@ -98,22 +82,15 @@ fn relay_all<I: Source, O: Sink>(alloc: Global, editors: u32, source: &mut I, si
     }
 }
 
-// How many editors the arguments ask for: one argument.
+// How many editors the arguments ask for: one argument, of a number from 1 to 64.
 fn read_arguments(arguments: &Vec<String>) -> Option<u32>
     ensures value { result ≡ editors_asked arguments.now.items }
     ensures some { IfSome result (λ editors. 1 ≤ editors) }
 {
-    match arguments.as_slice() {
-        [argument] => read_argument(argument.as_str()),
-        _ => None,
-    }
-}
-
-fn read_argument(argument: &str) -> Option<u32>
-    ensures value { result ≡ editors_of argument.now }
-    ensures some { IfSome result (λ editors. 1 ≤ editors) }
-{
-    match number(argument) {
+    let [argument] = arguments.as_slice() else {
+        return None;
+    };
+    match number(argument.as_str()) {
         Some(n) if 1 <= n && n <= 64 => Some(n as u32),
         _ => None,
     }

@@ -19,8 +19,8 @@ abbrev pub default_setting : Setting
 default_setting = record { max = 4; rounds = 8 }
 
 -- `MAX ROUNDS`
-abbrev pub numbers_of : List ℕ → List ℕ → Option Setting
-numbers_of max rounds = option_and_then (λ m. option_map (λ r. record { max = m; rounds = r }) (positive_of rounds)) (positive_of max)
+abbrev pub max_and_rounds : List ℕ → List ℕ → Option Setting
+max_and_rounds max rounds = option_and_then (λ m. option_map (λ r. record { max = m; rounds = r }) (positive_of rounds)) (positive_of max)
 
 -- a number from 1 to 100,000
 abbrev pub count_of : List ℕ → Option ℕ
@@ -50,8 +50,8 @@ form_of (argument ∷ []) =
     else (if bytes_eq argument (codes "docs") then Some Docs else None)
 form_of (argument ∷ first ∷ []) = None
 form_of (argument ∷ first ∷ second ∷ []) =
-    if bytes_eq argument (codes "serve") then option_map Serve (numbers_of first second)
-    else (if bytes_eq argument (codes "pump") then option_map Pump (numbers_of first second)
+    if bytes_eq argument (codes "serve") then option_map Serve (max_and_rounds first second)
+    else (if bytes_eq argument (codes "pump") then option_map Pump (max_and_rounds first second)
     else (if bytes_eq argument (codes "bulk") then option_map Bulk (session_of first second)
     else (if bytes_eq argument (codes "talk") then option_map Talk (clones_of first second) else None)))
 form_of (argument ∷ first ∷ second ∷ more ∷ arguments) = None

@@ -1,6 +1,6 @@
 // What the program's arguments ask for.
 ghost use Rattle.std.specs.Prelude.{◌≡◌, ◌≤◌, IfSome};
-ghost use Rattle.lsp_sample.specs.Arguments.{positive_of, count_of, numbers_of, session_of, clone_count_of, message_count_of, clones_of, form_asked, IsForm};
+ghost use Rattle.lsp_sample.specs.Arguments.{positive_of, count_of, max_and_rounds, session_of, clone_count_of, message_count_of, clones_of, form_asked, IsForm};
 
 use lsp_program::number;
 
@@ -87,7 +87,7 @@ pub(crate) fn read_arguments(arguments: &Vec<String>) -> Option<Form>
 }
 
 fn numbers(max: &str, rounds: &str) -> Option<Setting>
-    ensures value { result ≡ numbers_of max.now rounds.now }
+    ensures value { result ≡ max_and_rounds max.now rounds.now }
     ensures positive { IfSome result (λ setting. (1 ≤ setting.max) × (1 ≤ setting.rounds)) }
 {
     match (positive(max), positive(rounds)) {

@@ -1,5 +1,5 @@
 -- How giving goes on over the reads, and what it comes to.
-use Rattle.std.proofs.Common.{◌≡◌, ◌≤◌, ◌<◌, ◌+◌, ◌*◌, ℕ, List, [], ◌++◌, length, take, refl, sym, subst, length-append, arith}
+use Rattle.std.proofs.Common.{◌≡◌, ◌≤◌, ◌<◌, ◌+◌, ◌*◌, ℕ, List, [], ◌∷◌, ◌++◌, length, take, refl, sym, ap, subst, length-append, length-take, arith}
 use Rattle.std.specs.Prelude.{Option, Some, None, Result, Ok, Err, IfErr, IfSome}
 use Rattle.std.specs.Result.{result_err}
 use Rattle.std.specs.Io.KnownBytes.{Consumes, Keeps}
@@ -9,7 +9,7 @@ use Rattle.lsp_server.specs.SourceSink.{CountRose, ReadsEnd, IsFlushed}
 use Rattle.lsp_server.specs.Errors.{IsInStep, LeavesSink}
 use Rattle.lsp_server.specs.Reads.{Moment}
 use Rattle.lsp_server.specs.Leaves.{LeavesFaults, StaysFlushed, TellsFaults}
-use Rattle.lsp_server.specs.Consuming.{Given, piece, end, ConsumerOutcome, goes_on, Consuming, IsLawfulConsumer, through, Did, Took, AllTook, bytes_of, IsTimely, TookLast}
+use Rattle.lsp_server.specs.Consuming.{Given, given_of, piece, end, ConsumerOutcome, goes_on, Consuming, IsLawfulConsumer, through, Did, Took, AllTook, bytes_of, IsTimely, TookLast}
 use Rattle.lsp_server.proofs.KnownLemmas.{appends_none, appends_more, consumes_none, consumes_more, consumes_kept, read_enough, few_read, at_zero, if_told}
 
 -- ---- one call after another
@@ -25,6 +25,16 @@ module _ {C : Type 0} (m : Consuming C) (laws : IsLawfulConsumer m) where
     does = laws.more a b c xs ys p.written q.written p.does q.does;
     writes = appends_more taken0 taken1 taken2 p.written q.written p.writes q.writes;
   }
+
+-- ---- what a read gives
+
+bytes_given : (bytes : List ℕ) → bytes_of (given_of bytes) ≡ bytes
+bytes_given [] = refl
+bytes_given (x ∷ xs) = refl
+
+pub given_some : (bytes : List ℕ) → 0 < length bytes → given_of bytes ≡ piece bytes
+given_some [] some = absurd (omega arith)
+given_some (x ∷ xs) some = refl
 
 -- ---- one read after another
 
@@ -61,14 +71,26 @@ module _ {C : Type 0} {m : Consuming C} where
       most = omega (arith, length-append reading.took.read bytes, reading.most, few);
     }
 
-    pub took_last : (later : Moment) (last : Given) (outcome : ConsumerOutcome) (new : C) → Consumes now.left later.left (bytes_of last) → length (bytes_of last) ≤ 4096 → IsTimely last start.left later.left
+    took_last : (later : Moment) (last : Given) (outcome : ConsumerOutcome) (new : C) → Consumes now.left later.left (bytes_of last) → length (bytes_of last) ≤ 4096 → IsTimely last start.left later.left
         → Did m mid last outcome now.taken later.taken new → TookLast m old start later 4096 outcome new
     took_last later last outcome new gives short timely did = record { mid = mid; middle = now; took = reading.took; last = last; gives = gives; short = short; timely = timely; did = did }
 
     -- a read of nothing is the end of input
-    pub end_timely : (buffer : List ℕ) (left : Option (List ℕ)) (n : ℕ) → ReadsEnd now.left n → Consumes now.left left (take n buffer) → n ≡ 0 → IsTimely end start.left left
+    end_timely : (buffer : List ℕ) (left : Option (List ℕ)) (n : ℕ) → ReadsEnd now.left n → Consumes now.left left (take n buffer) → n ≡ 0 → IsTimely end start.left left
     end_timely buffer left n ends gives zero =
         if_told start.left _ (λ bytes is. (at_zero bytes reading.took.read buffer now.left left n (subst (λ l. Consumes l now.left reading.took.read) is reading.took.gives) ends gives zero).1)
+
+    given_timely : (buffer : List ℕ) (left : Option (List ℕ)) (n : ℕ) → n ≤ length buffer → ReadsEnd now.left n → Consumes now.left left (take n buffer)
+        → (bytes : List ℕ) → take n buffer ≡ bytes → IsTimely (given_of bytes) start.left left
+    given_timely buffer left n within ends gives [] none = end_timely buffer left n ends gives (let e : length (take n buffer) ≡ 0 = ap length none in omega (arith, e, within, length-take n buffer))
+    given_timely buffer left n within ends gives (x ∷ xs) some = tt
+
+    -- what such a read gives was the last
+    pub took_given : (buffer : List ℕ) (later : Moment) (n : ℕ) (outcome : ConsumerOutcome) (new : C) → n ≤ length buffer → length buffer ≡ 4096 → ReadsEnd now.left n → Consumes now.left later.left (take n buffer)
+        → Did m mid (given_of (take n buffer)) outcome now.taken later.taken new → TookLast m old start later 4096 outcome new
+    took_given buffer later n outcome new within size ends gives did =
+        let bytes = bytes_given (take n buffer) in
+        took_last later (given_of (take n buffer)) outcome new (rw bytes gives) (rw bytes (omega (arith, within, size, length-take n buffer))) (given_timely buffer later.left n within ends gives (take n buffer) refl) did
 
     -- ---- how many reads there were
 

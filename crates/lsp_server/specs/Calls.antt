@@ -4,7 +4,7 @@ use Rattle.std.specs.Io.KnownBytes.{Consumes, Appends, Keeps}
 use Rattle.lsp_server.specs.declared.sink.Refused.{Refused}
 use Rattle.lsp_server.specs.declared.sink.Refused.TheVariants.{Failed, NoMemory}
 use Rattle.lsp_server.specs.SourceSink.{CountRose, ReadsEnd, Flushes}
-use Rattle.lsp_server.specs.Memory.{next_number}
+use Rattle.lsp_server.specs.Memory.{number_after}
 
 -- ---- sources
 
@@ -44,16 +44,29 @@ pub record CountsWrite {S A : Type 0} (faults_of : S → ℕ) (old new : S) (res
   pub unfailed : OnOk result (faults_of new ≡ faults_of old)
   pub no_memory : IsErrOf result NoMemory → faults_of new ≡ faults_of old
 
--- each refused write or flush failed, and is counted once, up to the count's last value
+-- the same, and each refused write or flush failed, and is counted once, up to the count's last value
 pub record CountsRefused {S A : Type 0} (faults_of : S → ℕ) (old new : S) (result : Result A Refused) : Type 0 where
+  pub counts : CountsWrite faults_of old new result
   pub only : OnErr result (IsErrOf result Failed)
-  pub one_more : OnErr result (faults_of new ≡ next_number (faults_of old))
+  pub one_more : OnErr result (faults_of new ≡ number_after (faults_of old))
+
+-- a call hands bytes to a sink, flushes none, and changes nothing beside it; the count of its faults rises exactly where a
+-- write failed
+pub record OnlyTakes {S B A : Type 0} (flushed_of : S → Option ℕ) (faults_of : S → ℕ) (beside_of : S → B) (old new : S) (result : Result A Refused) : Type 0 where
+  pub flushed : flushed_of new ≡ flushed_of old
+  pub beside : beside_of new ≡ beside_of old
+  pub counts : CountsWrite faults_of old new result
 
 -- ---- calls that fail by their numbers
 
 -- the call was numbered, it failed exactly if its number is in the list, and then it is counted as failed
 pub record FailsByNumber {S : Type 0} (failing_of : S → List ℕ) (calls_of faults_of : S → ℕ) (old new : S) (Fails : Type 0) : Type 0 where
-  pub fails : Fails ↔ Contains (failing_of old) (next_number (calls_of old))
+  pub fails : Fails ↔ Contains (failing_of old) (number_after (calls_of old))
   pub one_more : Fails → faults_of new ≡ faults_of old + 1
-  pub numbered : calls_of new ≡ next_number (calls_of old)
+  pub numbered : calls_of new ≡ number_after (calls_of old)
   pub list : failing_of new ≡ failing_of old
+
+-- a numbered write or flush, which fails so, and the count of faults rises exactly there
+pub record Numbered {S A : Type 0} (failing_of : S → List ℕ) (calls_of faults_of : S → ℕ) (old new : S) (result : Result A Refused) : Type 0 where
+  pub counts : CountsWrite faults_of old new result
+  pub numbers : FailsByNumber failing_of calls_of faults_of old new (IsErrOf result Failed)

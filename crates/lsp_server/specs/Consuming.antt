@@ -1,5 +1,5 @@
 -- What a consumer does with the bytes of a source, read by read.
-use Rattle.std.specs.Prelude.{◌≡◌, ◌≤◌, ◌++◌, ℕ, Bool, true, false, List, [], length, Option, Some, IfSome, Result, Ok, Err}
+use Rattle.std.specs.Prelude.{◌≡◌, ◌≤◌, ◌++◌, ℕ, Bool, true, false, List, [], ◌∷◌, length, Option, Some, IfSome, Result, Ok, Err}
 use Rattle.std.specs.Io.KnownBytes.{Consumes, Appends}
 use Rattle.lsp_server.specs.declared.step.ServeError.{ServeError}
 use Rattle.lsp_server.specs.Errors.{ComesOfSink}
@@ -10,6 +10,11 @@ use Rattle.lsp_server.specs.Reads.{Moment}
 pub data Given : Type 0 where
   piece : List ℕ → Given
   end : Given
+
+-- what a read gives: its bytes, or word that no more come where it gave none
+abbrev pub given_of : List ℕ → Given
+given_of [] = end
+given_of (x ∷ xs) = piece (x ∷ xs)
 
 -- what comes of it: the consumer goes on, it is done, or an error stops it
 pub data ConsumerOutcome : Type 0 where

@@ -1,10 +1,11 @@
 -- What a call leaves of a sink and of a transport, by the error that it answers, if any.
-use Rattle.std.specs.Prelude.{◌≡◌, ◌≤◌, ◌<◌, ◌+◌, ◌*◌, ℕ, List, length, Option, Some, IfSome, IfNone}
+use Rattle.std.specs.Prelude.{◌≡◌, ◌≤◌, ◌<◌, ◌+◌, ◌*◌, ℕ, List, length, Option, Some, IfSome, IfNone, Result, IfErr}
+use Rattle.std.specs.Result.{result_err}
 use Rattle.lsp_server.specs.declared.step.ServeError.{ServeError}
 use Rattle.lsp_server.specs.declared.step.ServeError.TheVariants.{ReadFault, WriteFault, ReadsSpent}
 use Rattle.lsp_server.specs.SourceSink.{CountRose, IsFlushed}
 use Rattle.lsp_server.specs.Reads.{Moment, Made}
-use Rattle.lsp_server.specs.Errors.{LeavesSink, IsFlushedAt}
+use Rattle.lsp_server.specs.Errors.{LeavesSink, IsFlushedAt, IsInStep}
 
 -- the count of a sink's faults rises exactly where the call stops with such a fault, and nothing beside the sink changes
 pub record LeavesFaults {O B : Type 0} (faults_of : O → ℕ) (beside_of : O → B) (old new : O) (error : Option ServeError) : Type 0 where
@@ -46,6 +47,18 @@ pub record OnlyWrites {O B : Type 0} (flushed_of : O → Option ℕ) (faults_of 
 pub record WritesFlushed {O B : Type 0} (taken_of : O → Option (List ℕ)) (flushed_of : O → Option ℕ) (faults_of : O → ℕ) (beside_of : O → B) (old new : O) (error : Option ServeError) : Type 0 where
   pub flushed : IfNone error (IsFlushed (taken_of old) (flushed_of old) → IsFlushed (taken_of new) (flushed_of new))
   pub faults : LeavesFaults faults_of beside_of old new error
+
+-- a call makes steps: it writes to a sink, and flushes nothing; only errors of a step stop it
+pub record OnlySteps {O B A : Type 0} (flushed_of : O → Option ℕ) (faults_of : O → ℕ) (beside_of : O → B) (old new : O) (result : Result A ServeError) : Type 0 where
+  pub flushed : flushed_of new ≡ flushed_of old
+  pub faults : LeavesFaults faults_of beside_of old new (result_err result)
+  pub others : IfErr result IsInStep
+
+-- a call makes steps, and flushes all that was written, also where it stops with an error that isn't of the sink or of memory
+pub record StepsFlushed {O B A : Type 0} (taken_of : O → Option (List ℕ)) (flushed_of : O → Option ℕ) (faults_of : O → ℕ) (beside_of : O → B) (old new : O) (result : Result A ServeError) : Type 0 where
+  pub flushed : StaysFlushed (taken_of old) (flushed_of old) (taken_of new) (flushed_of new) (result_err result)
+  pub faults : LeavesFaults faults_of beside_of old new (result_err result)
+  pub others : IfErr result IsInStep
 
 -- what a call over reads leaves of its transport: all is flushed, each failure is told and has its cause, at most so many
 -- reads are made, and it is the same transport

@@ -1,9 +1,7 @@
 // What is done with the bytes that reads give.
-ghost use Rattle.std.specs.Prelude.{◌≡◌, ⊤, IfErr};
-ghost use Rattle.std.specs.Result.{result_err};
+ghost use Rattle.std.specs.Prelude.{◌≡◌, ⊤};
 ghost use Rattle.lsp_server.specs.Consuming.{Consuming, Did, piece as a_piece, end as the_end, consumer_outcome, last_outcome};
-ghost use Rattle.lsp_server.specs.Leaves.{LeavesFaults};
-ghost use Rattle.lsp_server.specs.Errors.{IsInStep};
+ghost use Rattle.lsp_server.specs.Leaves.{OnlySteps};
 
 use crate::{ServeError, Sink};
 
@@ -28,9 +26,7 @@ pub trait Consumer<S> {
         requires { meaning.is_open (self.old, state.old) }
         ensures did { Did meaning (self.old, state.old) (a_piece piece.now) (consumer_outcome result)
             (O.taken sink.old) (O.taken sink.new) (self.new, state.new) }
-        ensures flushed { O.flushed sink.new ≡ O.flushed sink.old }
-        ensures sink { LeavesFaults O.faults O.beside sink.old sink.new (result_err result) }
-        ensures others { IfErr result IsInStep }
+        ensures sink { OnlySteps O.flushed O.faults O.beside sink.old sink.new result }
         ensures tied { tied self.new ≡ tied self.old };
 
     /// Is told that no more bytes come.
@@ -38,8 +34,6 @@ pub trait Consumer<S> {
         requires { meaning.is_open (self.old, state.old) }
         ensures did { Did meaning (self.old, state.old) the_end (last_outcome result)
             (O.taken sink.old) (O.taken sink.new) (self.new, state.new) }
-        ensures flushed { O.flushed sink.new ≡ O.flushed sink.old }
-        ensures sink { LeavesFaults O.faults O.beside sink.old sink.new (result_err result) }
-        ensures others { IfErr result IsInStep }
+        ensures sink { OnlySteps O.flushed O.faults O.beside sink.old sink.new result }
         ensures tied { tied self.new ≡ tied self.old };
 }

@@ -1,10 +1,10 @@
 // The loop over the reads, whatever is done with their bytes.
-ghost use Rattle.std.specs.Prelude.{◌≡◌, ◌≤◌, IfErr};
+ghost use Rattle.std.specs.Prelude.{◌≡◌, ◌<◌, false, length, IfOk, IfErr};
 ghost use Rattle.std.specs.Result.{result_err};
-ghost use Rattle.lsp_server.specs.Consuming.{IsLawfulConsumer, Did, Took, TookLast, AllTook, piece as a_piece, end as the_end, consumer_outcome, last_outcome};
-ghost use Rattle.lsp_server.specs.Leaves.{LeavesFaults, StaysFlushed, TellsFaults, WithinReads};
+ghost use Rattle.lsp_server.specs.Consuming.{IsLawfulConsumer, Did, Took, TookLast, AllTook, given_of, consumer_outcome, last_outcome};
+ghost use Rattle.lsp_server.specs.Leaves.{StaysFlushed, StepsFlushed, TellsFaults, WithinReads};
 ghost use Rattle.lsp_server.specs.Reads.{moment, Made, InOrder};
-ghost use Rattle.lsp_server.specs.Errors.{IsBetweenReads, IsInStep, EndsInStep};
+ghost use Rattle.lsp_server.specs.Errors.{IsBetweenReads, EndsInStep};
 
 use crate::step::{flush, flush_after};
 use crate::{Consumer, Failed, ServeError, Sink, Transport};
@@ -57,18 +57,16 @@ pub fn over_reads<T: Transport, S, C: Consumer<S>>(
             Ok(n) => n,
             Err(Failed) => return Err(ServeError::ReadFault),
         };
-        if n == 0 {
-            return end_flushed(consumer, state, io);
-        }
-        if take_flushed(consumer, state, &piece[..n], io)? {
+        if give(consumer, state, &piece[..n], io)? {
             return Ok(());
         }
     }
     Err(ServeError::ReadsSpent)
 }
 
-// Gives a piece, and flushes what was written for it, also where the consumer fails.
-fn take_flushed<O: Sink, S, C: Consumer<S>>(
+// Gives the bytes that a read gave, or word that no more come where it gave none, and flushes what
+// was written for it, also where the consumer fails.
+fn give<O: Sink, S, C: Consumer<S>>(
     consumer: &mut C,
     state: &mut S,
     piece: &[u8],
@@ -76,41 +74,28 @@ fn take_flushed<O: Sink, S, C: Consumer<S>>(
 ) -> Result<bool, ServeError>
     requires lawful { IsLawfulConsumer C.meaning }
     requires opened { C.meaning.is_open (consumer.old, state.old) }
-    ensures did { Did C.meaning (consumer.old, state.old) (a_piece piece.now) (consumer_outcome result)
-        (O.taken sink.old) (O.taken sink.new) (consumer.new, state.new) }
-    ensures flushed { StaysFlushed (O.taken sink.old) (O.flushed sink.old)
-        (O.taken sink.new) (O.flushed sink.new) (result_err result) }
-    ensures sink { LeavesFaults O.faults O.beside sink.old sink.new (result_err result) }
-    ensures others { IfErr result IsInStep }
+    ensures did { Did C.meaning (consumer.old, state.old) (given_of piece.now)
+        (consumer_outcome result) (O.taken sink.old) (O.taken sink.new) (consumer.new, state.new) }
+
+    // At the end the consumer is done.
+    ensures more { IfOk result (λ done. done ≡ false → 0 < length piece.now) }
+    ensures sink { StepsFlushed O.taken O.flushed O.faults O.beside sink.old sink.new result }
     ensures tied { C.tied consumer.new ≡ C.tied consumer.old }
 {
+    if piece.is_empty() {
+        return match consumer.end(state, sink) {
+            Ok(()) => {
+                flush(sink)?;
+                Ok(true)
+            }
+            Err(error) => Err(flush_after(sink, error)),
+        };
+    }
     match consumer.take(state, piece, sink) {
         Ok(done) => {
             flush(sink)?;
             Ok(done)
         }
-        Err(error) => Err(flush_after(sink, error)),
-    }
-}
-
-// Tells the end, and flushes what was written for it, also where the consumer fails.
-fn end_flushed<O: Sink, S, C: Consumer<S>>(
-    consumer: &mut C,
-    state: &mut S,
-    sink: &mut O,
-) -> Result<(), ServeError>
-    requires lawful { IsLawfulConsumer C.meaning }
-    requires opened { C.meaning.is_open (consumer.old, state.old) }
-    ensures did { Did C.meaning (consumer.old, state.old) the_end (last_outcome result)
-        (O.taken sink.old) (O.taken sink.new) (consumer.new, state.new) }
-    ensures flushed { StaysFlushed (O.taken sink.old) (O.flushed sink.old)
-        (O.taken sink.new) (O.flushed sink.new) (result_err result) }
-    ensures sink { LeavesFaults O.faults O.beside sink.old sink.new (result_err result) }
-    ensures others { IfErr result IsInStep }
-    ensures tied { C.tied consumer.new ≡ C.tied consumer.old }
-{
-    match consumer.end(state, sink) {
-        Ok(()) => flush(sink),
         Err(error) => Err(flush_after(sink, error)),
     }
 }

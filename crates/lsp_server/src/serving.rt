@@ -12,8 +12,8 @@ ghost use Rattle.lsp_server.specs.Written.{Ran, RanPart};
 ghost use Rattle.lsp_server.specs.Served.{call_bytes, ServedTold, ServesOver};
 ghost use Rattle.lsp_server.specs.ServesOn.{ServesOn};
 ghost use Rattle.lsp_server.specs.Reads.{moment};
-ghost use Rattle.lsp_server.specs.Errors.{IsInStep, SaysSpent};
-ghost use Rattle.lsp_server.specs.Leaves.{LeavesFaults, LeavesTransport, OnlyWrites, StaysFlushed};
+ghost use Rattle.lsp_server.specs.Errors.{SaysSpent};
+ghost use Rattle.lsp_server.specs.Leaves.{LeavesTransport, OnlyWrites, StepsFlushed};
 ghost use Rattle.lsp_server.specs.Serving.{PartTold};
 ghost use Rattle.lsp_server.specs.ServerView.{standing, IsReady};
 ghost use Rattle.lsp_server.specs.Steps.{LeavesServed, LeavesSession, MadeSteps, MayServe, MayStep};
@@ -198,11 +198,8 @@ pub fn serve_item<O: Sink, D: Desk + Drop, H: Handlers<D>, P: Pick>(
         (standing H.semantics D.meaning session.old (P.state pick.old) (O.taken sink.old))
         (show_item item ∷ []) (desk_of session.new) (O.taken sink.new)) }
     ensures grown { OnErr result (Grown D.meaning (desk_of session.old) (desk_of session.new)) }
-    ensures flushed { StaysFlushed (O.taken sink.old) (O.flushed sink.old)
-        (O.taken sink.new) (O.flushed sink.new) (result_err result) }
-    ensures sink { LeavesFaults O.faults O.beside sink.old sink.new (result_err result) }
+    ensures sink { StepsFlushed O.taken O.flushed O.faults O.beside sink.old sink.new result }
     ensures spent { IfErr result (λ e. SaysSpent D.meaning (desk_of session.new) e) }
-    ensures others { IfErr result IsInStep }
 {
     match write_step(alloc, room, sink, session, item, pick, rounds) {
         Ok(()) => flush(sink),

@@ -1,7 +1,6 @@
 // What bytes come from.
-ghost use Rattle.std.specs.Prelude.{◌≡◌, ◌≤◌, ◌<◌, ℕ, List, Option, length, take, IfOk, OnOk, OnErr};
-ghost use Rattle.std.specs.Io.KnownBytes.{Consumes, Keeps};
-ghost use Rattle.lsp_server.specs.SourceSink.{CountRose, ReadsEnd};
+ghost use Rattle.std.specs.Prelude.{◌<◌, ℕ, List, Option, length};
+ghost use Rattle.lsp_server.specs.Calls.{GivesBytes, CountsRead};
 
 /// A read failed, and took nothing.
 #[derive(Clone, Copy, Debug, PartialEq, Eq)]
@@ -19,14 +18,8 @@ pub trait Source {
     /// 0 is the end of input.
     fn read(&mut self, piece: &mut [u8]) -> Result<usize, Failed>
         requires { 0 < length piece.old }
-        ensures within { IfOk result (λ n. n ≤ length piece.new) }
-        ensures gives { IfOk result (λ n. Consumes (left self.old) (left self.new)
-            (take n piece.new)) }
-        ensures ends { IfOk result (λ n. ReadsEnd (left self.old) n) }
-        ensures kept { OnErr result (Keeps (left self.old) (left self.new)) }
+        ensures gives { GivesBytes left self.old self.new piece.new result }
 
         // The count rises exactly where the read failed.
-        ensures count { faults self.old ≤ faults self.new }
-        ensures cause { OnErr result (CountRose (faults self.old) (faults self.new)) }
-        ensures unfailed { OnOk result (faults self.new ≡ faults self.old) };
+        ensures counts { CountsRead faults self.old self.new result };
 }

@@ -1,8 +1,7 @@
 // What a session reads from and writes to, as one.
-ghost use Rattle.std.specs.Prelude.{◌≡◌, ◌≤◌, ◌<◌, ⊤, ℕ, List, Option, None, length, take, refl, IfOk, OnOk, OnErr};
-ghost use Rattle.std.specs.Io.KnownBytes.{Consumes, Keeps};
+ghost use Rattle.std.specs.Prelude.{◌≡◌, ◌<◌, ⊤, ℕ, List, Option, None, length, refl, OnOk, OnErr};
 ghost use Rattle.std.proofs.Common.{ap};
-ghost use Rattle.lsp_server.specs.SourceSink.{CountRose, ReadsEnd};
+ghost use Rattle.lsp_server.specs.Calls.{GivesBytes, CountsRead};
 ghost use Rattle.lsp_server.specs.Reads.{Moment, moment, Notes};
 
 use crate::{Failed, Refused, Sink, Source};
@@ -28,11 +27,7 @@ pub trait Transport: Sink {
     /// 0 is the end of input.
     fn read(&mut self, piece: &mut [u8]) -> Result<usize, Failed>
         requires { 0 < length piece.old }
-        ensures within { IfOk result (λ n. n ≤ length piece.new) }
-        ensures gives { IfOk result (λ n. Consumes (left self.old) (left self.new)
-            (take n piece.new)) }
-        ensures ends { IfOk result (λ n. ReadsEnd (left self.old) n) }
-        ensures kept { OnErr result (Keeps (left self.old) (left self.new)) }
+        ensures gives { GivesBytes left self.old self.new piece.new result }
 
         // A read that doesn't fail is noted. None takes or flushes anything.
         ensures notes { OnOk result (Notes (reads self.old)
@@ -45,9 +40,7 @@ pub trait Transport: Sink {
         ensures tied { tied self.new ≡ tied self.old }
 
         // The count rises exactly where the read failed.
-        ensures count { read_faults self.old ≤ read_faults self.new }
-        ensures cause { OnErr result (CountRose (read_faults self.old) (read_faults self.new)) }
-        ensures unfailed { OnOk result (read_faults self.new ≡ read_faults self.old) };
+        ensures counts { CountsRead read_faults self.old self.new result };
 
     /// No write and no flush is a read.
     ghost apart: { (a b : Self) → Self.beside a ≡ Self.beside b → (left a ≡ left b)

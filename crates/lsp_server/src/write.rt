@@ -1,10 +1,10 @@
 // Whole frames into a sink.
-ghost use Rattle.std.specs.Prelude.{◌≡◌, ◌≤◌, ◌++◌, false, ℕ, List, map, OnOk, OnErr, IsErrOf, IfOk};
+ghost use Rattle.std.specs.Prelude.{◌≡◌, false, ℕ, List, map, OnOk, OnErr};
 ghost use Rattle.std.specs.Io.KnownBytes.{Appends};
 ghost use Rattle.lsp_rpc.specs.Shown.{show_message};
 ghost use Rattle.lsp_frame.specs.Codec.{frames};
 ghost use Rattle.lsp_session.specs.Float.{have_float};
-ghost use Rattle.lsp_server.specs.SourceSink.{CountRose};
+ghost use Rattle.lsp_server.specs.Calls.{OnlyTakes};
 ghost use Rattle.lsp_server.specs.Written.{IsPrefixOf};
 
 use crate::{Refused, Sink};
@@ -30,13 +30,7 @@ pub(crate) fn put<O: Sink>(
     ensures part { OnErr result ((written : List ℕ)
         × IsPrefixOf written (frames (map show_message messages.now.items))
         × Appends (O.taken sink.old) (O.taken sink.new) written) }
-    ensures flushed { O.flushed sink.new ≡ O.flushed sink.old }
-    ensures beside { O.beside sink.new ≡ O.beside sink.old }
-    ensures count { O.faults sink.old ≤ O.faults sink.new }
-    ensures cause { IsErrOf result Refused.Failed
-        → CountRose (O.faults sink.old) (O.faults sink.new) }
-    ensures unfailed { OnOk result (O.faults sink.new ≡ O.faults sink.old) }
-    ensures no_memory { IsErrOf result Refused.NoMemory → O.faults sink.new ≡ O.faults sink.old }
+    ensures sink { OnlyTakes O.flushed O.faults O.beside sink.old sink.new result }
 {
     if messages.is_empty() {
         return Ok(());
@@ -69,13 +63,7 @@ pub fn write_all<O: Sink>(sink: &mut O, bytes: &[u8]) -> Result<(), Refused>
     ensures ok { OnOk result (Appends (O.taken sink.old) (O.taken sink.new) bytes.now) }
     ensures part { OnErr result ((written : List ℕ) × IsPrefixOf written bytes.now
         × Appends (O.taken sink.old) (O.taken sink.new) written) }
-    ensures flushed { O.flushed sink.new ≡ O.flushed sink.old }
-    ensures beside { O.beside sink.new ≡ O.beside sink.old }
-    ensures count { O.faults sink.old ≤ O.faults sink.new }
-    ensures cause { IsErrOf result Refused.Failed
-        → CountRose (O.faults sink.old) (O.faults sink.new) }
-    ensures unfailed { OnOk result (O.faults sink.new ≡ O.faults sink.old) }
-    ensures no_memory { IsErrOf result Refused.NoMemory → O.faults sink.new ≡ O.faults sink.old }
+    ensures sink { OnlyTakes O.flushed O.faults O.beside sink.old sink.new result }
 {
     let mut at = 0;
     while at < bytes.len() {

@@ -13,8 +13,9 @@ use Rattle.lsp_session.specs.declared.life_check.LifeCheck.{LifeCheck}
 use Rattle.lsp_session.specs.declared.life_check.LifeCheck.TheVariants.{Passes, NotInitialized, Invalid}
 use Rattle.lsp_session.specs.Item.{ItemData, message, fault, tick}
 use Rattle.lsp_session.specs.Semantics.{Semantics, Reading, call, missing, unexpected, unfit, Fresh, Held, Progress, Pending, Done}
-use Rattle.lsp_session.specs.Admission.{Verdict, Silence, Refuses, Answers, Cancels, Exits, Starts, Occasion, is_live, refuse, cancel, cancel_live, cancels, cancelled_id, started as started_verdict, unless_crowded, is_limited, if_of_kind, check_life, passed, quiet, called, by_layer, by_entry}
-use Rattle.lsp_session.specs.State.{Work, State, Effect, marked, dues, moved_up, moved_slots, moved_queue, entered, has_room, is_of, is_notification, without, notifications}
+use Rattle.lsp_rpc.specs.Cancel.{cancelled_id}
+use Rattle.lsp_session.specs.Admission.{Verdict, Silence, Refuses, Answers, Cancels, Exits, Starts, Occasion, is_live, refuse, cancel, cancel_live, cancels, started as started_verdict, unless_crowded, is_limited, if_of_kind, check_life, passed, quiet, called, by_layer, by_entry}
+use Rattle.lsp_session.specs.State.{Work, State, Effect, marked, dues, moved_up, moved_slots, moved_queue, entered, has_room, is_of, is_notification, without_request, notifications}
 use Rattle.lsp_session.specs.Run.{reads_in, Applies, admission_of, occasion, after_poll, Order, Poll, PollsAt, Rounds, Picked, Step, Run}
 use Rattle.lsp_session.specs.Begins.{Begin, passing, begins, begun_by_polls, begun_by_rounds, begun, starts, started, IsRequested, BeginsWhereStarted}
 
@@ -168,7 +169,7 @@ module _ {H C T : Type 0} (semantics : Semantics H C T) (f : Begin semantics.Cal
       let same : waiting s2 ≡ waiting s = ap waiting p.leaves in
       omega (arith, same)
   applies_waiting s s2 (Cancels i) e p =
-      let left : State H semantics.Call semantics.Task = record s { slots = without i s.slots; queue = without i s.queue } in
+      let left : State H semantics.Call semantics.Task = record s { slots = without_request i s.slots; queue = without_request i s.queue } in
       let same : waiting s2 ≡ waiting left = ap waiting p.1 ∙ moved_waiting left in
       omega (arith, same, of_works-filter f (λ w. not (is_of i w.id)) s.slots, of_works-filter f (λ w. not (is_of i w.id)) s.queue)
   applies_waiting s s2 Exits e p =

@@ -16,7 +16,7 @@ use Rattle.lsp_desk.proofs.TraceLemmas.{life_along}
 use Rattle.lsp_session.specs.declared.life_check.LifeChange.TheVariants.{Stays, Falls}
 use Rattle.lsp_session.specs.Semantics.{Done}
 use Rattle.lsp_session.specs.Admission.{is_live, cancel_change}
-use Rattle.lsp_session.specs.State.{Work, with_id, ids_of, is_of, without, initializes, marked, moved_slots, moved_queue, WorksFit}
+use Rattle.lsp_session.specs.State.{Work, with_id, ids_of, is_of, without_request, initializes, marked, moved_slots, moved_queue, WorksFit}
 use Rattle.lsp_session.specs.Run.{changing, poll_change, end_change}
 use Rattle.lsp_session.proofs.WorkLemmas.{ids_mid, ids_out, ids_moved, slots_if, queue_if}
 
@@ -155,7 +155,7 @@ module _ {C T : Type 0} where
       at false k = absurd (true≢false (sym k))
 
   cancelled_first : (max : ℕ) (i : IdData) (slots queue : List (Work C T)) → length slots ≡ 1 → length queue ≡ 0 → list_any initializes slots ≡ true → is_live i (ids_of (slots ++ queue)) ≡ true
-      → WorksFit (life_along Initializing (changing (cancel_change (ids_of (filter initializes (slots ++ queue))) i))) (moved_slots max (without i slots) (without i queue)) (moved_queue max (without i slots) (without i queue))
+      → WorksFit (life_along Initializing (changing (cancel_change (ids_of (filter initializes (slots ++ queue))) i))) (moved_slots max (without_request i slots) (without_request i queue)) (moved_queue max (without_request i slots) (without_request i queue))
   cancelled_first max i [] queue n m h l = absurd (omega (arith, n))
   cancelled_first max i (w ∷ []) [] n m h l = at (initializes w) refl h
     where
@@ -167,9 +167,9 @@ module _ {C T : Type 0} where
   cancelled_first max i (w ∷ v ∷ slots) queue n m h l = absurd (omega (arith, n))
 
   without_none : (max : ℕ) (i : IdData) (slots queue : List (Work C T)) → list_any initializes (slots ++ queue) ≡ false
-      → list_any initializes (moved_slots max (without i slots) (without i queue) ++ moved_queue max (without i slots) (without i queue)) ≡ false
+      → list_any initializes (moved_slots max (without_request i slots) (without_request i queue) ++ moved_queue max (without_request i slots) (without_request i queue)) ≡ false
   without_none max i slots queue p =
-      any_moved max (without i slots) (without i queue)
+      any_moved max (without_request i slots) (without_request i queue)
       ∙ ap (list_any initializes) (sym (filter-append (λ (w : Work C T). not (is_of i w.id)) slots queue))
       ∙ none_filtered initializes (λ w. not (is_of i w.id)) (slots ++ queue) p
 
@@ -178,15 +178,15 @@ module _ {C T : Type 0} where
   stays_there life i works p = ap (λ (ws : List (Work C T)). life_along life (changing (cancel_change (ids_of ws) i))) (filter_none initializes works p)
 
   pub cancelled_fits : (life : Life) (max : ℕ) (i : IdData) (slots queue : List (Work C T)) → is_live i (ids_of (slots ++ queue)) ≡ true → WorksFit life slots queue
-      → WorksFit (life_along life (changing (cancel_change (ids_of (filter initializes (slots ++ queue))) i))) (moved_slots max (without i slots) (without i queue)) (moved_queue max (without i slots) (without i queue))
+      → WorksFit (life_along life (changing (cancel_change (ids_of (filter initializes (slots ++ queue))) i))) (moved_slots max (without_request i slots) (without_request i queue)) (moved_queue max (without_request i slots) (without_request i queue))
   cancelled_fits Uninitialized max i slots queue l p =
       let none : slots ++ queue ≡ [] = ap (λ s. s ++ queue) (no_length slots p.0) ∙ no_length queue p.1 in
       none_live i (ids_of (slots ++ queue)) (ap (λ (ws : List (Work C T)). length (ids_of ws)) none) l
   cancelled_fits Initializing max i slots queue l p = cancelled_first max i slots queue p.0 p.1.0 p.1.1 l
   cancelled_fits Initialized max i slots queue l p =
-      subst (λ life. WorksFit life (moved_slots max (without i slots) (without i queue)) (moved_queue max (without i slots) (without i queue))) (sym (stays_there Initialized i (slots ++ queue) p)) (without_none max i slots queue p)
+      subst (λ life. WorksFit life (moved_slots max (without_request i slots) (without_request i queue)) (moved_queue max (without_request i slots) (without_request i queue))) (sym (stays_there Initialized i (slots ++ queue) p)) (without_none max i slots queue p)
   cancelled_fits ShutDown max i slots queue l p =
-      subst (λ life. WorksFit life (moved_slots max (without i slots) (without i queue)) (moved_queue max (without i slots) (without i queue))) (sym (stays_there ShutDown i (slots ++ queue) p)) (without_none max i slots queue p)
+      subst (λ life. WorksFit life (moved_slots max (without_request i slots) (without_request i queue)) (moved_queue max (without_request i slots) (without_request i queue))) (sym (stays_there ShutDown i (slots ++ queue) p)) (without_none max i slots queue p)
   cancelled_fits Exited max i slots queue l p = none_live i (ids_of (slots ++ queue)) p l
 
 -- ---- a call that begins

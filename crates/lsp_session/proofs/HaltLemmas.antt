@@ -12,7 +12,7 @@ use Rattle.lsp_session.specs.declared.session.SessionFault.TheVariants.{DeskSpen
 use Rattle.lsp_session.specs.State.{State, Effect}
 use Rattle.lsp_session.specs.Stop.{IsStop, stops}
 use Rattle.lsp_session.specs.Ends.{Breaks}
-use Rattle.lsp_session.specs.SessionView.{has_stopped, desk_of, Continues, Halts, SessionEnds}
+use Rattle.lsp_session.specs.SessionView.{has_stopped, desk_of, Proceeds, Halts, SessionEnds}
 
 stops_all : (fault : DeskFault) (f : SessionFault) → IsStop fault f → stops f ≡ true
 stops_all faults.NoMemory f is = ap stops is
@@ -34,7 +34,7 @@ module _ {H D C T : Type 0} {h : HandlersGhosts H D C T} {d : CallerGhosts D} (o
 
   module _ {A : Type 0} (r : Result A SessionFault) where
     -- what follows at Ok, and at an error
-    pub at_ok : {Q : Type 0} → (Continues old P new → Q) → SessionEnds old P new r → OnOk r Q
+    pub at_ok : {Q : Type 0} → (Proceeds old P new → Q) → SessionEnds old P new r → OnOk r Q
     at_ok f p = elim r as (λ x. SessionEnds old P new x → OnOk x _) [ Ok x ↦ f | Err e ↦ λ _. tt ] p
 
     pub at_err : {Q : Type 0} → ((fault : SessionFault) → Halts old P new fault → Q) → SessionEnds old P new r → OnErr r Q

@@ -14,7 +14,8 @@ use Rattle.lsp_session.specs.declared.table.Layer.TheVariants.{Initialize, Shutd
 use Rattle.lsp_session.specs.declared.life_check.LifeChange.TheVariants.{Stays, Rises}
 use Rattle.lsp_session.specs.Item.{ItemData, message, fault, tick}
 use Rattle.lsp_session.specs.Semantics.{Reading, call, missing, unexpected, unfit}
-use Rattle.lsp_session.specs.Admission.{Verdict, Silence, Refuses, Answers, Cancels, Exits, Starts, Admission, Occasion, is_live, admission, refuse, cancel, cancel_live, cancels, cancel_change, cancelled_id, started, unless_crowded, is_limited, if_of_kind, check_life, passed, quiet, initialized, by_layer, by_entry, unknown_method}
+use Rattle.lsp_rpc.specs.Cancel.{cancelled_id}
+use Rattle.lsp_session.specs.Admission.{Verdict, Silence, Refuses, Answers, Cancels, Exits, Starts, Admission, Occasion, is_live, admission, refuse, cancel, cancel_live, cancels, cancel_change, started, unless_crowded, is_limited, if_of_kind, check_life, passed, quiet, initialized, by_layer, by_entry, unknown_method}
 
 -- nothing begins and nothing ends
 abbrev pub changes_none : {C : Type 0} → Verdict C → Bool

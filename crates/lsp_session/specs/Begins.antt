@@ -8,7 +8,7 @@ use Rattle.lsp_session.specs.Admission.{Verdict, Silence, Refuses, Answers, Canc
 use Rattle.lsp_session.specs.State.{State, Effect, dues, marked}
 use Rattle.lsp_session.specs.Run.{admission_of, reads_in, Order, PollsAt, Rounds, Picked, Step, Run}
 use Rattle.lsp_session.specs.Count.{one_if}
-use Rattle.lsp_session.specs.Laws.{Serves}
+use Rattle.lsp_session.specs.Laws.{OpenedRun}
 
 -- a call, for a request with this id or for a notification, by this entry of the method table
 pub record Begin (C : Type 0) : Type 0 where
@@ -77,7 +77,7 @@ pub record IsRequested {H C T : Type 0} (semantics : Semantics H C T) (s : State
 -- a call begins only where admission started it, once for each start, and with what its own request's params are read as
 pub record BeginsWhereStarted {H C T P : Type 0} (semantics : Semantics H C T) (order : Order P) : Type 0 where
   -- whatever test is made of them, no more begin than were started
-  pub once : (rounds : ℕ) (service : H) (items : List ItemData) (e : Effect) (last : State H semantics.Call semantics.Task) (h : Serves semantics order rounds service items e last)
+  pub once : (rounds : ℕ) (service : H) (items : List ItemData) (e : Effect) (last : State H semantics.Call semantics.Task) (h : OpenedRun semantics order rounds service items e last)
       (test : Begin semantics.Call → Bool) → passing test (begun semantics order rounds _ items e _ h.runs) ≤ passing test (started semantics order rounds _ items e _ h.runs)
   pub requested : (s : State H semantics.Call semantics.Task) (item : ItemData) (id : Option IdData) (entry : Entry) (c : semantics.Call) → (admission_of semantics s item).verdict ≡ Starts id entry c
       → IsRequested semantics s item id entry c

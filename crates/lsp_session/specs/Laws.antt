@@ -12,7 +12,8 @@ use Rattle.lsp_session.specs.declared.table.Layer.{Layer}
 use Rattle.lsp_session.specs.declared.table.Layer.TheVariants.{Initialize, Exit, Cancel}
 use Rattle.lsp_session.specs.Item.{ItemData, message, item_has_float}
 use Rattle.lsp_session.specs.Semantics.{Semantics, Phase, Fresh, Held}
-use Rattle.lsp_session.specs.Admission.{Cancels, Starts, is_live, cancelled_id}
+use Rattle.lsp_session.specs.Admission.{Cancels, Starts, is_live}
+use Rattle.lsp_rpc.specs.Cancel.{cancelled_id}
 use Rattle.lsp_session.specs.State.{Work, State, Effect, IsSettled, FitsLife, live, opening_by, marked, dues}
 use Rattle.lsp_session.specs.Works.{AreSound}
 use Rattle.lsp_session.specs.Run.{answer, cancelled, Admits, admission_of, Order, Poll, PollsAt, Round, Drains, Picked, Step, Run, is_exit, has_exit}
@@ -91,7 +92,7 @@ pub record LivesGoOn {H C T : Type 0} (semantics : Semantics H C T) : Type 0 whe
 -- ---- runs
 
 -- a run from where nothing was admitted yet
-pub record Serves {H C T P : Type 0} (semantics : Semantics H C T) (order : Order P) (rounds : ℕ) (service : H) (items : List ItemData) (e : Effect) (last : State H semantics.Call semantics.Task) : Type 0 where
+pub record OpenedRun {H C T P : Type 0} (semantics : Semantics H C T) (order : Order P) (rounds : ℕ) (service : H) (items : List ItemData) (e : Effect) (last : State H semantics.Call semantics.Task) : Type 0 where
   pub max : ℕ
   pub wait : ℕ
   pub empty_params : Bool
@@ -104,14 +105,14 @@ pub record Serves {H C T P : Type 0} (semantics : Semantics H C T) (order : Orde
 -- where no item holds a float each call is sound
 abbrev pub FactsHold : {H C T P : Type 0} → Semantics H C T → Order P → Type 0
 FactsHold {H} semantics order = (rounds : ℕ) (service : H) (items : List ItemData) (e : Effect) (last : State H semantics.Call semantics.Task)
-    → Serves semantics order rounds service items e last → IsSettled last × FitsLife last × (list_any item_has_float items ≡ false → AreSound semantics (last.slots ++ last.queue))
+    → OpenedRun semantics order rounds service items e last → IsSettled last × FitsLife last × (list_any item_has_float items ≡ false → AreSound semantics (last.slots ++ last.queue))
 
 -- each owed request and each fault is answered once, but for the requests that are still live; after an exit none is
 pub record AnsweredOnce {H C T P : Type 0} (semantics : Semantics H C T) (order : Order P) : Type 0 where
   pub counts : (rounds : ℕ) (service : H) (items : List ItemData) (e : Effect) (last : State H semantics.Call semantics.Task)
-      → Serves semantics order rounds service items e last → Counts (semantics.find service) items e.out (live last)
+      → OpenedRun semantics order rounds service items e last → Counts (semantics.find service) items e.out (live last)
   pub after_exit : (rounds : ℕ) (service : H) (items : List ItemData) (e : Effect) (last : State H semantics.Call semantics.Task)
-      → Serves semantics order rounds service items e last → has_exit (semantics.find service) items ≡ true → live last ≡ []
+      → OpenedRun semantics order rounds service items e last → has_exit (semantics.find service) items ≡ true → live last ≡ []
 
 -- the item is a cancel that names this id
 pub record IsCancelOf {H C T : Type 0} (semantics : Semantics H C T) (service : H) (item : ItemData) (i : IdData) : Type 0 where

@@ -10,7 +10,7 @@ use Rattle.lsp_session.specs.Item.{ItemData}
 use Rattle.lsp_session.specs.Semantics.{Semantics}
 use Rattle.lsp_session.specs.State.{State, Effect}
 use Rattle.lsp_session.specs.Run.{Order}
-use Rattle.lsp_session.specs.Laws.{Serves}
+use Rattle.lsp_session.specs.Laws.{OpenedRun}
 
 -- the requests and notifications among messages
 abbrev pub requests_of : List MessageData → List RequestData
@@ -46,6 +46,6 @@ before_exit (entry ∷ entries) = if closes entry.call entry.reply then [] else 
 -- the desk still holds; a desk that others don't use holds none
 pub record OwnMessagesPass {H C T P : Type 0} (semantics : Semantics H C T) (order : Order P) : Type 0 where
   pub pass : (rounds : ℕ) (service : H) (items : List ItemData) (e : Effect) (last : State H semantics.Call semantics.Task)
-      → Serves semantics order rounds service items e last → requests_of e.out ++ last.desk.outbox ≡ all_put (before_exit (entries_of e.trace))
+      → OpenedRun semantics order rounds service items e last → requests_of e.out ++ last.desk.outbox ≡ all_put (before_exit (entries_of e.trace))
   pub alone : (rounds : ℕ) (service : H) (items : List ItemData) (e : Effect) (last : State H semantics.Call semantics.Task)
-      → Serves semantics order rounds service items e last → AllOwn e.trace → last.desk.outbox ≡ []
+      → OpenedRun semantics order rounds service items e last → AllOwn e.trace → last.desk.outbox ≡ []

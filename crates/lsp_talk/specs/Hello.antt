@@ -10,7 +10,7 @@ use Rattle.lsp_rpc.specs.Message.{MessageData}
 use Rattle.lsp_session.specs.Item.{ItemData}
 use Rattle.lsp_session.specs.State.{State}
 use Rattle.lsp_session.specs.Run.{served}
-use Rattle.lsp_session.specs.Laws.{Serves}
+use Rattle.lsp_session.specs.Laws.{OpenedRun}
 use Rattle.lsp_server.specs.Items.{stream_items}
 use Rattle.lsp_shared.specs.declared.view.View.{View}
 use Rattle.lsp_shared.specs.Seats.{entries_seen}
@@ -41,7 +41,7 @@ pub record ServesHello (trace : List TraceEntry) : Type 0 where
   pub is_sample : IsSampleService service
   pub out : List MessageData
   pub last : State (LspService Sample) IncomingCall (KeptTask TaskData)
-  pub serves : Serves service_of_sample in_order rounds service (hello_items service) (record { trace = trace; out = out }) last
+  pub serves : OpenedRun service_of_sample in_order rounds service (hello_items service) (record { trace = trace; out = out }) last
 
 -- the seat has seen such a session, and made the calls of it that are its own
 pub record HasServedHello (v : View) : Type 0 where

@@ -1,12 +1,12 @@
 -- The loop over the reads: each piece, the end of input, and each error.
-use Rattle.std.proofs.Common.{rules, arith, ◌≡◌, take, length-take, refl, ◌∙◌, true, ◌<◌, []}
+use Rattle.std.proofs.Common.{rules, arith, ◌≡◌, take, length, length-take, refl, ◌∙◌, true, ◌<◌, []}
 use Rattle.std.specs.Prelude.{Ok}
 use Rattle.std.specs.Result.{result_err}
-use Rattle.lsp_server.specs.Consuming.{piece, end, done, consumer_outcome, last_outcome}
+use Rattle.lsp_server.specs.Consuming.{piece, done, consumer_outcome, last_outcome}
 use Rattle.lsp_server.specs.Reads.{moment}
 use Rattle.lsp_server.proofs.KnownLemmas.{consumes_to, kept_none}
 use Rattle.lsp_server.proofs.OrderLemmas.{few_reads, few_so_far, fewer_so_far, in_order_last_read, in_order_so_far, not_at_end, noted_more, noted_none}
-use Rattle.lsp_server.proofs.TakingLemmas.{reading_start, reading_more, took_last, end_timely, few_more, no_step_spent, step_tells, no_step_fault}
+use Rattle.lsp_server.proofs.TakingLemmas.{reading_start, reading_more, given_some, took_given, few_more, no_step_spent, step_tells, no_step_fault}
 use Rattle.lsp_server.proofs.reads.over_reads.Goals as goal
 
 pub loop-init : goal.loop-init
@@ -35,134 +35,89 @@ returns-in-Err-clause-within g c =
     let below : c.loop.counter < c.args.reads = search rules in
     record {
       few = few_more (c.args.consumer.now, c.args.state.now) start now (c.loop.consumer, c.loop.state) c.loop.counter c.loop.invariant.reading (g.T.Transport.left c.read.new.self) [] c.args.reads
-          (kept_none (g.T.Transport.left c.loop.io) (g.T.Transport.left c.read.new.self) c.in-Err.ensures.kept) (omega arith) (omega (arith, below));
+          (kept_none (g.T.Transport.left c.loop.io) (g.T.Transport.left c.read.new.self) c.in-Err.ensures.gives.kept) (omega arith) (omega (arith, below));
       reads_spent = λ is. absurd (cc);
       few_reads = rw c.in-Err.ensures.unnoted (few_so_far _ (g.T.Transport.reads c.args.io.now) (g.T.Transport.reads c.loop.io) c.loop.counter c.args.reads (omega (arith, below)) c.loop.invariant.noted);
       all_reads = λ is. absurd (cc);
       fewer_at_fault = λ is. rw c.in-Err.ensures.unnoted (fewer_so_far _ (g.T.Transport.reads c.args.io.now) (g.T.Transport.reads c.loop.io) c.loop.counter c.args.reads below c.loop.invariant.noted);
     }
 
--- ---- the end of input
-
-pub returns-then-n-eq0-clause-last : goal.returns-then-n-eq0-clause-last
-returns-then-n-eq0-clause-last g c _ =
-    let apart = g.met.T.Transport.apart c.end_flushed.new.sink c.read.new.self c.end_flushed.ensures.sink.beside in
-    let gives = consumes_to (g.T.Transport.left c.loop.io) (g.T.Transport.left c.read.new.self) (g.T.Transport.left c.end_flushed.new.sink) (take c.in-Ok.n c.read.new.piece) apart.0 c.in-Ok.ensures.gives in
-    let start = moment (g.T.Transport.left c.args.io.now) (g.T.Sink.taken c.args.io.now) (g.T.Sink.flushed c.args.io.now) in
-    let now = moment (g.T.Transport.left c.loop.io) (g.T.Sink.taken c.loop.io) (g.T.Sink.flushed c.loop.io) in
-    let later = moment (g.T.Transport.left c.end_flushed.new.sink) (g.T.Sink.taken c.end_flushed.new.sink) (g.T.Sink.flushed c.end_flushed.new.sink) in
-    took_last (c.args.consumer.now, c.args.state.now) start now (c.loop.consumer, c.loop.state) c.loop.counter c.loop.invariant.reading later end (last_outcome c.end_flushed.result) (c.end_flushed.new.consumer, c.end_flushed.new.state) (rw c.if-n-eq0.true at gives) (omega arith)
-    (end_timely (c.args.consumer.now, c.args.state.now) start now (c.loop.consumer, c.loop.state) c.loop.counter c.loop.invariant.reading c.read.new.piece (g.T.Transport.left c.end_flushed.new.sink) c.in-Ok.n c.in-Ok.ensures.ends gives c.if-n-eq0.true) (rw c.in-Ok.ensures.taken at c.end_flushed.ensures.did)
-
-pub returns-then-n-eq0-clause-in_order : goal.returns-then-n-eq0-clause-in_order
-returns-then-n-eq0-clause-in_order g c =
-    let apart = g.met.T.Transport.apart c.end_flushed.new.sink c.read.new.self c.end_flushed.ensures.sink.beside in
-    let now = moment (g.T.Transport.left c.loop.io) (g.T.Sink.taken c.loop.io) (g.T.Sink.flushed c.loop.io) in
-    rw apart.2 (in_order_last_read _ (g.T.Transport.reads c.args.io.now) (g.T.Transport.reads c.loop.io) (g.T.Transport.reads c.read.new.self) now c.loop.counter c.loop.invariant.noted c.in-Ok.ensures.notes
-    (record { consumer = (c.loop.consumer, c.loop.state); took = c.loop.invariant.reading.took; flushed = c.loop.invariant.flushed }))
-
-pub returns-then-n-eq0-clause-within : goal.returns-then-n-eq0-clause-within
-returns-then-n-eq0-clause-within g c =
-    let apart = g.met.T.Transport.apart c.end_flushed.new.sink c.read.new.self c.end_flushed.ensures.sink.beside in
-    let gives = consumes_to (g.T.Transport.left c.loop.io) (g.T.Transport.left c.read.new.self) (g.T.Transport.left c.end_flushed.new.sink) (take c.in-Ok.n c.read.new.piece) apart.0 c.in-Ok.ensures.gives in
-    let now = moment (g.T.Transport.left c.loop.io) (g.T.Sink.taken c.loop.io) (g.T.Sink.flushed c.loop.io) in
-    let start = moment (g.T.Transport.left c.args.io.now) (g.T.Sink.taken c.args.io.now) (g.T.Sink.flushed c.args.io.now) in
-    record {
-      few = few_more (c.args.consumer.now, c.args.state.now) start now (c.loop.consumer, c.loop.state) c.loop.counter c.loop.invariant.reading (g.T.Transport.left c.end_flushed.new.sink) (take c.in-Ok.n c.read.new.piece) c.args.reads gives
-          (omega (arith, c.in-Ok.ensures.within, length-take c.in-Ok.n c.read.new.piece)) (search rules);
-      reads_spent = no_step_spent _ c.end_flushed.result c.end_flushed.ensures.others;
-      few_reads = rw apart.2 (few_reads _ (g.T.Transport.reads c.args.io.now) (g.T.Transport.reads c.loop.io) (g.T.Transport.reads c.read.new.self) now c.loop.counter c.loop.invariant.noted c.in-Ok.ensures.notes c.args.reads (search rules));
-      all_reads = no_step_spent _ c.end_flushed.result c.end_flushed.ensures.others;
-      fewer_at_fault = no_step_fault _ c.end_flushed.result c.end_flushed.ensures.others;
-    }
-
-pub returns-then-n-eq0-clause-faults : goal.returns-then-n-eq0-clause-faults
-returns-then-n-eq0-clause-faults g c =
-    let apart = g.met.T.Transport.apart c.end_flushed.new.sink c.read.new.self c.end_flushed.ensures.sink.beside in
-    step_tells g.T.Sink.faults g.T.Sink.beside c.read.new.self c.end_flushed.new.sink (g.T.Transport.read_faults c.args.io.now) (g.T.Transport.read_faults c.end_flushed.new.sink) (g.T.Sink.faults c.args.io.now)
-    (apart.1 ∙ c.in-Ok.ensures.unfailed ∙ c.loop.invariant.reads_count) (c.in-Ok.ensures.write_faults ∙ c.loop.invariant.writes_count) c.end_flushed.result c.end_flushed.ensures.others c.end_flushed.ensures.sink
-
-pub returns-then-n-eq0-clause-tied : goal.returns-then-n-eq0-clause-tied
-returns-then-n-eq0-clause-tied g c =
-    let apart = g.met.T.Transport.apart c.end_flushed.new.sink c.read.new.self c.end_flushed.ensures.sink.beside in
-    (apart.3 ∙ c.in-Ok.ensures.tied ∙ c.loop.invariant.tied, c.end_flushed.ensures.tied ∙ c.loop.invariant.consumer_tied)
-
 -- ---- a step failed
 
-pub returns-in_err-take_flushed-clause-last : goal.returns-in_err-take_flushed-clause-last
-returns-in_err-take_flushed-clause-last g c _ =
-    let apart = g.met.T.Transport.apart c.take_flushed.new.sink c.read.new.self c.take_flushed.ensures.sink.beside in
-    let gives = consumes_to (g.T.Transport.left c.loop.io) (g.T.Transport.left c.read.new.self) (g.T.Transport.left c.take_flushed.new.sink) (take c.in-Ok.n c.read.new.piece) apart.0 c.in-Ok.ensures.gives in
+pub returns-in_err-give-clause-last : goal.returns-in_err-give-clause-last
+returns-in_err-give-clause-last g c _ =
+    let apart = g.met.T.Transport.apart c.give.new.sink c.read.new.self c.give.ensures.sink.faults.beside in
+    let gives = consumes_to (g.T.Transport.left c.loop.io) (g.T.Transport.left c.read.new.self) (g.T.Transport.left c.give.new.sink) (take c.in-Ok.n c.read.new.piece) apart.0 c.in-Ok.ensures.gives.gives in
     let start = moment (g.T.Transport.left c.args.io.now) (g.T.Sink.taken c.args.io.now) (g.T.Sink.flushed c.args.io.now) in
     let now = moment (g.T.Transport.left c.loop.io) (g.T.Sink.taken c.loop.io) (g.T.Sink.flushed c.loop.io) in
-    let later = moment (g.T.Transport.left c.take_flushed.new.sink) (g.T.Sink.taken c.take_flushed.new.sink) (g.T.Sink.flushed c.take_flushed.new.sink) in
-    let is : last_outcome c.from_residual.result ≡ consumer_outcome c.take_flushed.result = search rules in
-    rw is (took_last (c.args.consumer.now, c.args.state.now) start now (c.loop.consumer, c.loop.state) c.loop.counter c.loop.invariant.reading later (piece (take c.in-Ok.n c.read.new.piece)) (consumer_outcome c.take_flushed.result) (c.take_flushed.new.consumer, c.take_flushed.new.state) gives
-    (omega (arith, c.in-Ok.ensures.within, length-take c.in-Ok.n c.read.new.piece)) tt (rw c.in-Ok.ensures.taken at c.take_flushed.ensures.did))
+    let later = moment (g.T.Transport.left c.give.new.sink) (g.T.Sink.taken c.give.new.sink) (g.T.Sink.flushed c.give.new.sink) in
+    let is : last_outcome c.from_residual.result ≡ consumer_outcome c.give.result = search rules in
+    rw is (took_given (c.args.consumer.now, c.args.state.now) start now (c.loop.consumer, c.loop.state) c.loop.counter c.loop.invariant.reading c.read.new.piece later c.in-Ok.n (consumer_outcome c.give.result) (c.give.new.consumer, c.give.new.state)
+    c.in-Ok.ensures.gives.within (search rules) c.in-Ok.ensures.gives.ends gives (rw c.in-Ok.ensures.taken at c.give.ensures.did))
 
-pub returns-in_err-take_flushed-clause-in_order : goal.returns-in_err-take_flushed-clause-in_order
-returns-in_err-take_flushed-clause-in_order g c =
-    let apart = g.met.T.Transport.apart c.take_flushed.new.sink c.read.new.self c.take_flushed.ensures.sink.beside in
+pub returns-in_err-give-clause-in_order : goal.returns-in_err-give-clause-in_order
+returns-in_err-give-clause-in_order g c =
+    let apart = g.met.T.Transport.apart c.give.new.sink c.read.new.self c.give.ensures.sink.faults.beside in
     let now = moment (g.T.Transport.left c.loop.io) (g.T.Sink.taken c.loop.io) (g.T.Sink.flushed c.loop.io) in
     rw apart.2 (in_order_last_read _ (g.T.Transport.reads c.args.io.now) (g.T.Transport.reads c.loop.io) (g.T.Transport.reads c.read.new.self) now c.loop.counter c.loop.invariant.noted c.in-Ok.ensures.notes
     (record { consumer = (c.loop.consumer, c.loop.state); took = c.loop.invariant.reading.took; flushed = c.loop.invariant.flushed }))
 
-pub returns-in_err-take_flushed-clause-within : goal.returns-in_err-take_flushed-clause-within
-returns-in_err-take_flushed-clause-within g c =
-    let apart = g.met.T.Transport.apart c.take_flushed.new.sink c.read.new.self c.take_flushed.ensures.sink.beside in
-    let gives = consumes_to (g.T.Transport.left c.loop.io) (g.T.Transport.left c.read.new.self) (g.T.Transport.left c.take_flushed.new.sink) (take c.in-Ok.n c.read.new.piece) apart.0 c.in-Ok.ensures.gives in
+pub returns-in_err-give-clause-within : goal.returns-in_err-give-clause-within
+returns-in_err-give-clause-within g c =
+    let apart = g.met.T.Transport.apart c.give.new.sink c.read.new.self c.give.ensures.sink.faults.beside in
+    let gives = consumes_to (g.T.Transport.left c.loop.io) (g.T.Transport.left c.read.new.self) (g.T.Transport.left c.give.new.sink) (take c.in-Ok.n c.read.new.piece) apart.0 c.in-Ok.ensures.gives.gives in
     let now = moment (g.T.Transport.left c.loop.io) (g.T.Sink.taken c.loop.io) (g.T.Sink.flushed c.loop.io) in
     let start = moment (g.T.Transport.left c.args.io.now) (g.T.Sink.taken c.args.io.now) (g.T.Sink.flushed c.args.io.now) in
-    let is : result_err c.from_residual.result ≡ result_err c.take_flushed.result = search rules in
+    let is : result_err c.from_residual.result ≡ result_err c.give.result = search rules in
     record {
-      few = few_more (c.args.consumer.now, c.args.state.now) start now (c.loop.consumer, c.loop.state) c.loop.counter c.loop.invariant.reading (g.T.Transport.left c.take_flushed.new.sink) (take c.in-Ok.n c.read.new.piece) c.args.reads gives
-          (omega (arith, c.in-Ok.ensures.within, length-take c.in-Ok.n c.read.new.piece)) (search rules);
-      reads_spent = rw is (no_step_spent _ c.take_flushed.result c.take_flushed.ensures.others);
+      few = few_more (c.args.consumer.now, c.args.state.now) start now (c.loop.consumer, c.loop.state) c.loop.counter c.loop.invariant.reading (g.T.Transport.left c.give.new.sink) (take c.in-Ok.n c.read.new.piece) c.args.reads gives
+          (omega (arith, c.in-Ok.ensures.gives.within, length-take c.in-Ok.n c.read.new.piece)) (search rules);
+      reads_spent = rw is (no_step_spent _ c.give.result c.give.ensures.sink.others);
       few_reads = rw apart.2 (few_reads _ (g.T.Transport.reads c.args.io.now) (g.T.Transport.reads c.loop.io) (g.T.Transport.reads c.read.new.self) now c.loop.counter c.loop.invariant.noted c.in-Ok.ensures.notes c.args.reads (search rules));
-      all_reads = rw is (no_step_spent _ c.take_flushed.result c.take_flushed.ensures.others);
-      fewer_at_fault = rw is (no_step_fault _ c.take_flushed.result c.take_flushed.ensures.others);
+      all_reads = rw is (no_step_spent _ c.give.result c.give.ensures.sink.others);
+      fewer_at_fault = rw is (no_step_fault _ c.give.result c.give.ensures.sink.others);
     }
 
-pub returns-in_err-take_flushed-clause-faults : goal.returns-in_err-take_flushed-clause-faults
-returns-in_err-take_flushed-clause-faults g c =
-    let apart = g.met.T.Transport.apart c.take_flushed.new.sink c.read.new.self c.take_flushed.ensures.sink.beside in
-    let is : result_err c.from_residual.result ≡ result_err c.take_flushed.result = search rules in
-    rw is (step_tells g.T.Sink.faults g.T.Sink.beside c.read.new.self c.take_flushed.new.sink (g.T.Transport.read_faults c.args.io.now) (g.T.Transport.read_faults c.take_flushed.new.sink) (g.T.Sink.faults c.args.io.now)
-    (apart.1 ∙ c.in-Ok.ensures.unfailed ∙ c.loop.invariant.reads_count) (c.in-Ok.ensures.write_faults ∙ c.loop.invariant.writes_count) c.take_flushed.result c.take_flushed.ensures.others c.take_flushed.ensures.sink)
+pub returns-in_err-give-clause-faults : goal.returns-in_err-give-clause-faults
+returns-in_err-give-clause-faults g c =
+    let apart = g.met.T.Transport.apart c.give.new.sink c.read.new.self c.give.ensures.sink.faults.beside in
+    let is : result_err c.from_residual.result ≡ result_err c.give.result = search rules in
+    rw is (step_tells g.T.Sink.faults g.T.Sink.beside c.read.new.self c.give.new.sink (g.T.Transport.read_faults c.args.io.now) (g.T.Transport.read_faults c.give.new.sink) (g.T.Sink.faults c.args.io.now)
+    (apart.1 ∙ c.in-Ok.ensures.counts.unfailed ∙ c.loop.invariant.reads_count) (c.in-Ok.ensures.write_faults ∙ c.loop.invariant.writes_count) c.give.result c.give.ensures.sink.others c.give.ensures.sink.faults)
 
-pub returns-in_err-take_flushed-clause-tied : goal.returns-in_err-take_flushed-clause-tied
-returns-in_err-take_flushed-clause-tied g c =
-    let apart = g.met.T.Transport.apart c.take_flushed.new.sink c.read.new.self c.take_flushed.ensures.sink.beside in
-    (apart.3 ∙ c.in-Ok.ensures.tied ∙ c.loop.invariant.tied, c.take_flushed.ensures.tied ∙ c.loop.invariant.consumer_tied)
+pub returns-in_err-give-clause-tied : goal.returns-in_err-give-clause-tied
+returns-in_err-give-clause-tied g c =
+    let apart = g.met.T.Transport.apart c.give.new.sink c.read.new.self c.give.ensures.sink.faults.beside in
+    (apart.3 ∙ c.in-Ok.ensures.tied ∙ c.loop.invariant.tied, c.give.ensures.tied ∙ c.loop.invariant.consumer_tied)
 
 -- ---- the consumer is done
 
 pub returns-then-branch-clause-last : goal.returns-then-branch-clause-last
 returns-then-branch-clause-last g c _ =
-    let apart = g.met.T.Transport.apart c.take_flushed.new.sink c.read.new.self c.take_flushed.ensures.sink.beside in
-    let gives = consumes_to (g.T.Transport.left c.loop.io) (g.T.Transport.left c.read.new.self) (g.T.Transport.left c.take_flushed.new.sink) (take c.in-Ok.n c.read.new.piece) apart.0 c.in-Ok.ensures.gives in
+    let apart = g.met.T.Transport.apart c.give.new.sink c.read.new.self c.give.ensures.sink.faults.beside in
+    let gives = consumes_to (g.T.Transport.left c.loop.io) (g.T.Transport.left c.read.new.self) (g.T.Transport.left c.give.new.sink) (take c.in-Ok.n c.read.new.piece) apart.0 c.in-Ok.ensures.gives.gives in
     let start = moment (g.T.Transport.left c.args.io.now) (g.T.Sink.taken c.args.io.now) (g.T.Sink.flushed c.args.io.now) in
     let now = moment (g.T.Transport.left c.loop.io) (g.T.Sink.taken c.loop.io) (g.T.Sink.flushed c.loop.io) in
-    let later = moment (g.T.Transport.left c.take_flushed.new.sink) (g.T.Sink.taken c.take_flushed.new.sink) (g.T.Sink.flushed c.take_flushed.new.sink) in
-    took_last (c.args.consumer.now, c.args.state.now) start now (c.loop.consumer, c.loop.state) c.loop.counter c.loop.invariant.reading later (piece (take c.in-Ok.n c.read.new.piece)) done (c.take_flushed.new.consumer, c.take_flushed.new.state) gives
-    (omega (arith, c.in-Ok.ensures.within, length-take c.in-Ok.n c.read.new.piece)) tt (rw (c.in-Ok.ensures.taken, c.if-branch.true) at c.in_ok-take_flushed.ensures.did)
+    let later = moment (g.T.Transport.left c.give.new.sink) (g.T.Sink.taken c.give.new.sink) (g.T.Sink.flushed c.give.new.sink) in
+    took_given (c.args.consumer.now, c.args.state.now) start now (c.loop.consumer, c.loop.state) c.loop.counter c.loop.invariant.reading c.read.new.piece later c.in-Ok.n done (c.give.new.consumer, c.give.new.state)
+    c.in-Ok.ensures.gives.within (search rules) c.in-Ok.ensures.gives.ends gives (rw (c.in-Ok.ensures.taken, c.if-branch.true) at c.in_ok-give.ensures.did)
 
 pub returns-then-branch-clause-in_order : goal.returns-then-branch-clause-in_order
 returns-then-branch-clause-in_order g c =
-    let apart = g.met.T.Transport.apart c.take_flushed.new.sink c.read.new.self c.take_flushed.ensures.sink.beside in
+    let apart = g.met.T.Transport.apart c.give.new.sink c.read.new.self c.give.ensures.sink.faults.beside in
     let now = moment (g.T.Transport.left c.loop.io) (g.T.Sink.taken c.loop.io) (g.T.Sink.flushed c.loop.io) in
     rw apart.2 (in_order_last_read _ (g.T.Transport.reads c.args.io.now) (g.T.Transport.reads c.loop.io) (g.T.Transport.reads c.read.new.self) now c.loop.counter c.loop.invariant.noted c.in-Ok.ensures.notes
     (record { consumer = (c.loop.consumer, c.loop.state); took = c.loop.invariant.reading.took; flushed = c.loop.invariant.flushed }))
 
 pub returns-then-branch-clause-within : goal.returns-then-branch-clause-within
 returns-then-branch-clause-within g c =
-    let apart = g.met.T.Transport.apart c.take_flushed.new.sink c.read.new.self c.take_flushed.ensures.sink.beside in
-    let gives = consumes_to (g.T.Transport.left c.loop.io) (g.T.Transport.left c.read.new.self) (g.T.Transport.left c.take_flushed.new.sink) (take c.in-Ok.n c.read.new.piece) apart.0 c.in-Ok.ensures.gives in
+    let apart = g.met.T.Transport.apart c.give.new.sink c.read.new.self c.give.ensures.sink.faults.beside in
+    let gives = consumes_to (g.T.Transport.left c.loop.io) (g.T.Transport.left c.read.new.self) (g.T.Transport.left c.give.new.sink) (take c.in-Ok.n c.read.new.piece) apart.0 c.in-Ok.ensures.gives.gives in
     let now = moment (g.T.Transport.left c.loop.io) (g.T.Sink.taken c.loop.io) (g.T.Sink.flushed c.loop.io) in
     let start = moment (g.T.Transport.left c.args.io.now) (g.T.Sink.taken c.args.io.now) (g.T.Sink.flushed c.args.io.now) in
     record {
-      few = few_more (c.args.consumer.now, c.args.state.now) start now (c.loop.consumer, c.loop.state) c.loop.counter c.loop.invariant.reading (g.T.Transport.left c.take_flushed.new.sink) (take c.in-Ok.n c.read.new.piece) c.args.reads gives
-          (omega (arith, c.in-Ok.ensures.within, length-take c.in-Ok.n c.read.new.piece)) (search rules);
+      few = few_more (c.args.consumer.now, c.args.state.now) start now (c.loop.consumer, c.loop.state) c.loop.counter c.loop.invariant.reading (g.T.Transport.left c.give.new.sink) (take c.in-Ok.n c.read.new.piece) c.args.reads gives
+          (omega (arith, c.in-Ok.ensures.gives.within, length-take c.in-Ok.n c.read.new.piece)) (search rules);
       reads_spent = tt;
       few_reads = rw apart.2 (few_reads _ (g.T.Transport.reads c.args.io.now) (g.T.Transport.reads c.loop.io) (g.T.Transport.reads c.read.new.self) now c.loop.counter c.loop.invariant.noted c.in-Ok.ensures.notes c.args.reads (search rules));
       all_reads = tt;
@@ -171,37 +126,38 @@ returns-then-branch-clause-within g c =
 
 pub returns-then-branch-clause-faults : goal.returns-then-branch-clause-faults
 returns-then-branch-clause-faults g c =
-    let apart = g.met.T.Transport.apart c.take_flushed.new.sink c.read.new.self c.take_flushed.ensures.sink.beside in
-    step_tells g.T.Sink.faults g.T.Sink.beside c.read.new.self c.take_flushed.new.sink (g.T.Transport.read_faults c.args.io.now) (g.T.Transport.read_faults c.take_flushed.new.sink) (g.T.Sink.faults c.args.io.now)
-    (apart.1 ∙ c.in-Ok.ensures.unfailed ∙ c.loop.invariant.reads_count) (c.in-Ok.ensures.write_faults ∙ c.loop.invariant.writes_count) (Ok true) tt c.in_ok-take_flushed.ensures.sink
+    let apart = g.met.T.Transport.apart c.give.new.sink c.read.new.self c.give.ensures.sink.faults.beside in
+    step_tells g.T.Sink.faults g.T.Sink.beside c.read.new.self c.give.new.sink (g.T.Transport.read_faults c.args.io.now) (g.T.Transport.read_faults c.give.new.sink) (g.T.Sink.faults c.args.io.now)
+    (apart.1 ∙ c.in-Ok.ensures.counts.unfailed ∙ c.loop.invariant.reads_count) (c.in-Ok.ensures.write_faults ∙ c.loop.invariant.writes_count) (Ok true) tt c.in_ok-give.ensures.sink.faults
 
 pub returns-then-branch-clause-tied : goal.returns-then-branch-clause-tied
 returns-then-branch-clause-tied g c =
-    let apart = g.met.T.Transport.apart c.take_flushed.new.sink c.read.new.self c.take_flushed.ensures.sink.beside in
-    (apart.3 ∙ c.in-Ok.ensures.tied ∙ c.loop.invariant.tied, c.take_flushed.ensures.tied ∙ c.loop.invariant.consumer_tied)
+    let apart = g.met.T.Transport.apart c.give.new.sink c.read.new.self c.give.ensures.sink.faults.beside in
+    (apart.3 ∙ c.in-Ok.ensures.tied ∙ c.loop.invariant.tied, c.give.ensures.tied ∙ c.loop.invariant.consumer_tied)
 
 -- ---- one piece more
 
 pub loop-preserved : goal.loop-preserved
 loop-preserved g c =
-    let apart = g.met.T.Transport.apart c.take_flushed.new.sink c.read.new.self c.take_flushed.ensures.sink.beside in
-    let gives = consumes_to (g.T.Transport.left c.loop.io) (g.T.Transport.left c.read.new.self) (g.T.Transport.left c.take_flushed.new.sink) (take c.in-Ok.n c.read.new.piece) apart.0 c.in-Ok.ensures.gives in
+    let apart = g.met.T.Transport.apart c.give.new.sink c.read.new.self c.give.ensures.sink.faults.beside in
+    let gives = consumes_to (g.T.Transport.left c.loop.io) (g.T.Transport.left c.read.new.self) (g.T.Transport.left c.give.new.sink) (take c.in-Ok.n c.read.new.piece) apart.0 c.in-Ok.ensures.gives.gives in
     let start = moment (g.T.Transport.left c.args.io.now) (g.T.Sink.taken c.args.io.now) (g.T.Sink.flushed c.args.io.now) in
     let now = moment (g.T.Transport.left c.loop.io) (g.T.Sink.taken c.loop.io) (g.T.Sink.flushed c.loop.io) in
-    let later = moment (g.T.Transport.left c.take_flushed.new.sink) (g.T.Sink.taken c.take_flushed.new.sink) (g.T.Sink.flushed c.take_flushed.new.sink) in
-    let did = rw (c.in-Ok.ensures.taken, c.if-branch.false) at c.in_ok-take_flushed.ensures.did in
+    let later = moment (g.T.Transport.left c.give.new.sink) (g.T.Sink.taken c.give.new.sink) (g.T.Sink.flushed c.give.new.sink) in
+    let some : 0 < length (take c.in-Ok.n c.read.new.piece) = c.in_ok-give.ensures.more c.if-branch.false in
+    let did = rw (c.in-Ok.ensures.taken, c.if-branch.false, given_some (take c.in-Ok.n c.read.new.piece) some) at c.in_ok-give.ensures.did in
     record {
-      reading = reading_more (c.args.consumer.now, c.args.state.now) start now (c.loop.consumer, c.loop.state) c.loop.counter c.loop.invariant.reading c.requires.lawful later (take c.in-Ok.n c.read.new.piece) (c.take_flushed.new.consumer, c.take_flushed.new.state) gives did
-          (omega (arith, c.in-Ok.ensures.within, length-take c.in-Ok.n c.read.new.piece, c.if-n-eq0.false)) (omega (arith, c.in-Ok.ensures.within, length-take c.in-Ok.n c.read.new.piece));
-      opened = c.requires.lawful.opens (c.loop.consumer, c.loop.state) (c.take_flushed.new.consumer, c.take_flushed.new.state) (piece (take c.in-Ok.n c.read.new.piece)) did.written did.does;
+      reading = reading_more (c.args.consumer.now, c.args.state.now) start now (c.loop.consumer, c.loop.state) c.loop.counter c.loop.invariant.reading c.requires.lawful later (take c.in-Ok.n c.read.new.piece) (c.give.new.consumer, c.give.new.state) gives did
+          some (omega (arith, c.in-Ok.ensures.gives.within, length-take c.in-Ok.n c.read.new.piece));
+      opened = c.requires.lawful.opens (c.loop.consumer, c.loop.state) (c.give.new.consumer, c.give.new.state) (piece (take c.in-Ok.n c.read.new.piece)) did.written did.does;
       size = search rules;
-      flushed = λ was. c.in_ok-take_flushed.ensures.flushed.flushed (rw (c.in-Ok.ensures.taken, c.in-Ok.ensures.flushed) (c.loop.invariant.flushed was));
-      reads_count = apart.1 ∙ c.in-Ok.ensures.unfailed ∙ c.loop.invariant.reads_count;
-      writes_count = c.in_ok-take_flushed.ensures.sink.unfailed ∙ c.in-Ok.ensures.write_faults ∙ c.loop.invariant.writes_count;
+      flushed = λ was. c.in_ok-give.ensures.sink.flushed.flushed (rw (c.in-Ok.ensures.taken, c.in-Ok.ensures.flushed) (c.loop.invariant.flushed was));
+      reads_count = apart.1 ∙ c.in-Ok.ensures.counts.unfailed ∙ c.loop.invariant.reads_count;
+      writes_count = c.in_ok-give.ensures.sink.faults.unfailed ∙ c.in-Ok.ensures.write_faults ∙ c.loop.invariant.writes_count;
       noted = rw apart.2 (noted_more _ (g.T.Transport.reads c.args.io.now) (g.T.Transport.reads c.loop.io) (g.T.Transport.reads c.read.new.self) now c.loop.counter c.loop.invariant.noted c.in-Ok.ensures.notes (
         record { consumer = (c.loop.consumer, c.loop.state); took = c.loop.invariant.reading.took; flushed = c.loop.invariant.flushed },
-        not_at_end (g.T.Transport.left c.loop.io) c.in-Ok.n c.in-Ok.ensures.ends (search rules),
+        not_at_end (g.T.Transport.left c.loop.io) c.in-Ok.n c.in-Ok.ensures.gives.ends (λ is. omega (arith, some, is, length-take c.in-Ok.n c.read.new.piece)),
       ));
       tied = apart.3 ∙ c.in-Ok.ensures.tied ∙ c.loop.invariant.tied;
-      consumer_tied = c.take_flushed.ensures.tied ∙ c.loop.invariant.consumer_tied;
+      consumer_tied = c.give.ensures.tied ∙ c.loop.invariant.consumer_tied;
     }

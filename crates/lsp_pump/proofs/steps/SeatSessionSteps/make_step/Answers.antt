@@ -24,6 +24,7 @@ returns-in-Ok-clause-makes g c =
     let ran = rw c.in-Ok.is at c.serve_item.ensures.ok in
     let ready = rw c.in-Ok.is at c.serve_item.ensures.ready in
     let sink = rw c.in-Ok.is at c.serve_item.ensures.sink in
+    let faults = sink.faults in
     let noted : is_some (session_view sem m c.serve_item.new.session).state.exited ≡ c.is_some.result = search rules in
     let made = steps_one (find_at sem a) a d x c.is_some.result (noted_one sem g.met.H.Handlers.laws m order c.args.rounds a x d ran c.requires.going.unexited.unexited c.is_some.result noted) ran in
     record {
@@ -35,8 +36,8 @@ returns-in-Ok-clause-makes g c =
         stands = stands_by (seat_way sem m order g.P.Pick.state g.O.Sink.taken g.O.Sink.flushed g.O.Sink.faults g.O.Sink.beside) _ ready c.is_some.result noted (unexited_one sem g.met.H.Handlers.laws m order c.args.rounds a x c.serve_item.new.session (g.P.Pick.state c.serve_item.new.pick) (g.O.Sink.taken c.serve_item.new.sink) ran c.requires.going.unexited.unexited c.requires.going.unexited.alive);
         fails = tt;
         grown = ran_grown a d (x ∷ []) ran;
-        flushed = rw c.in-Ok.is at c.serve_item.ensures.flushed;
-        sink = record { beside = sink.beside; count = sink.count; write = sink.write; unfailed = sink.unfailed; left = sink.left };
+        flushed = sink.flushed;
+        sink = record { beside = faults.beside; count = faults.count; write = faults.write; unfailed = faults.unfailed; left = faults.left };
       };
     }
 
@@ -48,6 +49,7 @@ returns-in-Err-clause-makes g c =
     let a = standing sem m seat.held.now.session (g.P.Pick.state seat.pick.now) (g.O.Sink.taken seat.sink.now) in
     let x = show_item c.args.item in
     let sink = rw c.in-Err.is at c.serve_item.ensures.sink in
+    let faults = sink.faults in
     let part = rw c.in-Err.is at c.serve_item.ensures.part in
     record {
       ran = tt;
@@ -56,10 +58,10 @@ returns-in-Err-clause-makes g c =
         answered = begun_one (find_at sem a) a x _ _ part;
         same = tt;
         stands = tt;
-        fails = record { in_step = rw c.in-Err.is at c.serve_item.ensures.others; spent = rw c.in-Err.is at c.serve_item.ensures.spent };
+        fails = record { in_step = sink.others; spent = rw c.in-Err.is at c.serve_item.ensures.spent };
         grown = rw c.in-Err.is at c.serve_item.ensures.grown;
-        flushed = rw c.in-Err.is at c.serve_item.ensures.flushed;
-        sink = record { beside = sink.beside; count = sink.count; write = sink.write; unfailed = sink.unfailed; left = sink.left };
+        flushed = sink.flushed;
+        sink = record { beside = faults.beside; count = faults.count; write = faults.write; unfailed = faults.unfailed; left = faults.left };
       };
     }
 
