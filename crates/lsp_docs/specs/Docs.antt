@@ -131,9 +131,13 @@ abbrev pub LogsRefusal : Bool → List DeskEntry → Type 0
 LogsRefusal true asked = (told : Told) × IsTold refused_call told asked
 LogsRefusal false asked = asked ≡ []
 
--- a notification was taken note of: the documents then, and what was logged
+-- what came of it: the documents and the reply then, and what was logged
+abbrev pub TakesTurn : DocsTurn → DocumentMap → DocumentMap → MethodReply → List DeskEntry → Type 0
+TakesTurn turn ds ds2 reply asked = TurnsTo turn ds ds2 reply × LogsRefusal (is_refused turn ds) asked
+
+-- a notification was taken note of
 abbrev pub Heeded : Notification → DocumentMap → DocumentMap → List DeskEntry → Type 0
-Heeded n ds ds2 asked = TurnsTo (tells n) ds ds2 noted × LogsRefusal (is_refused (tells n) ds) asked
+Heeded n ds ds2 asked = TakesTurn (tells n) ds ds2 noted asked
 
 -- ---- the server
 

@@ -1,9 +1,11 @@
 -- What the code's typed calls come to. A lemma (proofs/ShownLemmas.antt) says that it is `docs_turn` of the calls that they show.
-use Rattle.std.specs.Prelude.{option_map, Ok, map, string_bytes}
+use Rattle.std.specs.Prelude.{option_map, Result, Ok, Err, map, string_bytes}
 use Rattle.std.specs.Str.{chars}
 use Rattle.serde_json.specs.View.{view}
 use Rattle.lsp_rpc.specs.declared.code.ErrorCode.TheVariants.{MethodNotFound}
+use Rattle.lsp_rpc.specs.declared.error.Error.{Error}
 use Rattle.lsp_rpc.specs.Message.{error_with_code}
+use Rattle.lsp_rpc.specs.Shown.{show_error}
 use Rattle.lsp_uri.specs.Uri.{uri_text}
 use Rattle.lsp_work.specs.declared.document.DidChangeTextDocumentParams.{DidChangeTextDocumentParams}
 use Rattle.lsp_work.specs.declared.document.DidCloseTextDocumentParams.{DidCloseTextDocumentParams}
@@ -14,9 +16,11 @@ use Rattle.lsp_methods.specs.declared.method.Method.TheVariants as methods
 use Rattle.lsp_methods.specs.declared.method.LifeMethod.TheVariants as life
 use Rattle.lsp_service.specs.declared.call.Call.{Call}
 use Rattle.lsp_service.specs.declared.call.Call.TheVariants as calls
+use Rattle.lsp_service.specs.declared.call.LifeCall.{LifeCall}
 use Rattle.lsp_service.specs.declared.call.LifeCall.TheVariants as life_calls
+use Rattle.lsp_service.specs.declared.call.SyncCall.{SyncCall}
 use Rattle.lsp_service.specs.declared.call.SyncCall.TheVariants as sync_calls
-use Rattle.lsp_service.specs.Data.{answer, custom_answer, refusal, nil_row}
+use Rattle.lsp_service.specs.Data.{MethodReply, answer, custom_answer, refusal, nil_row}
 use Rattle.lsp_docs.specs.Docs.{DocsTurn, replies, tells, initialize_answer, requested_uri, text_answer}
 
 abbrev pub opening_of : DidOpenTextDocumentParams → Notification
@@ -28,11 +32,28 @@ changes_of p = Changed (uri_text p.text_document.uri) p.text_document.version (m
 abbrev pub closing_of : DidCloseTextDocumentParams → Notification
 closing_of p = Closed (uri_text p.text_document.uri)
 
+-- no such method
+abbrev pub unknown_turn : DocsTurn
+unknown_turn = replies (refusal (error_with_code MethodNotFound))
+
+abbrev pub life_turn : LifeCall → DocsTurn
+life_turn (life_calls.Initialize p) = replies initialize_answer
+life_turn (life_calls.Initialized p) = unknown_turn
+life_turn life_calls.Shutdown = replies (answer (methods.Life life.Shutdown) (Ok (nil_row.shown tt)))
+
+abbrev pub sync_turn : SyncCall → DocsTurn
+sync_turn (sync_calls.DidOpen p) = tells (opening_of p)
+sync_turn (sync_calls.DidChange p) = tells (changes_of p)
+sync_turn (sync_calls.DidClose p) = tells (closing_of p)
+sync_turn c = unknown_turn
+
 abbrev pub call_turn : DocumentMap → Call → DocsTurn
-call_turn ds (calls.Life (life_calls.Initialize p)) = replies initialize_answer
-call_turn ds (calls.Life life_calls.Shutdown) = replies (answer (methods.Life life.Shutdown) (Ok (nil_row.shown tt)))
-call_turn ds (calls.Sync (sync_calls.DidOpen p)) = tells (opening_of p)
-call_turn ds (calls.Sync (sync_calls.DidChange p)) = tells (changes_of p)
-call_turn ds (calls.Sync (sync_calls.DidClose p)) = tells (closing_of p)
+call_turn ds (calls.Life c) = life_turn c
+call_turn ds (calls.Sync c) = sync_turn c
 call_turn ds (calls.Custom n params) = replies (custom_answer (text_answer ds (requested_uri (option_map view params))))
-call_turn ds c = replies (refusal (error_with_code MethodNotFound))
+call_turn ds c = unknown_turn
+
+-- the reply that was made, or an error, whatever was asked
+abbrev pub reply_or_error : {A : Type 0} → (A → MethodReply) → Result A Error → MethodReply
+reply_or_error show (Ok x) = show x
+reply_or_error show (Err e) = refusal (show_error e)

@@ -6,9 +6,10 @@ ghost use Rattle.serde_json.specs.View.{view};
 ghost use Rattle.lsp_rpc.specs.Shown.{show_body};
 ghost use Rattle.lsp_desk.specs.Meaning.{PollsOn};
 ghost use Rattle.lsp_session.specs.Fails.{PollFails};
-ghost use Rattle.lsp_service.specs.Replies.{initialize_data, show_offer};
-ghost use Rattle.lsp_docs.specs.Docs.{requested_uri as requested_uri_lem, text_answer, found_data, offered, Heeded, LogsRefusal};
-ghost use Rattle.lsp_docs.specs.Typed.{opening_of, changes_of, closing_of};
+ghost use Rattle.lsp_service.specs.Replies.{initialize_data, show_life_reply, show_offer};
+ghost use Rattle.lsp_service.specs.Data.{noted};
+ghost use Rattle.lsp_docs.specs.Docs.{requested_uri as requested_uri_lem, text_answer, found_data, offered, replies, Heeded, LogsRefusal, TakesTurn};
+ghost use Rattle.lsp_docs.specs.Typed.{opening_of, changes_of, closing_of, life_turn, sync_turn, reply_or_error};
 
 use lsp_client::Client;
 use lsp_desk::{Caller, DeskFault};
@@ -18,8 +19,8 @@ use lsp_kinds::{MessageType, TextDocumentSyncKind};
 use lsp_offer_text::TextDocumentSyncOptions;
 use lsp_rpc::{Error, ErrorCode};
 use lsp_service::{
-    Call, InitializeCall, InitializeReply, LanguageServer, LifeCall, LifeReply, NoMemory, NoTask,
-    Reply, Started, SyncCall, not_found_for,
+    Call, InitializeReply, LanguageServer, LifeCall, LifeReply, NoMemory, NoTask, Reply, Started,
+    SyncCall, let_go,
 };
 use lsp_work::{
     DidChangeTextDocumentParams, DidCloseTextDocumentParams, DidOpenTextDocumentParams,
@@ -118,6 +119,41 @@ impl DocsServer {
         }
     }
 
+    // Takes note of a notification of a document. No other call of its group is known.
+    fn heed<D: Caller>(
+        &mut self,
+        alloc: Global,
+        call: SyncCall,
+        client: &mut D,
+    ) -> Result<Result<(), Error>, DeskFault>
+        ensures heeded { IfOk result (λ reply. PollsOn D.meaning client.old client.new
+            (TakesTurn (sync_turn call) self.old.documents self.new.documents
+            (reply_or_error (λ _. noted) reply))) }
+        ensures failed { IfErr result (λ fault. PollFails D.meaning client.old client.new fault) }
+    {
+        match call {
+            SyncCall::DidOpen(params) => match self.open(alloc, params, client) {
+                Ok(()) => Ok(Ok(())),
+                Err(fault) => Err(fault),
+            },
+            SyncCall::DidChange(params) => match self.change(alloc, params, client) {
+                Ok(()) => Ok(Ok(())),
+                Err(fault) => Err(fault),
+            },
+            SyncCall::DidClose(params) => match self.close(alloc, params, client) {
+                Ok(()) => Ok(Ok(())),
+                Err(fault) => Err(fault),
+            },
+            other => {
+                drop(other);
+                match Error::method_not_found(alloc) {
+                    Ok(error) => Ok(Err(error)),
+                    Err(NoMemory) => Err(DeskFault::NoMemory),
+                }
+            }
+        }
+    }
+
     // What is replied to `docs/text`.
     fn text_body(
         &self,
@@ -155,32 +191,26 @@ impl<D: Caller> LanguageServer<D> for DocsServer {
         client: &mut D,
     ) -> Result<Started<NoTask>, DeskFault> {
         match call {
-            Call::Life(LifeCall::Initialize(params)) => {
-                let offered = initialize(alloc, params)?;
-                Ok(Started::Now(Reply::Life(LifeReply::Initialize(Ok(offered)))))
-            }
-            Call::Life(LifeCall::Shutdown) => {
-                Ok(Started::Now(Reply::Life(LifeReply::Shutdown(Ok(())))))
-            }
-            Call::Sync(SyncCall::DidOpen(params)) => {
-                self.open(alloc, params, client)?;
-                Ok(Started::Now(Reply::Noted))
-            }
-            Call::Sync(SyncCall::DidChange(params)) => {
-                self.change(alloc, params, client)?;
-                Ok(Started::Now(Reply::Noted))
-            }
-            Call::Sync(SyncCall::DidClose(params)) => {
-                self.close(alloc, params, client)?;
-                Ok(Started::Now(Reply::Noted))
-            }
-            Call::Custom(_, params) => {
-                let body = self.text_body(alloc, params)?;
-                Ok(Started::Now(Reply::Custom(body)))
-            }
+            Call::Life(call) => match life_reply(alloc, call) {
+                Ok(Ok(reply)) => Ok(Started::Now(Reply::Life(reply))),
+                Ok(Err(error)) => Ok(Started::Now(Reply::Error(error))),
+                Err(NoMemory) => Err(DeskFault::NoMemory),
+            },
+            Call::Sync(call) => match self.heed(alloc, call, client) {
+                Ok(Ok(())) => Ok(Started::Now(Reply::Noted)),
+                Ok(Err(error)) => Ok(Started::Now(Reply::Error(error))),
+                Err(fault) => Err(fault),
+            },
+            Call::Custom(_, params) => match self.text_body(alloc, params) {
+                Ok(body) => Ok(Started::Now(Reply::Custom(body))),
+                Err(NoMemory) => Err(DeskFault::NoMemory),
+            },
             other => {
-                let reply = not_found_for(alloc, other)?;
-                Ok(Started::Now(reply))
+                let_go(other);
+                match Error::method_not_found(alloc) {
+                    Ok(error) => Ok(Started::Now(Reply::Error(error))),
+                    Err(NoMemory) => Err(DeskFault::NoMemory),
+                }
             }
         }
     }
@@ -204,7 +234,28 @@ fn refuse<D: Caller>(alloc: Global, client: &mut D) -> Result<(), DeskFault>
     Ok(())
 }
 
-fn initialize(alloc: Global, _params: InitializeCall) -> Result<InitializeReply, NoMemory>
+// What is replied to a call of the life of a session. `initialized` isn't known.
+fn life_reply(alloc: Global, call: LifeCall) -> Result<Result<LifeReply, Error>, NoMemory>
+    ensures { IfOk result (λ reply. life_turn call
+        ≡ replies (reply_or_error show_life_reply reply)) }
+{
+    match call {
+        LifeCall::Initialize(params) => {
+            drop(params);
+            match initialize(alloc) {
+                Ok(offered) => Ok(Ok(LifeReply::Initialize(Ok(offered)))),
+                Err(NoMemory) => Err(NoMemory),
+            }
+        }
+        LifeCall::Shutdown => Ok(Ok(LifeReply::Shutdown(Ok(())))),
+        LifeCall::Initialized(_) => match Error::method_not_found(alloc) {
+            Ok(error) => Ok(Err(error)),
+            Err(NoMemory) => Err(NoMemory),
+        },
+    }
+}
+
+fn initialize(alloc: Global) -> Result<InitializeReply, NoMemory>
     ensures { IfOk result (λ reply. show_offer reply ≡ initialize_data
         (record { capabilities = offered; server_info = None })) }
 {
