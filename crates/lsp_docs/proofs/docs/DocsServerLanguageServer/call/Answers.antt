@@ -29,6 +29,6 @@ returns-in-Ok-clause-called g c =
 pub returns-in-Ok-method_not_found : goal.returns-in-Ok-method_not_found
 returns-in-Ok-method_not_found g c = record {
   called = polls_turn g.D.Caller.meaning c.args.client.now c.args.client.now c.args.self.now _ c.args.call _ _ (unknown_group c.args.self.now.documents c.args.call c.in_default.not-Life c.in_default.not-Sync c.in_default.not-Custom)
-    (takes_reply g.D.Caller.meaning c.args.client.now _ c.args.self.now.documents _ _ (ap (λ e. replies (refusal e)) (sym c.in-Ok-method_not_found.ensures)) refl);
+      (takes_reply g.D.Caller.meaning c.args.client.now _ c.args.self.now.documents _ _ (ap (λ e. replies (refusal e)) (sym c.in-Ok-method_not_found.ensures)) refl);
   failed = tt;
 }
