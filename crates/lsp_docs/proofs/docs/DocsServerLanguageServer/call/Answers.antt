@@ -1,34 +1,46 @@
 -- Each call takes the turn of its group; want of memory comes before any call on the desk.
-use Rattle.std.proofs.Common.{sym, ap, refl}
-use Rattle.lsp_service.specs.Data.{custom_answer, refusal}
-use Rattle.lsp_docs.specs.Docs.{replies}
-use Rattle.lsp_docs.specs.Typed.{call_turn, sync_turn}
+use Rattle.std.proofs.Common.{sym, ap, ◌∙◌, refl, subst}
+use Rattle.lsp_rpc.specs.Shown.{show_error}
+use Rattle.lsp_desk.specs.Meaning.{PollsOn}
+use Rattle.lsp_service.specs.Data.{custom_answer, refusal, noted}
+use Rattle.lsp_service.specs.Replies.{show_life_reply}
+use Rattle.lsp_docs.specs.Docs.{replies, TakesTurn}
+use Rattle.lsp_docs.specs.Typed.{call_turn, sync_turn, reply_or_error}
 use Rattle.lsp_docs.proofs.TurnLemmas.{takes_reply, polls_turn, unknown_group}
 use Rattle.lsp_docs.proofs.docs.DocsServerLanguageServer.call.Goals as goal
 
 pub returns-in-Ok-Ok-clause-called : goal.returns-in-Ok-Ok-clause-called
 returns-in-Ok-Ok-clause-called g c =
-    polls_turn g.D.Caller.meaning c.args.client.now c.args.client.now c.args.self.now _ c.args.call _ _ (ap (call_turn c.args.self.now.documents) c.in-Life.is)
-    (takes_reply g.D.Caller.meaning c.args.client.now _ c.args.self.now.documents _ _ c.in-Ok-Ok.ensures refl)
+    let s = c.args.self.now in
+    let r = show_life_reply c.in-Ok-Ok.reply in
+    polls_turn g.D.Caller.meaning c.args.client.now c.args.client.now s s c.args.call _ r (ap (call_turn s.documents) c.in-Life.is)
+    (takes_reply g.D.Caller.meaning c.args.client.now _ s.documents s.documents r (c.in-Ok-Ok.ensures ∙ ap (λ x. replies (reply_or_error show_life_reply x)) c.in-Ok-Ok.field-0-is) refl)
 
 pub returns-in-Ok-Err-clause-called : goal.returns-in-Ok-Err-clause-called
 returns-in-Ok-Err-clause-called g c =
-    polls_turn g.D.Caller.meaning c.args.client.now c.args.client.now c.args.self.now _ c.args.call _ _ (ap (call_turn c.args.self.now.documents) c.in-Life.is)
-    (takes_reply g.D.Caller.meaning c.args.client.now _ c.args.self.now.documents _ _ c.in-Ok-Err.ensures refl)
+    let s = c.args.self.now in
+    let r = refusal (show_error c.in-Ok-Err.error) in
+    polls_turn g.D.Caller.meaning c.args.client.now c.args.client.now s s c.args.call _ r (ap (call_turn s.documents) c.in-Life.is)
+    (takes_reply g.D.Caller.meaning c.args.client.now _ s.documents s.documents r (c.in-Ok-Err.ensures ∙ ap (λ x. replies (reply_or_error show_life_reply x)) c.in-Ok-Err.field-0-is) refl)
 
 pub returns-in-Ok-Ok-heed-clause-called : goal.returns-in-Ok-Ok-heed-clause-called
 returns-in-Ok-Ok-heed-clause-called g c =
-    polls_turn g.D.Caller.meaning c.args.client.now c.heed.new.client c.args.self.now c.heed.new.self c.args.call (sync_turn c.in-Sync.call) _ (ap (call_turn c.args.self.now.documents) c.in-Sync.is)
-    c.in-Ok-Ok-heed.ensures.heeded
+    let s = c.args.self.now in
+    let s2 = c.heed.new.self in
+    polls_turn g.D.Caller.meaning c.args.client.now c.heed.new.client s s2 c.args.call (sync_turn c.in-Sync.call) noted (ap (call_turn s.documents) c.in-Sync.is)
+    (subst (λ x. PollsOn g.D.Caller.meaning c.args.client.now c.heed.new.client (TakesTurn (sync_turn c.in-Sync.call) s.documents s2.documents (reply_or_error (λ _. noted) x))) c.in-Ok-Ok-heed.field-0-is c.in-Ok-Ok-heed.ensures.heeded)
 
 pub returns-in-Ok-clause-called : goal.returns-in-Ok-clause-called
 returns-in-Ok-clause-called g c =
-    polls_turn g.D.Caller.meaning c.args.client.now c.args.client.now c.args.self.now _ c.args.call _ _ (ap (call_turn c.args.self.now.documents) c.in-Custom.is)
-    (takes_reply g.D.Caller.meaning c.args.client.now _ c.args.self.now.documents _ _ (ap (λ b. replies (custom_answer b)) (sym c.in-Ok.ensures)) refl)
+    let s = c.args.self.now in
+    polls_turn g.D.Caller.meaning c.args.client.now c.args.client.now s s c.args.call _ _ (ap (call_turn s.documents) c.in-Custom.is)
+    (takes_reply g.D.Caller.meaning c.args.client.now _ s.documents s.documents _ (ap (λ b. replies (custom_answer b)) (sym c.in-Ok.ensures)) refl)
 
 pub returns-in-Ok-method_not_found : goal.returns-in-Ok-method_not_found
-returns-in-Ok-method_not_found g c = record {
-  called = polls_turn g.D.Caller.meaning c.args.client.now c.args.client.now c.args.self.now _ c.args.call _ _ (unknown_group c.args.self.now.documents c.args.call c.in_default.not-Life c.in_default.not-Sync c.in_default.not-Custom)
-      (takes_reply g.D.Caller.meaning c.args.client.now _ c.args.self.now.documents _ _ (ap (λ e. replies (refusal e)) (sym c.in-Ok-method_not_found.ensures)) refl);
-  failed = tt;
-}
+returns-in-Ok-method_not_found g c =
+    let s = c.args.self.now in
+    record {
+      called = polls_turn g.D.Caller.meaning c.args.client.now c.args.client.now s s c.args.call _ _ (unknown_group s.documents c.args.call c.in_default.not-Life c.in_default.not-Sync c.in_default.not-Custom)
+          (takes_reply g.D.Caller.meaning c.args.client.now _ s.documents s.documents _ (ap (λ e. replies (refusal e)) (sym c.in-Ok-method_not_found.ensures)) refl);
+      failed = tt;
+    }
