@@ -1,4 +1,4 @@
-;; Types into the buffer, and compares docs/text with it.
+;; Types into the buffer, and compares docs/text with it after every tenth edit.
 (package-initialize)
 (require 'eglot)
 (setq eglot-sync-connect 10 debug-on-error t inhibit-message t)

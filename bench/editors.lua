@@ -1,4 +1,4 @@
--- Types into the buffer, and compares docs/text with it after each edit.
+-- Types into the buffer, and compares docs/text with it after every tenth edit.
 local buf = vim.api.nvim_get_current_buf()
 local id = vim.lsp.start_client({ cmd = vim.split(vim.env.SERVER, " "), root_dir = vim.fn.getcwd() })
 vim.lsp.buf_attach_client(buf, id)
