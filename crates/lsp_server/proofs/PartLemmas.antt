@@ -44,9 +44,9 @@ part_begins_run semantics m order show setting alone determined call whole size 
     let items = append_assoc told given part.part.rest ∙ ap (λ l. told ++ l) part.part.split ∙ part.split ∙ ap (λ bs. served find (stream_items codec bs)) (sym bytes) in
     let apart = run_apart step start last (told ++ given) part.part.rest ran.effect (subst (λ xs. Run step start xs ran.effect last) (sym items) ran.run) in
     let same = same_run semantics order show determined setting.rounds (told ++ given) start (both part.first part.part.effect) apart.1 part.part.last apart.0
-        (run_on step start part.mid part.part.last told given part.first part.part.effect part.run part.part.run) apart.3
-        (both_all part.first.trace part.part.effect.trace (part.grows.all_own alone) (part.part.grows.all_own (part.grows.alone ∙ alone)))
-        (own_in_both ran.effect apart.1 apart.2 apart.5 (ran.grows.all_own alone)).0 in (
+    (run_on step start part.mid part.part.last told given part.first part.part.effect part.run part.part.run) apart.3
+    (both_all part.first.trace part.part.effect.trace (part.grows.all_own alone) (part.part.grows.all_own (part.grows.alone ∙ alone)))
+    (own_in_both ran.effect apart.1 apart.2 apart.5 (ran.grows.all_own alone)).0 in (
       part.part.part.0 ++ frames apart.2.out,
       begins part.first.out part.part.effect.out apart.2.out part.written part.part.part.0 part.part.part.1
           ∙ ap (λ (e : Effect). frames (e.out ++ apart.2.out)) (sym same.0) ∙ ap (λ (e : Effect). frames e.out) (sym apart.5),
