@@ -1,11 +1,12 @@
 // Changes of a text.
-ghost use Rattle.std.specs.Prelude.{◌≡◌, ◌≢◌, Some, None, Err, IfErr, OnOk, OnErr, map, string_bytes};
+ghost use Rattle.std.specs.Prelude.{◌≡◌, ◌≢◌, ◌≤◌, ◌+◌, ◌-◌, ◌^◌, Some, None, Err, IfOk, IfErr, OnOk, OnErr, length, map, min, sum_by, string_bytes, string_capacity, string_len};
 ghost use Rattle.std.specs.Str.{chars};
 ghost use Rattle.lsp_documents.specs.Documents.{change_of, changed, changed_in, all_changed};
 
 use crate::error::ChangeError;
 use crate::place::offsets;
 use lsp_base::{Range, TextDocumentContentChangeEvent};
+use std::alloc::{AllocError, Global};
 
 // Puts another text in place of the whole.
 fn replace_all(text: &mut String, new: &str) -> Result<(), ChangeError>
@@ -55,8 +56,29 @@ fn apply(text: &mut String, change: &TextDocumentContentChangeEvent) -> Result<(
     }
 }
 
+// A copy of the text with room for all that the changes insert, so that none of them needs more.
+fn draft_of(
+    alloc: Global,
+    text: &str,
+    changes: &[TextDocumentContentChangeEvent],
+) -> Result<String, AllocError>
+    ensures text { IfOk result (λ draft. string_bytes draft ≡ text.now) }
+    ensures room { let inserted = sum_by (λ change. string_len change.text) changes.now in
+        IfOk result (λ draft. min (length text.now + inserted) (2 ^ 64 - 1)
+        ≤ string_capacity draft) }
+{
+    let mut room = text.len();
+    for change in changes {
+        room = room.saturating_add(change.text.len());
+    }
+    let mut draft = String::with_capacity(alloc, room)?;
+    draft.push_str(text)?;
+    Ok(draft)
+}
+
 // Makes changes in order, or none: several are made in a copy of the text.
 pub(crate) fn apply_all(
+    alloc: Global,
     text: &mut String,
     changes: &[TextDocumentContentChangeEvent],
 ) -> Result<(), ChangeError>
@@ -70,7 +92,7 @@ pub(crate) fn apply_all(
     if let [change] = changes {
         return apply(text, change);
     }
-    let mut draft = text.clone()?;
+    let mut draft = draft_of(alloc, text.as_str(), changes)?;
     for change in changes {
         apply(&mut draft, change)?;
     }
