@@ -11,7 +11,7 @@ ghost use Rattle.lsp_index.specs.Entries.{entry_ids};
 ghost use Rattle.lsp_index.specs.Graph.{Graph, at_id};
 ghost use Rattle.lsp_index.specs.Kept.{IsKept};
 ghost use Rattle.lsp_index.specs.Shown.{show_ids, show_item_edge, show_location, show_named, show_link, show_outgoing, show_vertex_of};
-ghost use Rattle.lsp_index.specs.Queries.{is_before, holds_position, is_closer, closest_of, range_holding, candidate_in, with_candidate, chosen_at, with_new_id, with_contained, named_in, document_at, hover_at, IsReached, IsReachedFrom, with_range, with_ranges, with_item_ranges, with_linked, with_place, with_places, AreResults, location_value, locations_text as locations_text_lem, null_text as null_text_lem, IsDefinition, IsReferences, IsAnswerFrom};
+ghost use Rattle.lsp_index.specs.Queries.{is_before, holds_position, is_closer, closest_of, range_holding, candidate_in, with_candidate, chosen_at, with_new_id, with_contained, named_in, document_at, hover_at, IsReached, IsReachedFrom, with_range, with_ranges, with_item_ranges, with_linked, with_place, with_places, AreResults, location_value, locations_text as locations_text_def, null_text as null_text_def, IsDefinition, IsReferences, IsAnswerFrom};
 
 use crate::Request;
 use crate::entry::key_of;
@@ -129,7 +129,7 @@ fn push_location(
 // each.
 fn locations_text(alloc: Global, found: &IndexSet<Location>) -> Result<String, NoMemory>
     ensures { IfOk result (λ text. string_bytes text
-        ≡ locations_text_lem (map show_location found.now.keys)) }
+        ≡ locations_text_def (map show_location found.now.keys)) }
 {
     let mut text = String::from_str(alloc, "[")?;
     let mut later = false;
@@ -349,7 +349,7 @@ impl Index {
     // The text of the hover of a result.
     fn hover_text(&self, from: &Id) -> Result<String, NoMemory>
         ensures { IfOk result (λ text. (g : Graph) → IsKept g self.now
-            → string_bytes text ≡ unwrap_or (hover_at g (show_id from.now)) null_text_lem) }
+            → string_bytes text ≡ unwrap_or (hover_at g (show_id from.now)) null_text_def) }
     {
         match self.hover(from) {
             Some(text) => Ok(text.clone()?),
@@ -431,13 +431,13 @@ fn no_text(alloc: Global, request: Request) -> Result<String, NoMemory>
 }
 
 fn no_locations(alloc: Global) -> Result<String, NoMemory>
-    ensures { IfOk result (λ text. string_bytes text ≡ locations_text_lem []) }
+    ensures { IfOk result (λ text. string_bytes text ≡ locations_text_def []) }
 {
     Ok(String::from_str(alloc, "[]")?)
 }
 
 fn null_text(alloc: Global) -> Result<String, NoMemory>
-    ensures { IfOk result (λ text. string_bytes text ≡ null_text_lem) }
+    ensures { IfOk result (λ text. string_bytes text ≡ null_text_def) }
 {
     Ok(String::from_str(alloc, "null")?)
 }
