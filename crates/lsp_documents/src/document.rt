@@ -7,7 +7,6 @@ use crate::change::apply_all;
 use crate::error::ChangeError;
 use crate::place;
 use lsp_base::{Position, TextDocumentContentChangeEvent};
-use std::alloc::Global;
 use std::marker::Model;
 
 /// An open document: its version, and its text.
@@ -76,7 +75,6 @@ impl Document {
     /// Makes changes in order, each of the text that the one before leaves, or none of them.
     pub(crate) fn change(
         &mut self,
-        alloc: Global,
         version: i32,
         changes: &[TextDocumentContentChangeEvent],
     ) -> Result<(), ChangeError>
@@ -88,7 +86,7 @@ impl Document {
         ensures causes { result ≢ Err ChangeError.NotOpen }
         ensures err { OnErr result (self.new ≡ self.old) }
     {
-        apply_all(alloc, &mut self.text, changes)?;
+        apply_all(&mut self.text, changes)?;
         self.version = version;
         Ok(())
     }

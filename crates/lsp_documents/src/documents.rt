@@ -83,7 +83,7 @@ impl Documents {
         let Some(document) = self.documents.get_mut(uri) else {
             return Err(ChangeError::NotOpen);
         };
-        document.change(self.alloc, version, changes)
+        document.change(version, changes)
     }
 
     /// Closes the open document of a URI, and hands it out. It takes no memory.
