@@ -1,9 +1,9 @@
 -- Sets that keep the order in which their members came.
-use Rattle.std.proofs.Common.{◌≡◌, ℕ, ◌+◌, ◌<◌, inl, inr, length, take, List, [], ◌∷◌, ◌++◌, Bool, true, false, cond, map, fold, get_or, refl, sym, ◌∙◌, ap, subst, zero, suc, add-one, append_assoc, take-append-le, arith}
+use Rattle.std.proofs.Common.{◌≡◌, ℕ, ◌+◌, ◌<◌, inl, inr, length, take, List, [], ◌∷◌, ◌++◌, Bool, true, false, cond, map, fold, get_or, refl, sym, ◌∙◌, ap, subst, zero, suc, add-one, append_assoc, arith}
 use Rattle.std.specs.Prelude.{Option, Some, None, slice_get, option_map, option_and_then}
 use Rattle.std.specs.List.{list_any}
 use Rattle.std.proofs.Math.Nat.{suc-add}
-use Rattle.std.proofs.lemmas.List.{append-nil, map-append, take_all}
+use Rattle.std.proofs.lemmas.List.{append-nil, map-append, take_all, take-append-le}
 use Rattle.std.proofs.lemmas.List.Sums.{fold_more}
 use Rattle.std.proofs.lemmas.List.Folds.{fold-map}
 use Rattle.std.proofs.lemmas.Option.{slice_get_cases, slice_get_past, slice_get-map}

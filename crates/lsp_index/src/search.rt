@@ -10,7 +10,7 @@ ghost use Rattle.lsp_index.specs.Entries.{entry_ids};
 ghost use Rattle.lsp_index.specs.Graph.{Graph, at_id};
 ghost use Rattle.lsp_index.specs.Kept.{IsKept};
 ghost use Rattle.lsp_index.specs.Shown.{show_ids, show_item_edge, show_location, show_named, show_link, show_outgoing, show_vertex_of};
-ghost use Rattle.lsp_index.specs.Queries.{is_before, holds_position, is_closer, closest_of, range_holding, candidate_in, with_candidate, chosen_at, with_new_id, with_contained, named_in, document_at, IsReached, IsReachedFrom, with_range, with_ranges, with_item_ranges, with_linked, with_place, locations_text as locations_text_lem, IsDefinition, IsReferences, IsHover, IsAnswerFrom};
+ghost use Rattle.lsp_index.specs.Queries.{is_before, holds_position, is_closer, closest_of, range_holding, candidate_in, with_candidate, chosen_at, with_new_id, with_contained, named_in, document_at, IsReached, IsReachedFrom, with_range, with_ranges, with_item_ranges, with_linked, with_place, locations_text as locations_text_def, IsDefinition, IsReferences, IsHover, IsAnswerFrom};
 
 use crate::Request;
 use crate::entry::key_of;
@@ -111,7 +111,7 @@ fn add_all_linked(alloc: Global, items: &[Item], results: &mut IndexSet<Id>) -> 
 // each.
 fn locations_text(alloc: Global, found: &IndexSet<Location>) -> Result<String, NoMemory>
     ensures { IfOk result (λ text. string_bytes text
-        ≡ locations_text_lem (map show_location found.now.keys)) }
+        ≡ locations_text_def (map show_location found.now.keys)) }
 {
     let mut text = String::from_str(alloc, "[")?;
     let mut comma = "";
@@ -308,7 +308,7 @@ impl Index {
         requires { found.old.keys ≡ [] }
         ensures { OnOk result ((g : Graph) → IsKept g self.now → IsDefinition g
             (option_map (λ id. show_id id.now) reached.entry)
-            (locations_text_lem (map show_location found.new.keys))) }
+            (locations_text_def (map show_location found.new.keys))) }
     {
         let Some(from) = reached else {
             return Ok(());
@@ -328,7 +328,7 @@ impl Index {
         requires { found.old.keys ≡ [] }
         ensures { OnOk result ((g : Graph) → IsKept g self.now → IsReferences g
             (option_map (λ id. show_id id.now) reached.entry)
-            (locations_text_lem (map show_location found.new.keys))) }
+            (locations_text_def (map show_location found.new.keys))) }
     {
         let Some(from) = reached else {
             return Ok(());

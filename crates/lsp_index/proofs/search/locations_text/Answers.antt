@@ -11,7 +11,7 @@ use Rattle.lsp_index.proofs.ValueLemmas.{with_text, texts_end, location_value-is
 use Rattle.lsp_index.proofs.search.locations_text.Goals as goal
 
 pub loop-location-init : goal.loop-location-init
-loop-location-init c = (false, refl, ap (λ t. (false, t)) c.in_ok-text.ensures.bytes)
+loop-location-init c = (false, refl, ap (λ t. (false, t)) c.in_ok-text.ensures.ok)
 
 pub loop-location-preserved : goal.loop-location-preserved
 loop-location-preserved c =
