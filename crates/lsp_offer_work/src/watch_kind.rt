@@ -4,7 +4,7 @@ ghost use Rattle.std.specs.Int.RustNames.{bit_or};
 ghost use Rattle.lsp_offer_work.specs.WatchKind.{bits_of, watch_kind_row, watch_kinds};
 
 use bitflags::{Flag, Flags};
-use lsp_shape::{Misfit, NoMemory, Wire};
+use lsp_shape::{Misfit, NoMemory, Wanted, Wire, attempt};
 use serde_json::Value;
 use std::alloc::Global;
 use std::ops::BitOr;
@@ -96,8 +96,10 @@ impl Wire for WatchKind {
     ghost shown = { watch_kind_row.shown };
 
     fn from_value(alloc: Global, value: &Value) -> Result<WatchKind, Misfit> {
-        let bits = u8::from_value(alloc, value)?;
-        WatchKind::from_bits(bits).ok_or(Misfit::Unfit)
+        match attempt(alloc, value)? {
+            Some(bits) => WatchKind::from_bits(bits).ok_or(Misfit::wanted(Wanted::Unsigned)),
+            None => Err(Misfit::wanted(Wanted::Unsigned)),
+        }
     }
 
     fn to_value(&self, _alloc: Global) -> Result<Value, NoMemory> {

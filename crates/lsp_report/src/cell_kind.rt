@@ -1,7 +1,7 @@
 // What a cell of a notebook holds.
 ghost use Rattle.lsp_report.specs.CellKind.{notebook_cell_kind_row};
 
-use lsp_shape::{Misfit, NoMemory, Wire};
+use lsp_shape::{Misfit, NoMemory, Wanted, Wire};
 use serde_json::Value;
 use std::alloc::Global;
 
@@ -25,9 +25,9 @@ impl Wire for NotebookCellKind {
             Value::Number(number) => match number.as_u64() {
                 Some(1) => Ok(NotebookCellKind::Markup),
                 Some(2) => Ok(NotebookCellKind::Code),
-                _ => Err(Misfit::Unfit),
+                _ => Err(Misfit::wanted(Wanted::Unsigned)),
             },
-            _ => Err(Misfit::Unfit),
+            _ => Err(Misfit::wanted(Wanted::Unsigned)),
         }
     }
 

@@ -1,5 +1,6 @@
 pub mod Clones
 pub mod Items
+pub mod Refusals
 pub mod Parts
 pub mod Names
 pub mod Ascending

@@ -1,13 +1,15 @@
 // `Wire` of std's types.
-ghost use Rattle.std.specs.Prelude.{◌≡◌, option_map, map, IfOk, IsErrOf, Some, None};
+ghost use Rattle.std.specs.Prelude.{◌≡◌, option_map, map, IfOk, Some};
 ghost use Rattle.serde_json.specs.View.{view, items_view};
-ghost use Rattle.serde_json.specs.Data.{null};
+ghost use Rattle.serde_json.specs.Data.{array, null};
 ghost use Rattle.lsp_shape.specs.Plain.{leaf, parts, parts_of};
 ghost use Rattle.lsp_shape.specs.Shape.{nil, truth, any, list, pair, maybe, u8_shape, u32_shape, i32_shape, i64_shape, string_shape, object_shape};
 ghost use Rattle.lsp_shape.specs.Read.{read, read_items};
+ghost use Rattle.lsp_shape.specs.Why.{Refuses, IfUnfit};
 ghost use Rattle.lsp_shape.specs.Shown.{show_bool, show_pair, show_unsigned, show_signed, show_string, show_value, show_option, show_list, show_object};
 
-use crate::wire::{Misfit, Wire};
+use crate::why::{Misfit, Wanted, told_item};
+use crate::wire::Wire;
 use no_memory::NoMemory;
 use serde_json::{Map, Value};
 use std::alloc::Global;
@@ -20,7 +22,7 @@ impl Wire for bool {
     fn from_value(_alloc: Global, value: &Value) -> Result<bool, Misfit> {
         match value {
             Value::Bool(b) => Ok(*b),
-            _ => Err(Misfit::Unfit),
+            _ => Err(Misfit::wanted(Wanted::Boolean)),
         }
     }
 
@@ -37,7 +39,7 @@ impl Wire for () {
     fn from_value(_alloc: Global, value: &Value) -> Result<(), Misfit> {
         match value {
             Value::Null => Ok(()),
-            _ => Err(Misfit::Unfit),
+            _ => Err(Misfit::wanted(Wanted::Null)),
         }
     }
 
@@ -55,9 +57,9 @@ impl Wire for u8 {
         match value {
             Value::Number(number) => match number.as_u64() {
                 Some(n) if n <= u8::MAX as u64 => Ok(n as u8),
-                _ => Err(Misfit::Unfit),
+                _ => Err(Misfit::wanted(Wanted::Unsigned)),
             },
-            _ => Err(Misfit::Unfit),
+            _ => Err(Misfit::wanted(Wanted::Unsigned)),
         }
     }
 
@@ -75,9 +77,9 @@ impl Wire for u32 {
         match value {
             Value::Number(number) => match number.as_u64() {
                 Some(n) if n <= u32::MAX as u64 => Ok(n as u32),
-                _ => Err(Misfit::Unfit),
+                _ => Err(Misfit::wanted(Wanted::Unsigned)),
             },
-            _ => Err(Misfit::Unfit),
+            _ => Err(Misfit::wanted(Wanted::Unsigned)),
         }
     }
 
@@ -95,9 +97,9 @@ impl Wire for i32 {
         match value {
             Value::Number(number) => match number.as_i64() {
                 Some(n) if i32::MIN as i64 <= n && n <= i32::MAX as i64 => Ok(n as i32),
-                _ => Err(Misfit::Unfit),
+                _ => Err(Misfit::wanted(Wanted::Integer)),
             },
-            _ => Err(Misfit::Unfit),
+            _ => Err(Misfit::wanted(Wanted::Integer)),
         }
     }
 
@@ -115,9 +117,9 @@ impl Wire for i64 {
         match value {
             Value::Number(number) => match number.as_i64() {
                 Some(n) => Ok(n),
-                None => Err(Misfit::Unfit),
+                None => Err(Misfit::wanted(Wanted::Integer)),
             },
-            _ => Err(Misfit::Unfit),
+            _ => Err(Misfit::wanted(Wanted::Integer)),
         }
     }
 
@@ -134,7 +136,7 @@ impl Wire for String {
     fn from_value(_alloc: Global, value: &Value) -> Result<String, Misfit> {
         match value {
             Value::String(s) => Ok(s.clone()?),
-            _ => Err(Misfit::Unfit),
+            _ => Err(Misfit::wanted(Wanted::Text)),
         }
     }
 
@@ -163,9 +165,10 @@ impl<T: Wire> Wire for Option<T> {
     ghost shown = { show_option T.shown };
 
     fn from_value(alloc: Global, value: &Value) -> Result<Option<T>, Misfit> {
-        match value {
-            Value::Null => Ok(None),
-            _ => Ok(Some(T::from_value(alloc, value)?)),
+        if value.is_null() {
+            Ok(None)
+        } else {
+            Ok(Some(T::from_value(alloc, value)?))
         }
     }
 
@@ -200,7 +203,7 @@ impl<T: Wire> Wire for Vec<T> {
     fn from_value(alloc: Global, value: &Value) -> Result<Vec<T>, Misfit> {
         match value {
             Value::Array(items) => read_all(alloc, items),
-            _ => Err(Misfit::Unfit),
+            _ => Err(Misfit::wanted(Wanted::List)),
         }
     }
 
@@ -219,12 +222,12 @@ fn read_all<T: Wire>(alloc: Global, items: &Vec<Value>) -> Result<Vec<T>, Misfit
     ensures read { IfOk result
         (λ v. read_items (read T.shape) (items_view items.now.items)
         ≡ Some (parts_of (map T.shown v.items))) }
-    ensures unfit { IsErrOf result Misfit.Unfit
-        → read_items (read T.shape) (items_view items.now.items) ≡ None }
+    ensures unfit { IfUnfit result
+        (λ why. Refuses (list T.shape) (array (items_view items.now.items)) why) }
 {
     let mut all = Vec::with_capacity(alloc, items.len())?;
     for item in items {
-        all.push(T::from_value(alloc, item)?)?;
+        all.push(told_item(all.len(), T::from_value(alloc, item))?)?;
     }
     Ok(all)
 }
@@ -239,12 +242,12 @@ impl Wire for [u32; 2] {
         match value {
             Value::Array(items) => match items.as_slice() {
                 [first, second] => Ok([
-                    u32::from_value(alloc, first)?,
-                    u32::from_value(alloc, second)?,
+                    told_item(0, u32::from_value(alloc, first))?,
+                    told_item(1, u32::from_value(alloc, second))?,
                 ]),
-                _ => Err(Misfit::Unfit),
+                _ => Err(Misfit::wanted(Wanted::Length)),
             },
-            _ => Err(Misfit::Unfit),
+            _ => Err(Misfit::wanted(Wanted::List)),
         }
     }
 

@@ -9,7 +9,7 @@ ghost use Rattle.lsp_uri.specs.Grammar.{is_uri_reference};
 ghost use Rattle.lsp_uri.specs.declared.uri.UriError.TheVariants as errors;
 
 use crate::parts::{is_uri_reference, split};
-use lsp_shape::{Key, Misfit, Wire};
+use lsp_shape::{Key, Misfit, Wanted, Wire};
 use no_memory::NoMemory;
 use serde_json::Value;
 use std::alloc::{AllocError, AllocFailed, Global};
@@ -221,7 +221,7 @@ impl Wire for Uri {
     fn from_value(alloc: Global, value: &Value) -> Result<Uri, Misfit> {
         match value {
             Value::String(text) => Uri::from_text(alloc, text.as_str()),
-            _ => Err(Misfit::Unfit),
+            _ => Err(Misfit::wanted(Wanted::Uri)),
         }
     }
 
@@ -242,7 +242,7 @@ impl Key for Uri {
     fn from_text(alloc: Global, text: &str) -> Result<Uri, Misfit> {
         match Uri::parse(alloc, text) {
             Ok(uri) => Ok(uri),
-            Err(UriError::NotUri) => Err(Misfit::Unfit),
+            Err(UriError::NotUri) => Err(Misfit::wanted(Wanted::Uri)),
             Err(UriError::NoMemory) => Err(Misfit::NoMemory),
         }
     }
