@@ -1,6 +1,7 @@
 pub mod Clones
 pub mod Items
 pub mod Refusals
+pub mod Told
 pub mod Parts
 pub mod Names
 pub mod Ascending
@@ -12,6 +13,7 @@ pub mod Lists
 pub mod Recursive
 pub mod ReadsBack
 pub mod Settled
+pub mod Steps
 pub mod Entries
 pub mod Tables
 pub mod NotNull

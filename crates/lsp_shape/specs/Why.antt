@@ -1,7 +1,7 @@
 -- Why a value does not fit a shape: where in it something else is wanted, and what.
-use Rattle.std.specs.Prelude.{◌≡◌, ◌⊎◌, ℕ, zero, suc, List, [], ◌∷◌, ◌++◌, take, Bool, true, false, Option, Some, None, option_map, option_and_then, is_some, bytes_eq, if◌then◌else◌, Result, Ok, Err}
+use Rattle.std.specs.Prelude.{◌≡◌, ◌⊎◌, ◌≤◌, ℕ, zero, suc, List, [], ◌∷◌, ◌++◌, length, take, Bool, true, false, Option, Some, None, option_map, option_and_then, is_some, bytes_eq, if◌then◌else◌, Result, Ok, Err}
 use Rattle.serde_json.specs.Data.{Data, null, boolean, number, string, array, object, Members, no_members, member}
-use Rattle.serde_json.specs.Find.{get, get_member, at, as_null, as_bool, as_number, as_str, as_array, as_object}
+use Rattle.serde_json.specs.Find.{get, get_member, get_item, at, as_null, as_bool, as_number, as_str, as_array, as_object}
 use Rattle.lsp_shape.specs.Plain.{Plain}
 use Rattle.lsp_shape.specs.Shape.{Rule, Shape, nil, truth, integer, bits, text, any, list_of, maybe, map_of, fields, fields_and, recursive, union, tagged, Fields, no_fields, field, flat, supported, again, field_names}
 use Rattle.lsp_shape.specs.Read.{read}
@@ -48,6 +48,13 @@ nth_step n (number x) = None
 nth_step n (string s) = None
 nth_step n (array ds) = Some (to_item n)
 nth_step n (object ms) = option_map to_member (name_at n ms)
+
+abbrev pub with_step : Downward → Data → Downward × Data
+with_step s d = (s, d)
+
+-- the step to the member or the item of that number, with what stands there
+abbrev pub step_to : ℕ → Data → Option (Downward × Data)
+step_to n d = option_and_then (λ s. option_map (with_step s) (below s d)) (nth_step n d)
 
 abbrev pub step_before : Downward → Option (List Downward) → List Downward
 step_before s None = []
@@ -97,24 +104,32 @@ is_left_out null = true
 is_left_out (boolean b) = true
 is_left_out _ = false
 
+-- it has more items or members than a step can tell apart
+abbrev pub is_long : Data → Bool
+is_long (array ds) = is_some (get_item 65536 ds)
+is_long (object ms) = is_some (name_at 65536 ms)
+is_long _ = false
+
 -- At the path something stands that is wanted otherwise: no value that is read has it there, and each that is read and has
 -- something there has what is of the wanted kind, or null, true or false. Where the word says all that is wanted, what stands there
--- is not of that kind.
+-- is not of that kind. That only something inside does not fit is said where no further step can be told.
 pub record IsReason (f : Data → Option Plain) (d : Data) (path : List Downward) (w : Wanted) : Type 0 where
   pub found : Data
   pub there : found_at path d ≡ Some found
   pub other : is_all w ≡ true → is_kind w found ≡ false
   pub alone : (e : Data) → found_at path e ≡ Some found → f e ≡ None
   pub needed : (e x : Data) → found_at path e ≡ Some x → is_kind w x ≡ false → is_left_out x ≡ false → f e ≡ None
+  pub far : w ≡ wants.Inside → (8 ≤ length path) ⊎ (is_long found ≡ true)
 
 -- ---- a misfit
 
 abbrev pub steps_of : Why → List ℕ
 steps_of why = take why.depth why.steps
 
--- it is told why the value is not read
+-- it is told why the value is not read, by steps that all lead on
 pub record Fails (f : Data → Option Plain) (d : Data) (why : Why) : Type 0 where
   pub reason : IsReason f d (path_by (steps_of why) d) why.wanted
+  pub led : length (path_by (steps_of why) d) ≡ length (steps_of why)
 
 -- it is told why the value does not fit the shape
 pub record Refuses (s : Shape) (d : Data) (why : Why) : Type 0 where
@@ -136,19 +151,18 @@ IsUnfit (Err m) = IsUnfitted m
 abbrev pub IsWhole : Wanted → Why → Type 0
 IsWhole w why = (steps_of why ≡ []) × (why.wanted ≡ w)
 
--- The reason with one step before it. Where it has no room, the last steps are lost, and what is said is that something inside does
--- not fit.
+-- The reason with one step before it. Past eight steps the last are lost, and what is said is that something inside does not fit.
 abbrev pub IsUnder : ℕ → Why → Why → Type 0
 IsUnder n old new = ((steps_of new ≡ n ∷ steps_of old) × (new.wanted ≡ old.wanted))
-    ⊎ ((lost : List ℕ) × (steps_of new ++ lost ≡ n ∷ steps_of old) × (new.wanted ≡ wants.Inside))
+    ⊎ ((lost : List ℕ) × (steps_of new ++ lost ≡ n ∷ steps_of old) × (new.wanted ≡ wants.Inside) × (8 ≤ length (steps_of new)))
 
--- the reason of the member of that name, as one of the object; past 65,536 members it is not told which
-abbrev pub IsInMember : List ℕ → Members → Why → Why → Type 0
-IsInMember name ms old new = IsWhole wants.Inside new ⊎ ((n : ℕ) × (name_at n ms ≡ Some name) × IsUnder n old new)
-
--- the reason of the item of that number, as one of the list
+-- the reason of the item of that number, as one of the list; past 65,536 items it is not told which
 abbrev pub IsInItem : ℕ → Why → Why → Type 0
-IsInItem n old new = IsWhole wants.Inside new ⊎ IsUnder n old new
+IsInItem n old new = ((65536 ≤ n) × IsWhole wants.Inside new) ⊎ IsUnder n old new
+
+-- the reason of the member of that name, if there is one, as one of the object
+abbrev pub IsInMember : List ℕ → Members → Why → Why → Type 0
+IsInMember name ms old new = (get_member name ms ≡ None) ⊎ ((n : ℕ) × (name_at n ms ≡ Some name) × IsInItem n old new)
 
 -- the reason of an object, whose member of that name was not read
 pub record IsOfMember {A : Type 0} (name : List ℕ) (ms : Members) (member : Result A Misfit) (why : Why) : Type 0 where

@@ -26,9 +26,9 @@ impl Wire for Map<String, Value> {
     ghost shown = { show_object };
 
     fn from_value(_alloc: Global, value: &Value) -> Result<Map<String, Value>, Misfit> {
-        match value {
-            Value::Object(members) => Ok(members.clone()?),
-            _ => Err(Misfit::wanted(Wanted::Object)),
+        match value.as_object() {
+            Some(members) => Ok(members.clone()?),
+            None => Err(Misfit::wanted(Wanted::Object)),
         }
     }
 
@@ -81,9 +81,9 @@ impl<K: Key, T: Wire> Wire for HashMap<K, T> {
     ghost shown = { show_map K.key_text T.shown };
 
     fn from_value(alloc: Global, value: &Value) -> Result<HashMap<K, T>, Misfit> {
-        match value {
-            Value::Object(members) => rest(alloc, members, &[]),
-            _ => Err(Misfit::wanted(Wanted::Object)),
+        match value.as_object() {
+            Some(members) => rest(alloc, members, &[]),
+            None => Err(Misfit::wanted(Wanted::Object)),
         }
     }
 

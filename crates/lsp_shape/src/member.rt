@@ -6,11 +6,11 @@ ghost use Rattle.serde_json.specs.View.{view, members_view};
 ghost use Rattle.lsp_shape.specs.Plain.{maybe_of};
 ghost use Rattle.lsp_shape.specs.Shape.{Shape, required, omitted, or_empty, or_false, list, truth};
 ghost use Rattle.lsp_shape.specs.Shown.{show_list, show_bool};
-ghost use Rattle.lsp_shape.specs.Read.{read, read_member, read_supported, read_or_truth, empty_set};
+ghost use Rattle.lsp_shape.specs.Read.{read, read_member, read_supported, read_or_truth, or_absent, empty_set};
 ghost use Rattle.lsp_shape.specs.Write.{write, write_member, write_maybe, put_present};
 ghost use Rattle.lsp_shape.specs.Shape.{unless_empty, unless_false};
 ghost use Rattle.lsp_shape.specs.Values.{is_of, is_maybe};
-ghost use Rattle.lsp_shape.specs.Why.{Refuses, Fails, IfUnfit, IsUnfit, fields_of, named_field, named_supported, one_field, one_supported};
+ghost use Rattle.lsp_shape.specs.Why.{Refuses, Fails, IfUnfit, IsUnfit, IsWhole, fields_of, named_field, named_supported, one_field, one_supported};
 
 use crate::why::{Misfit, Wanted, told_member};
 use crate::wire::Wire;
@@ -101,13 +101,25 @@ fn supported_value<T: Wire>(alloc: Global, value: &Value) -> Result<Option<T>, M
     ensures unfit { IfUnfit result
         (λ why. Fails (read_or_truth (read T.shape)) (view value.now) why) }
 {
-    match value {
-        Value::Null | Value::Bool(false) => Ok(None),
-        Value::Bool(true) => match T::from_value(alloc, &empty_value_set(alloc)?) {
-            Ok(value) => Ok(Some(value)),
-            Err(misfit) => Err(misfit.whole(Wanted::Form)),
-        },
-        _ => Ok(Some(T::from_value(alloc, value)?)),
+    match value.as_bool() {
+        Some(is_supported) => truth_supported(alloc, is_supported),
+        None => Option::<T>::from_value(alloc, value),
+    }
+}
+
+// What false is read as, and true.
+fn truth_supported<T: Wire>(alloc: Global, is_supported: bool) -> Result<Option<T>, Misfit>
+    ensures read { IfOk result
+        (λ o. or_absent is_supported (read T.shape) ≡ Some (maybe_of (option_map T.shown o))) }
+    ensures unfit { IfUnfit result (λ why. or_absent is_supported (read T.shape) ≡ None) }
+    ensures whole { IfUnfit result (λ why. IsWhole Wanted.Form why) }
+{
+    if !is_supported {
+        return Ok(None);
+    }
+    match T::from_value(alloc, &empty_value_set(alloc)?) {
+        Ok(value) => Ok(Some(value)),
+        Err(misfit) => Err(misfit.whole(Wanted::Form)),
     }
 }
 

@@ -38,9 +38,9 @@ impl<'v> Reader<'v> {
         ensures unfit { IfUnfit result
             (λ why. (t : Shape) → suits t Wanted.Object ≡ true → Refuses t (view value.now) why) }
     {
-        match value {
-            Value::Object(object) => Ok(Reader { alloc, object }),
-            _ => Err(Misfit::wanted(Wanted::Object)),
+        match value.as_object() {
+            Some(object) => Ok(Reader { alloc, object }),
+            None => Err(Misfit::wanted(Wanted::Object)),
         }
     }
 

@@ -1,7 +1,7 @@
 // `Wire` of std's types.
 ghost use Rattle.std.specs.Prelude.{◌≡◌, option_map, map, IfOk, Some};
 ghost use Rattle.serde_json.specs.View.{view, items_view};
-ghost use Rattle.serde_json.specs.Data.{array, null};
+ghost use Rattle.serde_json.specs.Data.{array, null, item, no_items};
 ghost use Rattle.lsp_shape.specs.Plain.{leaf, parts, parts_of};
 ghost use Rattle.lsp_shape.specs.Shape.{nil, truth, any, list, pair, maybe, u8_shape, u32_shape, i32_shape, i64_shape, string_shape, object_shape};
 ghost use Rattle.lsp_shape.specs.Read.{read, read_items};
@@ -20,9 +20,9 @@ impl Wire for bool {
     ghost shown = { show_bool };
 
     fn from_value(_alloc: Global, value: &Value) -> Result<bool, Misfit> {
-        match value {
-            Value::Bool(b) => Ok(*b),
-            _ => Err(Misfit::wanted(Wanted::Boolean)),
+        match value.as_bool() {
+            Some(b) => Ok(b),
+            None => Err(Misfit::wanted(Wanted::Boolean)),
         }
     }
 
@@ -37,14 +37,28 @@ impl Wire for () {
     ghost shown = { λ _. leaf null };
 
     fn from_value(_alloc: Global, value: &Value) -> Result<(), Misfit> {
-        match value {
-            Value::Null => Ok(()),
-            _ => Err(Misfit::wanted(Wanted::Null)),
+        if value.is_null() {
+            Ok(())
+        } else {
+            Err(Misfit::wanted(Wanted::Null))
         }
     }
 
     fn to_value(&self, _alloc: Global) -> Result<Value, NoMemory> {
         Ok(Value::Null)
+    }
+}
+
+// The number that the value is, where it is one of a `u8`.
+fn u8_of(value: &Value) -> Option<u8>
+    ensures { option_map show_unsigned result ≡ read u8_shape (view value.now) }
+{
+    match value {
+        Value::Number(number) => match number.as_u64() {
+            Some(n) if n <= u8::MAX as u64 => Some(n as u8),
+            _ => None,
+        },
+        _ => None,
     }
 }
 
@@ -54,17 +68,27 @@ impl Wire for u8 {
     ghost shown = { show_unsigned };
 
     fn from_value(_alloc: Global, value: &Value) -> Result<u8, Misfit> {
-        match value {
-            Value::Number(number) => match number.as_u64() {
-                Some(n) if n <= u8::MAX as u64 => Ok(n as u8),
-                _ => Err(Misfit::wanted(Wanted::Unsigned)),
-            },
-            _ => Err(Misfit::wanted(Wanted::Unsigned)),
+        match u8_of(value) {
+            Some(n) => Ok(n),
+            None => Err(Misfit::wanted(Wanted::Unsigned)),
         }
     }
 
     fn to_value(&self, _alloc: Global) -> Result<Value, NoMemory> {
         Ok(Value::from(*self))
+    }
+}
+
+// The number that the value is, where it is one of a `u32`.
+fn u32_of(value: &Value) -> Option<u32>
+    ensures { option_map show_unsigned result ≡ read u32_shape (view value.now) }
+{
+    match value {
+        Value::Number(number) => match number.as_u64() {
+            Some(n) if n <= u32::MAX as u64 => Some(n as u32),
+            _ => None,
+        },
+        _ => None,
     }
 }
 
@@ -74,17 +98,27 @@ impl Wire for u32 {
     ghost shown = { show_unsigned };
 
     fn from_value(_alloc: Global, value: &Value) -> Result<u32, Misfit> {
-        match value {
-            Value::Number(number) => match number.as_u64() {
-                Some(n) if n <= u32::MAX as u64 => Ok(n as u32),
-                _ => Err(Misfit::wanted(Wanted::Unsigned)),
-            },
-            _ => Err(Misfit::wanted(Wanted::Unsigned)),
+        match u32_of(value) {
+            Some(n) => Ok(n),
+            None => Err(Misfit::wanted(Wanted::Unsigned)),
         }
     }
 
     fn to_value(&self, _alloc: Global) -> Result<Value, NoMemory> {
         Ok(Value::from(*self))
+    }
+}
+
+// The number that the value is, where it is one of a `i32`.
+fn i32_of(value: &Value) -> Option<i32>
+    ensures { option_map show_signed result ≡ read i32_shape (view value.now) }
+{
+    match value {
+        Value::Number(number) => match number.as_i64() {
+            Some(n) if i32::MIN as i64 <= n && n <= i32::MAX as i64 => Some(n as i32),
+            _ => None,
+        },
+        _ => None,
     }
 }
 
@@ -94,17 +128,24 @@ impl Wire for i32 {
     ghost shown = { show_signed };
 
     fn from_value(_alloc: Global, value: &Value) -> Result<i32, Misfit> {
-        match value {
-            Value::Number(number) => match number.as_i64() {
-                Some(n) if i32::MIN as i64 <= n && n <= i32::MAX as i64 => Ok(n as i32),
-                _ => Err(Misfit::wanted(Wanted::Integer)),
-            },
-            _ => Err(Misfit::wanted(Wanted::Integer)),
+        match i32_of(value) {
+            Some(n) => Ok(n),
+            None => Err(Misfit::wanted(Wanted::Integer)),
         }
     }
 
     fn to_value(&self, _alloc: Global) -> Result<Value, NoMemory> {
         Ok(Value::from(*self))
+    }
+}
+
+// The number that the value is, where it is one of an `i64`.
+fn i64_of(value: &Value) -> Option<i64>
+    ensures { option_map show_signed result ≡ read i64_shape (view value.now) }
+{
+    match value {
+        Value::Number(number) => number.as_i64(),
+        _ => None,
     }
 }
 
@@ -114,12 +155,9 @@ impl Wire for i64 {
     ghost shown = { show_signed };
 
     fn from_value(_alloc: Global, value: &Value) -> Result<i64, Misfit> {
-        match value {
-            Value::Number(number) => match number.as_i64() {
-                Some(n) => Ok(n),
-                None => Err(Misfit::wanted(Wanted::Integer)),
-            },
-            _ => Err(Misfit::wanted(Wanted::Integer)),
+        match i64_of(value) {
+            Some(n) => Ok(n),
+            None => Err(Misfit::wanted(Wanted::Integer)),
         }
     }
 
@@ -133,10 +171,10 @@ impl Wire for String {
 
     ghost shown = { show_string };
 
-    fn from_value(_alloc: Global, value: &Value) -> Result<String, Misfit> {
-        match value {
-            Value::String(s) => Ok(s.clone()?),
-            _ => Err(Misfit::wanted(Wanted::Text)),
+    fn from_value(alloc: Global, value: &Value) -> Result<String, Misfit> {
+        match value.as_str() {
+            Some(text) => Ok(String::from_str(alloc, text)?),
+            None => Err(Misfit::wanted(Wanted::Text)),
         }
     }
 
@@ -201,9 +239,9 @@ impl<T: Wire> Wire for Vec<T> {
     ghost shown = { show_list T.shown };
 
     fn from_value(alloc: Global, value: &Value) -> Result<Vec<T>, Misfit> {
-        match value {
-            Value::Array(items) => read_all(alloc, items),
-            _ => Err(Misfit::wanted(Wanted::List)),
+        match value.as_array() {
+            Some(items) => read_all(alloc, items),
+            None => Err(Misfit::wanted(Wanted::List)),
         }
     }
 
@@ -232,6 +270,19 @@ fn read_all<T: Wire>(alloc: Global, items: &Vec<Value>) -> Result<Vec<T>, Misfit
     Ok(all)
 }
 
+// What the two items of a list are read as.
+fn read_two(alloc: Global, first: &Value, second: &Value) -> Result<[u32; 2], Misfit>
+    ensures read { let items = item (view first.now) (item (view second.now) no_items) in
+        IfOk result (λ x. read pair (array items) ≡ Some (show_pair x)) }
+    ensures unfit { let items = item (view first.now) (item (view second.now) no_items) in
+        IfUnfit result (λ why. Refuses pair (array items) why) }
+{
+    Ok([
+        told_item(0, u32::from_value(alloc, first))?,
+        told_item(1, u32::from_value(alloc, second))?,
+    ])
+}
+
 #[tactic(auto, using(crate::proofs::Items::item_lemmas))]
 impl Wire for [u32; 2] {
     ghost shape = { pair };
@@ -239,15 +290,12 @@ impl Wire for [u32; 2] {
     ghost shown = { show_pair };
 
     fn from_value(alloc: Global, value: &Value) -> Result<[u32; 2], Misfit> {
-        match value {
-            Value::Array(items) => match items.as_slice() {
-                [first, second] => Ok([
-                    told_item(0, u32::from_value(alloc, first))?,
-                    told_item(1, u32::from_value(alloc, second))?,
-                ]),
+        match value.as_array() {
+            Some(items) => match items.as_slice() {
+                [first, second] => read_two(alloc, first, second),
                 _ => Err(Misfit::wanted(Wanted::Length)),
             },
-            _ => Err(Misfit::wanted(Wanted::List)),
+            None => Err(Misfit::wanted(Wanted::List)),
         }
     }
 

@@ -1,9 +1,9 @@
 // Why a value does not fit a type, told by the names of its members.
-ghost use Rattle.std.specs.Prelude.{◌≡◌, ◌++◌, IfOk, OnOk, IfSome, IsSome, IsNone, None, map, option_map, is_some, true};
+ghost use Rattle.std.specs.Prelude.{◌≡◌, IfOk, IfSome, IsSome, IsNone, None, map, option_map, is_some, true};
 ghost use Rattle.serde_json.specs.View.{view, members_view};
 ghost use Rattle.lsp_shape.specs.Read.{read};
 ghost use Rattle.lsp_shape.specs.Unfit.{step_shown, path_shown};
-ghost use Rattle.lsp_shape.specs.Why.{IsReason, path_by, name_at, member_at};
+ghost use Rattle.lsp_shape.specs.Why.{IsReason, path_by, step_to, name_at, member_at};
 
 use crate::member::find;
 use crate::why::{Misfit, Wanted, Why};
@@ -46,47 +46,52 @@ pub fn why_unfit<T: Wire>(alloc: Global, value: &Value) -> Result<Option<Unfit>,
 {
     match T::from_value(alloc, value) {
         Ok(_) => Ok(None),
-        Err(Misfit::Unfit(why)) => {
-            let mut path = Vec::new(alloc);
-            push_path(alloc, value, why.steps(), &mut path)?;
-            Ok(Some(Unfit {
-                path,
-                wanted: why.wanted(),
-            }))
-        }
+        Err(Misfit::Unfit(why)) => Ok(Some(Unfit {
+            path: path_of(alloc, value, why.steps())?,
+            wanted: why.wanted(),
+        })),
         Err(Misfit::NoMemory) => Err(NoMemory),
     }
 }
 
-// Adds the steps down the value, as far as they lead.
-fn push_path(
-    alloc: Global,
-    value: &Value,
-    steps: &[u16],
-    path: &mut Vec<Step>,
-) -> Result<(), NoMemory>
-    ensures { OnOk result (map step_shown path.new.items
-        ≡ map step_shown path.old.items ++ path_by steps.now (view value.now)) }
+// The path by those steps down the value, as far as they lead.
+fn path_of(alloc: Global, value: &Value, steps: &[u16]) -> Result<Vec<Step>, NoMemory>
+    ensures { IfOk result
+        (λ path. map step_shown path.items ≡ path_by steps.now (view value.now)) }
 {
-    let Some((number, rest)) = steps.split_first() else {
-        return Ok(());
-    };
+    let mut path = Vec::new(alloc);
+    let mut place = value;
+    for number in steps {
+        let down = step_down(alloc, place, *number)?;
+        match down {
+            Some((step, below)) => {
+                path.push(step)?;
+                place = below;
+            }
+            None => return Ok(path),
+        }
+    }
+    Ok(path)
+}
+
+// The step to the member or item of that number, and what stands there.
+fn step_down(alloc: Global, value: &Value, number: u16) -> Result<Option<(Step, &Value)>, NoMemory>
+    ensures { IfOk result
+        (λ down. option_map (λ s. (step_shown s.0, view s.1.now)) down
+        ≡ step_to number (view value.now)) }
+{
     match value {
-        Value::Array(items) => match items.get(usize::from(*number)) {
-            Some(item) => {
-                path.push(Step::Item(*number))?;
-                push_path(alloc, item, rest, path)
-            }
-            None => Ok(()),
+        Value::Array(items) => match items.get(usize::from(number)) {
+            Some(item) => Ok(Some((Step::Item(number), item))),
+            None => Ok(None),
         },
-        Value::Object(members) => match member_of(members, *number) {
+        Value::Object(members) => match member_of(members, number) {
             Some((name, member)) => {
-                path.push(Step::Member(String::from_str(alloc, name)?))?;
-                push_path(alloc, member, rest, path)
+                Ok(Some((Step::Member(String::from_str(alloc, name)?), member)))
             }
-            None => Ok(()),
+            None => Ok(None),
         },
-        _ => Ok(()),
+        _ => Ok(None),
     }
 }
 

@@ -1,6 +1,7 @@
 // Why a value is not read.
-ghost use Rattle.std.specs.Prelude.{◌≡◌, [], IfSome, IfOk, Some};
+ghost use Rattle.std.specs.Prelude.{◌≡◌, [], IfSome, IsNone, IfOk, None, Some};
 ghost use Rattle.serde_json.specs.Data.{Data};
+ghost use Rattle.serde_json.specs.Find.{get_member};
 ghost use Rattle.serde_json.specs.View.{members_view};
 ghost use Rattle.lsp_shape.specs.Shape.{Shape};
 ghost use Rattle.lsp_shape.specs.Why.{steps_of, name_at, Refuses, Lacks, IfUnfit, IsUnfitted, IsWhole, IsUnder, IsInMember, IsInItem, IsOfMember, IsOfItem};
@@ -164,15 +165,17 @@ impl<T: Drop> From<AllocFailed<T>> for Misfit {
 }
 
 // The number of the member of that name.
-fn number_of(object: &Map<String, Value>, name: &str) -> Option<u16>
-    ensures { IfSome result (λ n. name_at n (members_view object.now.entries) ≡ Some name.now) }
+fn number_of(object: &Map<String, Value>, name: &str) -> Option<usize>
+    ensures found { IfSome result
+        (λ n. name_at n (members_view object.now.entries) ≡ Some name.now) }
+    ensures none { IsNone result → get_member name.now (members_view object.now.entries) ≡ None }
 {
-    let mut number = 0u16;
+    let mut number = 0usize;
     for (key, _) in object.iter() {
         if key.as_str() == name {
             return Some(number);
         }
-        number = number.checked_add(1)?;
+        number += 1;
     }
     None
 }
@@ -182,8 +185,8 @@ fn in_member(object: &Map<String, Value>, name: &str, why: Why) -> Why
     ensures { IsInMember name.now (members_view object.now.entries) why result }
 {
     match number_of(object, name) {
-        Some(number) => why.under(number),
-        None => Why::here(Wanted::Inside),
+        Some(number) => in_item(number, why),
+        None => why,
     }
 }
 
