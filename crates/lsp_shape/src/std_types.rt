@@ -270,6 +270,19 @@ fn read_all<T: Wire>(alloc: Global, items: &Vec<Value>) -> Result<Vec<T>, Misfit
     Ok(all)
 }
 
+// What the items of a list are read as, where they are two.
+fn read_pair(alloc: Global, items: &[Value]) -> Result<[u32; 2], Misfit>
+    ensures read { IfOk result
+        (λ x. read pair (array (items_view items.now)) ≡ Some (show_pair x)) }
+    ensures unfit { IfUnfit result (λ why. Refuses pair (array (items_view items.now)) why) }
+{
+    if items.len() == 2 {
+        read_two(alloc, &items[0], &items[1])
+    } else {
+        Err(Misfit::wanted(Wanted::Length))
+    }
+}
+
 // What the two items of a list are read as.
 fn read_two(alloc: Global, first: &Value, second: &Value) -> Result<[u32; 2], Misfit>
     ensures read { let items = item (view first.now) (item (view second.now) no_items) in
@@ -291,10 +304,7 @@ impl Wire for [u32; 2] {
 
     fn from_value(alloc: Global, value: &Value) -> Result<[u32; 2], Misfit> {
         match value.as_array() {
-            Some(items) => match items.as_slice() {
-                [first, second] => read_two(alloc, first, second),
-                _ => Err(Misfit::wanted(Wanted::Length)),
-            },
+            Some(items) => read_pair(alloc, items.as_slice()),
             None => Err(Misfit::wanted(Wanted::List)),
         }
     }
