@@ -57,21 +57,20 @@ led_some : (o : Option Downward) (t : Downward) (x : Data) (f : Data → List Do
 led_some None t x f d e = absurd (none-some (t, x) e)
 led_some (Some s) t x f d e = further_some s t x f (below s d) e
 
-next_number : (ns : List ℕ) (i n : ℕ) → i < length ns → n ≡ get_or ns i n → drop i ns ≡ n ∷ drop (i + 1) ns
-next_number ns i n h e = rw add-one (drop-cons ns i n h ∙ ap (λ (m : ℕ). m ∷ drop (suc i) ns) (sym e))
+pub next_number : (ns : List ℕ) (i z : ℕ) → i < length ns → drop i ns ≡ get_or ns i z ∷ drop (i + 1) ns
+next_number ns i z h = rw add-one (drop-cons ns i z h)
 
--- one more step is told
-pub one_down : (before after whole : List Downward) (ns : List ℕ) (i n : ℕ) (d x : Data) (s : Downward) → i < length ns → n ≡ get_or ns i n → step_to n d ≡ Some (s, x) → after ≡ before ++ s ∷ []
-    → before ++ path_by (drop i ns) d ≡ whole → after ++ path_by (drop (i + 1) ns) x ≡ whole
-one_down before after whole ns i n d x s h e is pushed so_far =
-    ap (λ (p : List Downward). p ++ path_by (drop (i + 1) ns) x) pushed ∙ append_assoc before (s ∷ []) (path_by (drop (i + 1) ns) x)
-    ∙ ap (λ (p : List Downward). before ++ p) (sym (ap (λ (ks : List ℕ). path_by ks d) (next_number ns i n h e) ∙ led_some (nth_step n d) s x (path_by (drop (i + 1) ns)) d is))
-    ∙ so_far
+module _ (before whole : List Downward) (ns : List ℕ) (i n : ℕ) (d : Data) (next : drop i ns ≡ n ∷ drop (i + 1) ns) (so_far : before ++ path_by (drop i ns) d ≡ whole) where
+  -- one more step is told
+  pub one_down : (after : List Downward) (s : Downward) (x : Data) → step_to n d ≡ Some (s, x) → after ≡ before ++ s ∷ [] → after ++ path_by (drop (i + 1) ns) x ≡ whole
+  one_down after s x is pushed =
+      ap (λ (p : List Downward). p ++ path_by (drop (i + 1) ns) x) pushed ∙ append_assoc before (s ∷ []) (path_by (drop (i + 1) ns) x)
+      ∙ ap (λ (p : List Downward). before ++ p) (sym (ap (λ (ks : List ℕ). path_by ks d) next ∙ led_some (nth_step n d) s x (path_by (drop (i + 1) ns)) d is))
+      ∙ so_far
 
--- no further step leads on
-pub no_further : (before whole : List Downward) (ns : List ℕ) (i n : ℕ) (d : Data) → i < length ns → n ≡ get_or ns i n → step_to n d ≡ None → before ++ path_by (drop i ns) d ≡ whole → before ≡ whole
-no_further before whole ns i n d h e is so_far =
-    sym (append-nil before) ∙ ap (λ (p : List Downward). before ++ p) (sym (ap (λ (ks : List ℕ). path_by ks d) (next_number ns i n h e) ∙ led_none (nth_step n d) (path_by (drop (i + 1) ns)) d is)) ∙ so_far
+  -- no further step leads on
+  pub no_further : step_to n d ≡ None → before ≡ whole
+  no_further is = sym (append-nil before) ∙ ap (λ (p : List Downward). before ++ p) (sym (ap (λ (ks : List ℕ). path_by ks d) next ∙ led_none (nth_step n d) (path_by (drop (i + 1) ns)) d is)) ∙ so_far
 
 -- all numbers were gone by
 pub all_down : (before whole : List Downward) (ns : List ℕ) (i : ℕ) (d : Data) → drop i ns ≡ [] → before ++ path_by (drop i ns) d ≡ whole → before ≡ whole
