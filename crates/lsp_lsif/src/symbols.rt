@@ -5,7 +5,7 @@ ghost use Rattle.serde_json.specs.Find.{get_member};
 ghost use Rattle.serde_json.specs.View.{view, items_view, members_view};
 ghost use Rattle.lsp_shape.specs.Plain.{parts_of};
 ghost use Rattle.lsp_shape.specs.Read.{read, read_items, read_member};
-ghost use Rattle.lsp_shape.specs.Shape.{Shape, list, unless_empty};
+ghost use Rattle.lsp_shape.specs.Shape.{Shape, list, or_empty, unless_empty};
 ghost use Rattle.lsp_shape.specs.Shown.{show_list};
 ghost use Rattle.lsp_shape.specs.Values.{is_of};
 ghost use Rattle.lsp_shape.specs.Why.{Refuses, IfUnfit, fields_of, named_field};
@@ -75,7 +75,7 @@ fn read_children(
         ≡ Some (show_list show_range_based_document_symbol v)) }
     ensures unfit { IfUnfit result
         (λ why. (t : Shape) → named_field (codes "children") (fields_of t)
-        ≡ Some (unless_empty, list range_based_document_symbol_shape)
+        ≡ Some (or_empty, list range_based_document_symbol_shape)
         → Refuses t (object_of (members_view object.now.entries)) why) }
 {
     match find(object, "children") {

@@ -11,9 +11,9 @@ use Rattle.serde_json.specs.declared.value.Value.{Value}
 use Rattle.serde_json.specs.Data.{Data, null, boolean, number, string, array, object, Items, no_items, item, Members, no_members, member}
 use Rattle.serde_json.specs.Find.{get, get_member, get_item, at, as_null, as_bool, as_number, as_str, as_array, as_object}
 use Rattle.lsp_shape.specs.Plain.{Plain, present, parts, entry, Parts, no_parts, part}
-use Rattle.lsp_shape.specs.Shape.{Rule, Count, required, omitted, or_empty, or_false, Shape, truth, nil, integer, bits, text, list_of, list, maybe, map_of, recursive, fields, fields_and, union, tagged, any, Fields, no_fields, field, flat, supported, again, has_name, field_names}
+use Rattle.lsp_shape.specs.Shape.{Rule, Count, required, omitted, nullable, or_empty, or_false, unless_empty, unless_false, Shape, truth, nil, integer, bits, text, list_of, list, maybe, map_of, recursive, fields, fields_and, union, tagged, any, Fields, no_fields, field, flat, supported, again, has_name, field_names}
 use Rattle.lsp_shape.specs.Read.{read, read_nil, read_truth, read_integer, read_text, read_fields, read_member, read_supported, read_or_truth, read_maybe, read_items, read_list, item_count, read_entry, read_entries, read_map, and_part, and_rest, read_count, reads_none}
-use Rattle.lsp_shape.specs.Why.{Downward, to_member, to_item, below, found_at, name_at, nth_step, step_before, and_further, path_by, is_kind, is_all, is_left_out, is_long, IsReason, steps_of, Fails, Refuses, IfUnfit, IsUnfit, IsWhole, IsUnder, IsInMember, IsInItem, IsOfMember, IsOfItem, one_field, one_supported, fields_of, named_field, named_supported, HasFlat, IsMapBeside, AnyRefuses, suits, Lacks}
+use Rattle.lsp_shape.specs.Why.{Downward, to_member, to_item, below, found_at, name_at, nth_step, step_before, and_further, path_by, is_kind, is_all, is_left_out, is_long, IsReason, steps_of, Fails, Refuses, IfUnfit, IsUnfit, IsWhole, IsUnder, IsInMember, IsInItem, IsOfMember, IsOfItem, one_field, one_supported, fields_of, read_rule, named_field, named_supported, HasFlat, IsMapBeside, AnyRefuses, suits, Lacks}
 use Rattle.lsp_shape.specs.declared.why.Misfit.{Misfit}
 use Rattle.lsp_shape.specs.declared.why.Misfit.TheVariants as misfits
 use Rattle.lsp_shape.specs.declared.why.Wanted.{Wanted}
@@ -398,13 +398,34 @@ record_refuses (supported name s fs) d why (inl a) = at_supported name s fs a
 record_refuses (supported name s fs) d why (inr a) = past_supported name s fs (record_refuses fs d why a)
 record_refuses (again name r c fs) d why a = past_again name r c fs (record_refuses fs d why a)
 
+-- a field that is written otherwise is read the same
+same_member : (r : Rule) (f : Data → Option Plain) (o : Option Data) → read_member (read_rule r) f o ≡ read_member r f o
+same_member required f o = refl
+same_member omitted f o = refl
+same_member or_empty f o = refl
+same_member or_false f o = refl
+same_member nullable f None = refl
+same_member nullable f (Some d) = refl
+same_member unless_empty f None = refl
+same_member unless_empty f (Some d) = refl
+same_member unless_false f None = refl
+same_member unless_false f (Some d) = refl
+
+by_rule : (k : List ℕ) (q : Rule) (t : Shape) {d : Data} {why : Why} → Refuses (one_field k (read_rule q) t) d why → Refuses (one_field k q t) d why
+by_rule k q t = wider (field k (read_rule q) t no_fields) (field k q t no_fields) (λ e h. ap (λ (o : Option Plain). and_part o (Some no_parts)) (sym (same_member q (read t) (get k e))) ∙ h)
+
+same_field : (name k : List ℕ) (r q : Rule) (s t : Shape) {d : Data} {why : Why} → name ≡ k → q ≡ r → t ≡ s → Refuses (one_field name r s) d why → Refuses (one_field k q t) d why
+same_field name k r q s t e f h a = rw (← e, f, h) a
+
 -- the field of that name
 named_refuses : (fs : Fields) (name : List ℕ) (r : Rule) (s : Shape) (d : Data) (why : Why) → named_field name fs ≡ Some (r, s) → Refuses (one_field name r s) d why → AnyRefuses fs d why
 named_refuses no_fields name r s d why is a = absurd (none-some (r, s) is)
 named_refuses (field k q t fs) name r s d why is a = split (λ g. named_refuses fs name r s d why g a) (bytes_eq name k) refl is
   where
-    split : (named_field name fs ≡ Some (r, s) → AnyRefuses fs d why) → (b : Bool) → bytes_eq name k ≡ b → cond b (Some (q, t)) (named_field name fs) ≡ Some (r, s) → Refuses (one_field k q t) d why ⊎ AnyRefuses fs d why
-    split further true e g = inl (rw (← are_same name k e, (some_pair_parts q r t s g).0, (some_pair_parts q r t s g).1) a)
+    split : (named_field name fs ≡ Some (r, s) → AnyRefuses fs d why) → (b : Bool) → bytes_eq name k ≡ b → cond b (Some (read_rule q, t)) (named_field name fs) ≡ Some (r, s) → Refuses (one_field k q t) d why ⊎ AnyRefuses fs d why
+    split further true e g =
+        let same = some_pair_parts (read_rule q) r t s g in
+        inl (by_rule k q t (same_field name k r (read_rule q) s t (are_same name k e) same.0 same.1 a))
     split further false e g = inr (further g)
 named_refuses (flat t fs) name r s d why is a = inr (named_refuses fs name r s d why is a)
 named_refuses (supported k t fs) name r s d why is a = inr (named_refuses fs name r s d why is a)

@@ -1,15 +1,15 @@
 -- The steps down a value, by number and by name.
-use Rattle.std.proofs.Common.{◌≡◌, ℕ, zero, suc, ◌+◌, ◌-◌, ◌<◌, ◌^◌, List, [], ◌∷◌, ◌++◌, length, drop, get_or, Option, Some, None, option_map, String, Global, string_bytes, refl, ap, sym, ◌∙◌, add-one, arith}
+use Rattle.std.proofs.Common.{◌≡◌, ℕ, zero, suc, ◌+◌, ◌-◌, ◌<◌, ◌^◌, List, [], ◌∷◌, ◌++◌, length, drop, get_or, Option, Some, None, option_map, String, Global, string_bytes, refl, ap, sym, subst, ◌∙◌, add-one, arith}
 use Rattle.std.specs.Prelude.{option_and_then}
 use Rattle.std.proofs.Math.Seq.{drop-cons}
 use Rattle.std.proofs.lemmas.List.{append-nil, append_assoc}
 use Rattle.std.proofs.lemmas.Option.{none-some, some_pair_parts}
 use Rattle.serde_json.specs.View.{view, members_view}
-use Rattle.serde_json.specs.Find.{get_member}
+use Rattle.serde_json.specs.Find.{get_member, get_item, at}
 use Rattle.serde_json.specs.declared.value.Value.{Value}
 use Rattle.serde_json.proofs.Views.{member_later}
-use Rattle.serde_json.specs.Data.{Data}
-use Rattle.lsp_shape.specs.Why.{Downward, below, name_at, nth_step, with_step, step_to, step_before, and_further, path_by}
+use Rattle.serde_json.specs.Data.{Data, null, boolean, number, string, array, object, Items}
+use Rattle.lsp_shape.specs.Why.{Downward, to_item, below, name_at, nth_step, with_step, step_to, step_before, and_further, path_by}
 
 -- the entries that are left, while one is looked for by its name
 pub record IsPast (name : List ℕ) (all left : List (String Global × Value)) (number : ℕ) : Type 0 where
@@ -38,6 +38,24 @@ module _ (name : List ℕ) (all : List (String Global × Value)) where
 pub name_later : (n : ℕ) (e : String Global × Value) (left : List (String Global × Value)) → (n ≡ 0 → ⊥) → name_at n (members_view (e ∷ left)) ≡ name_at (n - 1) (members_view left)
 name_later zero e left h = absurd (h refl)
 name_later (suc n) e left h = ap (λ (m : ℕ). name_at m (members_view left)) (omega arith)
+
+-- ---- a step to an item
+
+pub item_down : (n m : ℕ) (d x : Data) → m ≡ n → at m d ≡ Some x → step_to n d ≡ Some (to_item n, x)
+item_down n m (array ds) x same e = let is : get_item n ds ≡ Some x = subst (λ (k : ℕ). get_item k ds ≡ Some x) same e in rw is refl
+item_down n m null x same e = absurd (none-some x e)
+item_down n m (boolean b) x same e = absurd (none-some x e)
+item_down n m (number b) x same e = absurd (none-some x e)
+item_down n m (string b) x same e = absurd (none-some x e)
+item_down n m (object b) x same e = absurd (none-some x e)
+
+no_item_at : (n : ℕ) (ds : Items) → get_item n ds ≡ None → step_to n (array ds) ≡ None
+no_item_at n ds e = rw e refl
+
+pub no_item_down : (n m : ℕ) (d : Data) (ds : Items) → d ≡ array ds → m ≡ n → at m d ≡ None → step_to n d ≡ None
+no_item_down n m d ds is same e =
+    let none : get_item m ds ≡ None = subst (λ (x : Data). at m x ≡ None) is e in
+    subst (λ (x : Data). step_to n x ≡ None) (sym is) (no_item_at n ds (subst (λ (k : ℕ). get_item k ds ≡ None) same none))
 
 -- ---- a path, step by step
 

@@ -11,8 +11,9 @@ use Rattle.lsp_shape.specs.Why.{is_kind, is_all, suits, Lacks, Refuses, IfUnfit,
 use Rattle.lsp_shape.specs.declared.why.Misfit.{Misfit}
 use Rattle.lsp_shape.specs.declared.why.Misfit.TheVariants as misfits
 use Rattle.lsp_shape.specs.declared.why.Wanted.{Wanted}
+use Rattle.lsp_shape.specs.declared.why.Wanted.TheVariants as wants
 use Rattle.lsp_shape.specs.declared.why.Why.{Why}
-use Rattle.lsp_shape.proofs.Refusals.{said, other_kind, refuses_none}
+use Rattle.lsp_shape.proofs.Refusals.{said, other_kind, passed, refuses_none}
 
 module _ {A : Type 0} (w : Wanted) (s : Shape) (d : Data) (m : Misfit) (told : (why : Why) → m ≡ misfits.Unfit why → (t : Shape) (e : Data) → Lacks t e w → Refuses t e why) where
   -- a word that says all that is wanted, of a value of another kind
@@ -22,6 +23,11 @@ module _ {A : Type 0} (w : Wanted) (s : Shape) (d : Data) (m : Misfit) (told : (
   -- a word that does not
   pub wants_other : suits s w ≡ true → is_all w ≡ false → read s d ≡ None → IfUnfit {A = A} (Err m) (λ why. Refuses s d why)
   wants_other t a none = λ why is. told why (said (Err m) m refl is) s d (t, λ e. absurd (false≢true (sym a ∙ e)), none)
+
+-- one of several forms, where a question mark passes it on
+pub form_told : {A : Type 0} (r : Result A Misfit) (m : Misfit) (s : Shape) (d : Data) → suits s wants.Form ≡ true → IsErrAnd r (λ x. x ≡ m)
+    → ((why : Why) → m ≡ misfits.Unfit why → (t : Shape) (e : Data) → Lacks t e wants.Form → Refuses t e why) → ((why : Why) → m ≡ misfits.Unfit why → read s d ≡ None) → IfUnfit r (λ why. Refuses s d why)
+form_told r m s d suited a told none = passed r m (λ why. Refuses s d why) a (λ why is. told why is s d (suited, λ e. absurd (false≢true e), none why is))
 
 -- what a question mark passes on is not read
 pub passed_none : {A : Type 0} (r : Result A Misfit) (m : Misfit) {s : Shape} {d : Data} → IsErrAnd r (λ x. x ≡ m) → ((why : Why) → m ≡ misfits.Unfit why → Refuses s d why) → IsUnfit r → read s d ≡ None

@@ -3,7 +3,7 @@ use Rattle.std.specs.Prelude.{◌≡◌, ◌⊎◌, ◌≤◌, ℕ, zero, suc, L
 use Rattle.serde_json.specs.Data.{Data, null, boolean, number, string, array, object, Members, no_members, member}
 use Rattle.serde_json.specs.Find.{get, get_member, get_item, at, as_null, as_bool, as_number, as_str, as_array, as_object}
 use Rattle.lsp_shape.specs.Plain.{Plain}
-use Rattle.lsp_shape.specs.Shape.{Rule, Shape, nil, truth, integer, bits, text, any, list_of, maybe, map_of, fields, fields_and, recursive, union, tagged, Fields, no_fields, field, flat, supported, again, field_names}
+use Rattle.lsp_shape.specs.Shape.{Rule, required, omitted, nullable, or_empty, or_false, unless_empty, unless_false, Shape, nil, truth, integer, bits, text, any, list_of, maybe, map_of, fields, fields_and, recursive, union, tagged, Fields, no_fields, field, flat, supported, again, field_names}
 use Rattle.lsp_shape.specs.Read.{read}
 use Rattle.lsp_shape.specs.declared.why.Misfit.{Misfit}
 use Rattle.lsp_shape.specs.declared.why.Misfit.TheVariants as misfits
@@ -190,10 +190,20 @@ fields_of (fields fs) = fs
 fields_of (fields_and s fs) = fs
 fields_of _ = no_fields
 
--- what the first field of that name is, with its rule
+-- the rule that reads the same, where they differ in what is written
+abbrev pub read_rule : Rule → Rule
+read_rule required = required
+read_rule omitted = omitted
+read_rule nullable = omitted
+read_rule or_empty = or_empty
+read_rule or_false = or_false
+read_rule unless_empty = or_empty
+read_rule unless_false = or_false
+
+-- what the first field of that name is, with the rule that it is read by
 abbrev pub named_field : List ℕ → Fields → Option (Rule × Shape)
 named_field name no_fields = None
-named_field name (field k r s fs) = if bytes_eq name k then Some (r, s) else named_field name fs
+named_field name (field k r s fs) = if bytes_eq name k then Some (read_rule r, s) else named_field name fs
 named_field name (flat s fs) = named_field name fs
 named_field name (supported k s fs) = named_field name fs
 named_field name (again k r c fs) = named_field name fs

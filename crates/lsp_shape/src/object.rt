@@ -1,7 +1,7 @@
 // An object that is read, and one that is written. A writer, and the reader of a wide record, tell at
 // their end what failed, so that a record with many members is written or read line by line, with no
 // test after each.
-ghost use Rattle.std.specs.Prelude.{◌≡◌, IfOk, OnOk, IsOk, true, Some, None, option_map, List, ℕ, map};
+ghost use Rattle.std.specs.Prelude.{◌≡◌, IfOk, OnOk, IsOk, IsErrOf, true, Some, None, option_map, List, ℕ, map};
 ghost use Rattle.serde_json.specs.Data.{object as object_of, put as with_member, no_members, string};
 ghost use Rattle.serde_json.specs.Find.{get_member};
 ghost use Rattle.serde_json.specs.View.{view};
@@ -204,6 +204,8 @@ impl<'v> WideReader<'v> {
         ensures value { IfOk result (λ x. x ≡ read) }
         ensures fits { OnOk result (misfit_of self.entry ≡ None) }
         ensures unfit { IfUnfit result (λ why. misfit_of self.entry ≡ Some (misfits.Unfit why)) }
+        ensures no_memory { IsErrOf result Misfit.NoMemory
+            → misfit_of self.entry ≡ Some Misfit.NoMemory }
     {
         match self.misfit {
             None => Ok(read),

@@ -81,7 +81,7 @@ fn step_down(alloc: Global, value: &Value, number: u16) -> Result<Option<(Step, 
         ≡ step_to number (view value.now)) }
 {
     match value {
-        Value::Array(items) => match items.get(usize::from(number)) {
+        Value::Array(_) => match value.get(usize::from(number)) {
             Some(item) => Ok(Some((Step::Item(number), item))),
             None => Ok(None),
         },

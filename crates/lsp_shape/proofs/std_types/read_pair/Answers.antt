@@ -7,12 +7,6 @@ use Rattle.lsp_shape.proofs.Pairs.{not_two}
 use Rattle.lsp_shape.proofs.Told.{wants_other}
 use Rattle.lsp_shape.proofs.std_types.read_pair.Goals as goal
 
-pub returns-then-len-clause-read : goal.returns-then-len-clause-read
-returns-then-len-clause-read c = ?
-
-pub returns-then-len-clause-unfit : goal.returns-then-len-clause-unfit
-returns-then-len-clause-unfit c = ?
-
-pub returns-else-len-clause-unfit : goal.returns-else-len-clause-unfit
-returns-else-len-clause-unfit c =
-    wants_other wants.Length pair (array (items_view c.args.items.now)) c.wanted.result c.wanted.ensures.refuses refl refl (not_two _ (array (items_view c.args.items.now)) c.args.items.now refl (λ h. omega (arith, h, c.if-len.false)))
+pub returns-else-items-eq2-clause-unfit : goal.returns-else-items-eq2-clause-unfit
+returns-else-items-eq2-clause-unfit c =
+    wants_other wants.Length pair (array (items_view c.args.items.now)) c.wanted.result c.wanted.ensures.refuses refl refl (not_two _ (array (items_view c.args.items.now)) c.args.items.now refl (λ h. omega arith))
