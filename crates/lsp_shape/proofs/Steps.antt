@@ -8,7 +8,7 @@ use Rattle.serde_json.specs.View.{view, members_view}
 use Rattle.serde_json.specs.Find.{get_member, get_item, at}
 use Rattle.serde_json.specs.declared.value.Value.{Value}
 use Rattle.serde_json.proofs.Views.{member_later}
-use Rattle.serde_json.specs.Data.{Data, null, boolean, number, string, array, object, Items}
+use Rattle.serde_json.specs.Data.{Data, array, Items}
 use Rattle.lsp_shape.specs.Why.{Downward, to_item, below, name_at, nth_step, with_step, step_to, step_before, and_further, path_by}
 
 -- the entries that are left, while one is looked for by its name
@@ -43,11 +43,7 @@ name_later (suc n) e left h = ap (λ (m : ℕ). name_at m (members_view left)) (
 
 pub item_down : (n m : ℕ) (d x : Data) → m ≡ n → at m d ≡ Some x → step_to n d ≡ Some (to_item n, x)
 item_down n m (array ds) x same e = let is : get_item n ds ≡ Some x = subst (λ (k : ℕ). get_item k ds ≡ Some x) same e in rw is refl
-item_down n m null x same e = absurd (none-some x e)
-item_down n m (boolean b) x same e = absurd (none-some x e)
-item_down n m (number b) x same e = absurd (none-some x e)
-item_down n m (string b) x same e = absurd (none-some x e)
-item_down n m (object b) x same e = absurd (none-some x e)
+item_down n m d x same e = absurd (none-some x e)
 
 no_item_at : (n : ℕ) (ds : Items) → get_item n ds ≡ None → step_to n (array ds) ≡ None
 no_item_at n ds e = rw e refl

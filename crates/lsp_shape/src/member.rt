@@ -114,10 +114,22 @@ fn truth_supported<T: Wire>(alloc: Global, is_supported: bool) -> Result<Option<
     ensures unfit { IfUnfit result (λ why. or_absent is_supported (read T.shape) ≡ None) }
     ensures whole { IfUnfit result (λ why. IsWhole Wanted.Form why) }
 {
-    if !is_supported {
-        return Ok(None);
+    if is_supported {
+        set_supported(alloc)
+    } else {
+        Ok(None)
     }
-    match T::from_value(alloc, &empty_value_set(alloc)?) {
+}
+
+// What true is read as.
+fn set_supported<T: Wire>(alloc: Global) -> Result<Option<T>, Misfit>
+    ensures read { IfOk result
+        (λ o. or_absent true (read T.shape) ≡ Some (maybe_of (option_map T.shown o))) }
+    ensures unfit { IfUnfit result (λ why. or_absent true (read T.shape) ≡ None) }
+    ensures whole { IfUnfit result (λ why. IsWhole Wanted.Form why) }
+{
+    let set = empty_value_set(alloc)?;
+    match T::from_value(alloc, &set) {
         Ok(value) => Ok(Some(value)),
         Err(misfit) => Err(misfit.whole(Wanted::Form)),
     }

@@ -45,7 +45,7 @@ pub fn why_unfit<T: Wire>(alloc: Global, value: &Value) -> Result<Option<Unfit>,
     ensures fits { IfOk result (λ told. IsNone told → is_some (read T.shape (view value.now)) ≡ true) }
 {
     match T::from_value(alloc, value) {
-        Ok(_) => Ok(None),
+        Ok(_fitting) => Ok(None),
         Err(Misfit::Unfit(why)) => Ok(Some(Unfit {
             path: path_of(alloc, value, why.steps())?,
             wanted: why.wanted(),

@@ -15,11 +15,11 @@ use Rattle.lsp_shape.proofs.std_types.read_all.Goals as goal
 
 pub returns-in_err-told_item-clause-unfit : goal.returns-in_err-told_item-clause-unfit
 returns-in_err-told_item-clause-unfit g c =
-    let place : c.len-in-loop-item.result ≡ c.loop-item.item-index = c.len-in-loop-item.ensures ∙ c.loop-item.invariant.1 in
+    let place : c.len-in-loop-item.result ≡ c.loop-item.item-index = omega (arith, c.loop-item.all.ok.0) in
     let whole : c.deref-item-items.result.now ≡ c.args.items.now.items = search rules in
     let item_is = sym (get_item_within c.deref-item-items.result.now c.loop-item.item-index c.item-item.result c.loop-item-test.true) ∙ ap (λ (v : Value). Some (view v)) (sym c.item-item.is) in
     let here = subst (λ (vs : List Value). get_item c.loop-item.item-index (items_view vs) ≡ Some (view c.item-item.result)) whole item_is in
-    passed c.from_residual.result c.in_err-told_item.field-0.0 _ c.from_residual.ensures.1
+    passed c.from_residual-in_err-told_item.result c.in_err-told_item.field-0.0 _ c.from_residual-in_err-told_item.ensures.1
     (λ why is. item_told here c.from_value.ensures.unfit (subst (λ (n : ℕ). IsOfItem n c.from_value.result why) place (c.in_err-told_item.ensures.unfit why (ap Err is))))
 
 pub loop-item-preserved : goal.loop-item-preserved
