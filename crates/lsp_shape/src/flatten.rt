@@ -10,7 +10,7 @@ ghost use Rattle.lsp_shape.specs.Values.{is_of};
 ghost use Rattle.lsp_shape.specs.Why.{Refuses, Lacks, IfUnfit, IsUnfit, HasFlat, fields_of};
 
 use crate::member::put_value;
-use crate::why::{Misfit, Wanted};
+use crate::why::{Misfit, Wanted, told_whole};
 use crate::wire::Wire;
 use no_memory::NoMemory;
 use serde_json::{Map, Value};
@@ -46,10 +46,7 @@ pub fn as_form<T: Drop>(read: Result<T, Misfit>) -> Result<T, Misfit>
     ensures refuses { IfUnfit result
         (λ why. (s : Shape) (d : Data) → Lacks s d Wanted.Form → Refuses s d why) }
 {
-    match read {
-        Ok(x) => Ok(x),
-        Err(misfit) => Err(misfit.whole(Wanted::Form)),
-    }
+    told_whole(read, Wanted::Form)
 }
 
 /// The value read as a type whose members stand among those of another.

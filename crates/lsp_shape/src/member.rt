@@ -12,7 +12,7 @@ ghost use Rattle.lsp_shape.specs.Shape.{unless_empty, unless_false};
 ghost use Rattle.lsp_shape.specs.Values.{is_of, is_maybe};
 ghost use Rattle.lsp_shape.specs.Why.{Refuses, Fails, IfUnfit, IsUnfit, IsWhole, fields_of, named_field, named_supported, one_field, one_supported};
 
-use crate::why::{Misfit, Wanted, told_member};
+use crate::why::{Misfit, Wanted, told_member, told_whole};
 use crate::wire::Wire;
 use no_memory::NoMemory;
 use serde_json::{Map, Value};
@@ -129,10 +129,7 @@ fn set_supported<T: Wire>(alloc: Global) -> Result<Option<T>, Misfit>
     ensures whole { IfUnfit result (λ why. IsWhole Wanted.Form why) }
 {
     let set = empty_value_set(alloc)?;
-    match T::from_value(alloc, &set) {
-        Ok(value) => Ok(Some(value)),
-        Err(misfit) => Err(misfit.whole(Wanted::Form)),
-    }
+    Ok(Some(told_whole(T::from_value(alloc, &set), Wanted::Form)?))
 }
 
 fn empty_value_set(alloc: Global) -> Result<Value, NoMemory>

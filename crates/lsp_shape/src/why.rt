@@ -4,7 +4,7 @@ ghost use Rattle.serde_json.specs.Data.{Data};
 ghost use Rattle.serde_json.specs.Find.{get_member};
 ghost use Rattle.serde_json.specs.View.{members_view};
 ghost use Rattle.lsp_shape.specs.Shape.{Shape};
-ghost use Rattle.lsp_shape.specs.Why.{steps_of, name_at, Refuses, Lacks, IfUnfit, IsUnfitted, IsWhole, IsUnder, IsInMember, IsInItem, IsOfMember, IsOfItem};
+ghost use Rattle.lsp_shape.specs.Why.{steps_of, name_at, Refuses, Lacks, IfUnfit, IsUnfit, IsUnfitted, IsWhole, IsUnder, IsInMember, IsInItem, IsOfMember, IsOfItem};
 ghost use Rattle.lsp_shape.specs.declared.why.Why.{Why};
 ghost use Rattle.lsp_shape.specs.declared.why.Misfit.TheVariants as misfits;
 
@@ -226,5 +226,19 @@ pub fn told_item<T: Drop>(number: usize, item: Result<T, Misfit>) -> Result<T, M
         Ok(value) => Ok(value),
         Err(Misfit::Unfit(why)) => Err(Misfit::Unfit(in_item(number, why))),
         Err(Misfit::NoMemory) => Err(Misfit::NoMemory),
+    }
+}
+
+// What was read of a value. Where it does not fit, that is wanted of it as a whole.
+pub(crate) fn told_whole<T: Drop>(read: Result<T, Misfit>, wanted: Wanted) -> Result<T, Misfit>
+    ensures ok { IfOk result (λ x. read ≡ Ok x) }
+    ensures unfit { IfUnfit result (λ _. IsUnfit read) }
+    ensures refuses { IfUnfit result
+        (λ why. (s : Shape) (d : Data) → Lacks s d wanted → Refuses s d why) }
+    ensures whole { IfUnfit result (λ why. IsWhole wanted why) }
+{
+    match read {
+        Ok(x) => Ok(x),
+        Err(misfit) => Err(misfit.whole(wanted)),
     }
 }
