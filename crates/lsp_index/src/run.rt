@@ -1,5 +1,5 @@
 // The program but for its `main`.
-ghost use Rattle.std.specs.Prelude.{◌≡◌, ◌≢◌, ◌≤◌, ◌<◌, ◌⊎◌, ◌↔◌, ◌+◌, ◌-◌, ◌^◌, None, not, length, IfOk, IfSome};
+ghost use Rattle.std.specs.Prelude.{◌≡◌, ◌≢◌, ◌≤◌, ◌<◌, ◌⊎◌, ◌↔◌, ◌+◌, ◌-◌, ◌^◌, None, length, IfOk, IfSome};
 ghost use Rattle.lsp_server.specs.SourceSink.{CountRose, IsFlushed};
 ghost use Rattle.lsp_server.specs.Served.{call_bytes};
 ghost use Rattle.lsp_uri.specs.Uri.{uri_text};
@@ -135,15 +135,9 @@ fn answer_over<T: Transport>(
     let mut search = Search::new(alloc, query);
     let ended = over_reads(io, &mut lines, &mut search, reads);
     drop(lines);
-    let good = is_good(search);
+    let good = !search.is_bad;
+    drop(search);
     ended_with(ended, good)
-}
-
-// Lets the search go, and says whether no line was bad.
-fn is_good(search: Search) -> bool
-    ensures { result ≡ not search.is_bad }
-{
-    !search.is_bad
 }
 
 fn ended_with(ended: Result<(), ServeError>, good: bool) -> Result<bool, ServeError>
@@ -175,5 +169,7 @@ pub fn answer_each(
         position,
     };
     let mut search = Search::new(alloc, query);
-    search.answer_each(positions, dump)
+    let lines = search.answer_each(positions, dump);
+    drop(search);
+    lines
 }

@@ -7,4 +7,4 @@ use Rattle.lsp_index.proofs.run.answer_each.Goals as goal
 
 pub returns : goal.returns
 returns c =
-    if_ok c.answer_each.result (λ lines p. subst (λ q. AreAnswers (λ p. query_at (show_query q) p) c.args.dump.now c.args.positions.now lines) c.new-search.ensures.0 (p c.new-search.ensures.1)) c.answer_each.ensures
+    if_ok c.answer_each-lines.result (λ lines p. subst (λ q. AreAnswers (λ p. query_at (show_query q) p) c.args.dump.now c.args.positions.now lines) c.new-search.ensures.0 (p c.new-search.ensures.1)) c.answer_each-lines.ensures

@@ -29,6 +29,6 @@ returns-clause-ended g c =
     let start : IsAfter (show_query c.args.query) [] (lines, c.new-search.result) =
     subst (λ q. IsAfter (show_query q) [] (lines, c.new-search.result)) c.new-search.ensures.0 (after_none lines c.new-search.result c.new.ensures.items c.new-search.ensures.1.0 c.new-search.ensures.1.1) in
     let ends = c.over_reads-ended.ensures in
-    rw (c.ended_with.ensures, c.is_good-good.ensures)
+    rw c.ended_with.ensures
     (answer_ended (show_query c.args.query) (lines, c.new-search.result) (c.over_reads-ended.new.consumer, c.over_reads-ended.new.state) start c.args.reads told (g.T.Transport.reads c.args.io.now) (g.T.Transport.reads c.over_reads-ended.new.io) c.over_reads-ended.result
     ends.last ends.took ends.flushed ends.faults ends.within)
