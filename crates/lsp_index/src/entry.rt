@@ -13,7 +13,7 @@ use lsp_base::NumberOrString;
 use lsp_lang_goto::Hover;
 use lsp_lsif::{ItemKind, Vertex};
 use lsp_rpc::{Id, NoMemory};
-use lsp_shape::write_text;
+use lsp_shape::Wire;
 use std::alloc::Global;
 use std::str;
 
@@ -35,7 +35,7 @@ pub(crate) fn node(alloc: Global, request: Request, vertex: &Vertex) -> Result<N
     match vertex {
         Vertex::Document(document) => Ok(Node::Document(document.uri.clone()?)),
         Vertex::Range { range, .. } => Ok(Node::Range(*range)),
-        Vertex::HoverResult { result } => hover_node(alloc, request.is_hover(), result),
+        Vertex::HoverResult { result } => hover_node(alloc, request == Request::Hover, result),
         _ => Ok(Node::Other),
     }
 }
@@ -45,7 +45,7 @@ fn hover_node(alloc: Global, is_asked: bool, hover: &Hover) -> Result<Node, NoMe
         ≡ (if is_asked then hover_data hover.now else other_vertex)) }
 {
     if is_asked {
-        Ok(Node::Hover(write_text(alloc, hover)?))
+        Ok(Node::Hover(hover.to_value(alloc)?.to_string(alloc)?))
     } else {
         Ok(Node::Other)
     }

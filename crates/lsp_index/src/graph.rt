@@ -32,17 +32,6 @@ pub(crate) enum Node {
 }
 
 impl Node {
-    pub(crate) fn document(&self) -> Option<&Uri>
-        ensures { option_map (λ u. uri_text u.now) result ≡ document_in (show_node self.now) }
-    {
-        match self {
-            Node::Document(uri) => Some(uri),
-            Node::Range(_) => None,
-            Node::Hover(_) => None,
-            Node::Other => None,
-        }
-    }
-
     pub(crate) fn range(&self) -> Option<Range>
         ensures { result ≡ range_in (show_node self.now) }
     {
@@ -50,17 +39,6 @@ impl Node {
             Node::Document(_) => None,
             Node::Range(range) => Some(*range),
             Node::Hover(_) => None,
-            Node::Other => None,
-        }
-    }
-
-    pub(crate) fn hover(&self) -> Option<&String>
-        ensures { option_map (λ s. string_bytes s.now) result ≡ hover_in (show_node self.now) }
-    {
-        match self {
-            Node::Document(_) => None,
-            Node::Range(_) => None,
-            Node::Hover(text) => Some(text),
             Node::Other => None,
         }
     }
@@ -127,9 +105,9 @@ impl Index {
         ensures { (g : Graph) → IsKept g self.now
             → option_map (λ u. uri_text u.now) result ≡ document_at g (show_id id.now) }
     {
-        match self.vertices.get(id) {
-            Some(node) => node.document(),
-            None => None,
+        match self.vertices.get(id)? {
+            Node::Document(uri) => Some(uri),
+            _ => None,
         }
     }
 
@@ -148,9 +126,9 @@ impl Index {
         ensures { (g : Graph) → IsKept g self.now
             → option_map (λ s. string_bytes s.now) result ≡ hover_at g (show_id id.now) }
     {
-        match self.vertices.get(id) {
-            Some(node) => node.hover(),
-            None => None,
+        match self.vertices.get(id)? {
+            Node::Hover(text) => Some(text),
+            _ => None,
         }
     }
 
@@ -211,10 +189,10 @@ impl Index {
                 Id::from(edge.out_v),
                 Id::from(edge.in_v),
             ),
-            Edge::Definition(edge) => self.keep_result(request.is_definition(), edge),
-            Edge::References(edge) => self.keep_result(request.is_references(), edge),
-            Edge::Hover(edge) => self.keep_result(request.is_hover(), edge),
-            Edge::Item(item) => self.keep_item(request.is_hover(), item),
+            Edge::Definition(edge) => self.keep_result(request == Request::Definition, edge),
+            Edge::References(edge) => self.keep_result(request == Request::References, edge),
+            Edge::Hover(edge) => self.keep_result(request == Request::Hover, edge),
+            Edge::Item(item) => self.keep_item(request == Request::Hover, item),
             other => {
                 other.let_go();
                 Ok(())

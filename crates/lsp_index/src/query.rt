@@ -1,7 +1,4 @@
 // What is asked.
-ghost use Rattle.std.specs.Prelude.{◌≡◌};
-ghost use Rattle.lsp_index.specs.Queries.{is_definition, is_references, is_hover};
-
 use lsp_base::Position;
 use lsp_uri::Uri;
 
@@ -14,38 +11,6 @@ pub enum Request {
     References,
     /// What a hover over it shows.
     Hover,
-}
-
-impl Request {
-    pub(crate) fn is_definition(self) -> bool
-        ensures { result ≡ is_definition self }
-    {
-        match self {
-            Request::Definition => true,
-            Request::References => false,
-            Request::Hover => false,
-        }
-    }
-
-    pub(crate) fn is_references(self) -> bool
-        ensures { result ≡ is_references self }
-    {
-        match self {
-            Request::Definition => false,
-            Request::References => true,
-            Request::Hover => false,
-        }
-    }
-
-    pub(crate) fn is_hover(self) -> bool
-        ensures { result ≡ is_hover self }
-    {
-        match self {
-            Request::Definition => false,
-            Request::References => false,
-            Request::Hover => true,
-        }
-    }
 }
 
 /// A request for a position of a document.

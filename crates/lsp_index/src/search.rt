@@ -83,18 +83,6 @@ fn add_ids(alloc: Global, ids: &Vec<NumberOrString>, set: &mut IndexSet<Id>) -> 
     Ok(())
 }
 
-// Puts the further results of an item after those of the set, where they are new.
-fn add_linked(alloc: Global, item: &Item, results: &mut IndexSet<Id>) -> Result<(), NoMemory>
-    ensures { OnOk result (show_ids results.new.keys
-        ≡ with_linked (show_ids results.old.keys) item.now.role (entry_ids item.now.targets.items)) }
-{
-    match item.role {
-        Role::Linked => add_ids(alloc, &item.targets, results),
-        Role::Place => Ok(()),
-        Role::Neither => Ok(()),
-    }
-}
-
 // Puts the further results of these items after those of the set, where they are new.
 fn add_all_linked(alloc: Global, items: &[Item], results: &mut IndexSet<Id>) -> Result<(), NoMemory>
     ensures { OnOk result (show_ids results.new.keys
@@ -102,7 +90,11 @@ fn add_all_linked(alloc: Global, items: &[Item], results: &mut IndexSet<Id>) -> 
         (map show_item_edge items.now)) }
 {
     for item in items {
-        add_linked(alloc, item, results)?;
+        match item.role {
+            Role::Linked => add_ids(alloc, &item.targets, results)?,
+            Role::Place => {}
+            Role::Neither => {}
+        }
     }
     Ok(())
 }
@@ -190,16 +182,6 @@ impl Index {
         }
     }
 
-    // The closest range of the document that holds the position.
-    fn chosen(&self, uri: &Uri, position: Position) -> Result<Option<&Id>, NoMemory>
-        ensures { IfOk result (λ o. (g : Graph) → IsKept g self.now
-            → option_map (λ id. show_id id.now) o ≡ option_map (λ c. c.0)
-            (chosen_at g (uri_text uri.now) position)) }
-    {
-        let named = self.named(uri)?;
-        Ok(self.closest(&named, position))
-    }
-
     // The closest of the ranges named that hold the position.
     fn closest<'a>(&'a self, named: &IndexSet<Id>, position: Position) -> Option<&'a Id>
         ensures { option_map (λ id. show_id id.now) result ≡ option_map (λ c. c.0)
@@ -275,18 +257,6 @@ impl Index {
         }
     }
 
-    // Puts the places of an item after those that were found, where they are new.
-    fn add_place(&self, item: &Item, found: &mut IndexSet<Location>) -> Result<(), NoMemory>
-        ensures { OnOk result ((g : Graph) → IsKept g self.now → map show_location found.new.keys
-            ≡ with_place g (map show_location found.old.keys) item.now.role (show_item_edge item.now)) }
-    {
-        match item.role {
-            Role::Place => self.add_item(item, found),
-            Role::Linked => Ok(()),
-            Role::Neither => Ok(()),
-        }
-    }
-
     // Puts the places of these items after those that were found, where they are new.
     fn add_places(&self, items: &[Item], found: &mut IndexSet<Location>) -> Result<(), NoMemory>
         ensures { OnOk result ((g : Graph) → IsKept g self.now → map show_location found.new.keys
@@ -294,7 +264,11 @@ impl Index {
             (map show_item_edge items.now)) }
     {
         for item in items {
-            self.add_place(item, found)?;
+            match item.role {
+                Role::Place => self.add_item(item, found)?,
+                Role::Linked => {}
+                Role::Neither => {}
+            }
         }
         Ok(())
     }
@@ -354,7 +328,8 @@ impl Index {
             (chosen_at g (uri_text uri.now) position)
             (option_map (λ id. show_id id.now) o)) }
     {
-        match self.chosen(uri, position)? {
+        let named = self.named(uri)?;
+        match self.closest(&named, position) {
             Some(range) => {
                 let mut passed = IndexSet::new(self.alloc);
                 self.walk(range, &mut passed)
