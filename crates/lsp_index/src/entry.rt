@@ -13,7 +13,7 @@ use lsp_base::NumberOrString;
 use lsp_lang_goto::Hover;
 use lsp_lsif::{ItemKind, Vertex};
 use lsp_rpc::{Id, NoMemory};
-use lsp_shape::Wire;
+use lsp_shape::write_text;
 use std::alloc::Global;
 use std::str;
 
@@ -45,7 +45,7 @@ fn hover_node(alloc: Global, is_asked: bool, hover: &Hover) -> Result<Node, NoMe
         ≡ (if is_asked then hover_data hover.now else other_vertex)) }
 {
     if is_asked {
-        Ok(Node::Hover(hover.to_value(alloc)?.to_string(alloc)?))
+        Ok(Node::Hover(write_text(alloc, hover)?))
     } else {
         Ok(Node::Other)
     }

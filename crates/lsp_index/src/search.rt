@@ -3,6 +3,7 @@ ghost use Rattle.std.specs.Prelude.{◌≡◌, ◌++◌, ◌∷◌, [], true, ma
 ghost use Rattle.std.specs.Bool.{MatchBool};
 ghost use Rattle.std.specs.List.{list_any};
 ghost use Rattle.lsp_rpc.specs.Ids.{same_id};
+ghost use Rattle.lsp_rpc.specs.Message.{IdData};
 ghost use Rattle.lsp_rpc.specs.Shown.{show_id};
 ghost use Rattle.lsp_uri.specs.Uri.{uri_text};
 ghost use Rattle.lsp_shape.specs.Read.{text_is};
@@ -293,6 +294,31 @@ impl Index {
         Ok(())
     }
 
+    // Puts the further results of the one that is there, and those of them, after it, and the places of
+    // all into an empty set.
+    fn add_included(
+        &self,
+        results: &mut IndexSet<Id>,
+        found: &mut IndexSet<Location>,
+    ) -> Result<(), NoMemory>
+        requires { found.old.keys ≡ [] }
+        ensures { OnOk result ((g : Graph) → IsKept g self.now → (first : IdData)
+            → show_ids results.old.keys ≡ first ∷ []
+            → IsReferences g (Some first) (locations_text_def (map show_location found.new.keys))) }
+    {
+        for i in 0..usize::MAX {
+            match results.get_index(i) {
+                Some(member) => {
+                    let items = self.items_of(member);
+                    self.add_places(items, found)?;
+                    add_all_linked(self.alloc, items, results)?;
+                }
+                None => return Ok(()),
+            }
+        }
+        Err(NoMemory)
+    }
+
     // Puts the places of a result, and of all that it includes, into an empty set.
     fn add_references(
         &self,
@@ -309,17 +335,7 @@ impl Index {
         };
         let mut results = IndexSet::new(self.alloc);
         results.insert(from.clone(self.alloc)?)?;
-        for i in 0..usize::MAX {
-            match results.get_index(i) {
-                Some(member) => {
-                    let items = self.items_of(member);
-                    self.add_places(items, found)?;
-                    add_all_linked(self.alloc, items, &mut results)?;
-                }
-                None => return Ok(()),
-            }
-        }
-        Err(NoMemory)
+        self.add_included(&mut results, found)
     }
 
     /// What is reached from the range at the position.

@@ -1,7 +1,7 @@
 //! Random dumps, on which queries are answered as by plain walks.
-use crate::plain::{Dump, Entry, Item, Names, Query, Vertex, plain_answer};
-use crate::rows::run;
-use crate::text::{Name, Part, put};
+use crate::dump::{Contains, Dump, Item, Link, Name, Names, Role, Vertex};
+use crate::plain::{Query, plain_answer};
+use crate::rows::{NONE_FAILS, run};
 use lsp_base::{Position, Range};
 use lsp_index::{Request, answer_each};
 use lsp_rows::{RowError, Trial};
@@ -140,193 +140,129 @@ fn some_range(random: &mut Pcg32, size: &Size) -> Range {
     Range::new(start, Position::new(line, below(random, 6)))
 }
 
-fn some_vertex(random: &mut Pcg32, size: &Size) -> Entry {
-    let (kind, vertex) = match below(random, 18) {
-        0..=2 => (Kind::Document, Vertex::Document(some_uri(random))),
-        3..=5 => (Kind::Set, Vertex::Other("resultSet")),
-        6 => (Kind::Result, Vertex::Other("definitionResult")),
-        7 => (Kind::Result, Vertex::Other("referenceResult")),
-        8 => (Kind::Result, Vertex::Hover(below(random, 1000))),
-        _ => (Kind::Range, Vertex::Range(some_range(random, size))),
-    };
-    Entry::Vertex(some_id(random, size, kind), vertex)
+// What may come next in a dump. An edge that leads to ids has the kind of these.
+#[derive(Clone, Copy)]
+enum Form {
+    Document,
+    Range,
+    Hover,
+    /// Of a label that no query looks at, which has ids of that kind.
+    Other(Kind, &'static str),
+    Contains,
+    Link(&'static str, Kind),
+    /// With a whole member.
+    Item(Role, &'static str, Kind),
 }
 
-// An edge from a range or a set to another set, or to a result.
-fn some_link(random: &mut Pcg32, size: &Size) -> Entry {
-    let (label, kind) = match below(random, 8) {
-        0 => ("moniker", Kind::Set),
-        1 | 2 => (DEFINITION, Kind::Result),
-        3 | 4 => (REFERENCES, Kind::Result),
-        5 => (HOVER, Kind::Result),
-        _ => ("next", Kind::Set),
-    };
-    let from = if below(random, 2) == 0 {
-        Kind::Range
-    } else {
-        Kind::Set
-    };
-    let from = some_id(random, size, from);
-    Entry::Link(label, from, some_id(random, size, kind))
-}
+const SET: Form = Form::Other(Kind::Set, "resultSet");
 
-fn some_item(random: &mut Pcg32, size: &Size) -> Entry {
-    let (property, kind) = match below(random, 8) {
-        0 => ("", Kind::Range),
-        1 => ("declarations", Kind::Range),
-        2 => ("definitions", Kind::Range),
-        3 | 4 => ("references", Kind::Range),
-        5 | 6 => ("referenceResults", Kind::Result),
-        _ => ("implementationResults", Kind::Range),
-    };
-    Entry::Item(Item {
-        from: some_id(random, size, Kind::Result),
-        targets: some_ids(random, size, kind),
-        document: some_id(random, size, Kind::Document),
-        property,
-    })
-}
+// Each comes as often as it stands here.
+const FORMS: [Form; 40] = [
+    Form::Document,
+    Form::Document,
+    Form::Document,
+    SET,
+    SET,
+    SET,
+    Form::Other(Kind::Result, "definitionResult"),
+    Form::Other(Kind::Result, "referenceResult"),
+    Form::Hover,
+    Form::Range,
+    Form::Range,
+    Form::Range,
+    Form::Range,
+    Form::Range,
+    Form::Range,
+    Form::Range,
+    Form::Range,
+    Form::Range,
+    Form::Range,
+    Form::Range,
+    Form::Link("moniker", Kind::Set),
+    Form::Link(DEFINITION, Kind::Result),
+    Form::Link(DEFINITION, Kind::Result),
+    Form::Link(REFERENCES, Kind::Result),
+    Form::Link(REFERENCES, Kind::Result),
+    Form::Link(HOVER, Kind::Result),
+    Form::Link("next", Kind::Set),
+    Form::Link("next", Kind::Set),
+    Form::Item(Role::Other, "", Kind::Range),
+    Form::Item(Role::Other, IMPLEMENTATIONS, Kind::Range),
+    Form::Item(Role::Place, ",\"property\":\"declarations\"", Kind::Range),
+    Form::Item(Role::Place, ",\"property\":\"definitions\"", Kind::Range),
+    Form::Item(Role::Place, ",\"property\":\"references\"", Kind::Range),
+    Form::Item(Role::Place, ",\"property\":\"references\"", Kind::Range),
+    Form::Item(Role::Results, RESULTS, Kind::Result),
+    Form::Item(Role::Results, RESULTS, Kind::Result),
+    Form::Contains,
+    Form::Contains,
+    Form::Contains,
+    Form::Contains,
+];
 
-fn some_entry(random: &mut Pcg32, size: &Size) -> Entry {
-    match below(random, 10) {
-        0..=4 => some_vertex(random, size),
-        5 | 6 => some_link(random, size),
-        7 | 8 => some_item(random, size),
-        _ => {
-            let from = some_id(random, size, Kind::Document);
-            Entry::Contains(from, some_ids(random, size, Kind::Range))
+const RESULTS: &str = ",\"property\":\"referenceResults\"";
+
+const IMPLEMENTATIONS: &str = ",\"property\":\"implementationResults\"";
+
+fn add_entry(random: &mut Pcg32, size: &Size, dump: &mut Dump) -> Result<(), AllocError> {
+    match FORMS[(random.next_word() % 40) as usize] {
+        Form::Document => {
+            let id = some_id(random, size, Kind::Document);
+            dump.add_vertex(id, Vertex::Document(some_uri(random)))
+        }
+        Form::Range => {
+            let id = some_id(random, size, Kind::Range);
+            dump.add_vertex(id, Vertex::Range(some_range(random, size)))
+        }
+        Form::Hover => {
+            let id = some_id(random, size, Kind::Result);
+            dump.add_vertex(id, Vertex::Hover(below(random, 1000)))
+        }
+        Form::Other(kind, label) => dump.add_vertex(
+            some_id(random, size, kind),
+            Vertex::Other(label),
+        ),
+        Form::Contains => dump.add_contains(Contains {
+            from: some_id(random, size, Kind::Document),
+            targets: some_ids(random, size, Kind::Range),
+        }),
+        Form::Link(label, kind) => {
+            let from = if below(random, 2) == 0 {
+                Kind::Range
+            } else {
+                Kind::Set
+            };
+            dump.add_link(Link {
+                label,
+                from: some_id(random, size, from),
+                to: some_id(random, size, kind),
+            })
+        }
+        Form::Item(role, property, kind) => {
+            let item = Item {
+                from: some_id(random, size, Kind::Result),
+                targets: some_ids(random, size, kind),
+                document: some_id(random, size, Kind::Document),
+                role,
+            };
+            dump.add_item(item, property)
         }
     }
 }
 
-// ---- The text of a dump.
-
-// An entry begins so.
-const ID: Part = Part::Text("{\"id\":");
-
-const VERTEX: Part = Part::Text(",\"type\":\"vertex\",\"label\":\"");
-
-const EDGE: Part = Part::Text(",\"type\":\"edge\",\"label\":\"");
-
-const FROM: Part = Part::Text("\",\"outV\":");
-
-const TARGETS: Part = Part::Text(",\"inVs\":[");
-
-const CHARACTER: Part = Part::Text(",\"character\":");
-
-fn put_vertex(text: &mut String, id: Name, vertex: Vertex) -> Result<(), AllocError> {
-    put(text, &[ID, Part::Id(id), VERTEX])?;
-    match vertex {
-        Vertex::Document(uri) => put(
-            text,
-            &[
-                Part::Text("document\",\"languageId\":\"x\",\"uri\":\""),
-                Part::Text(uri),
-                Part::Text("\""),
-            ],
-        ),
-        Vertex::Range(Range { start, end }) => put(
-            text,
-            &[
-                Part::Text("range\",\"start\":{\"line\":"),
-                Part::Number(start.line),
-                CHARACTER,
-                Part::Number(start.character),
-                Part::Text("},\"end\":{\"line\":"),
-                Part::Number(end.line),
-                CHARACTER,
-                Part::Number(end.character),
-                Part::Text("}"),
-            ],
-        ),
-        Vertex::Hover(number) => put(
-            text,
-            &[
-                Part::Text("hoverResult\",\"result\":{\"contents\":\"h"),
-                Part::Number(number),
-                Part::Text("\"}"),
-            ],
-        ),
-        Vertex::Other(label) => put(text, &[Part::Text(label), Part::Text("\"")]),
-    }
-}
-
-fn put_item(text: &mut String, at: u32, item: &Item) -> Result<(), AllocError> {
-    let (member, end) = if item.property.is_empty() {
-        ("", "")
-    } else {
-        (",\"property\":\"", "\"")
-    };
-    put(
-        text,
-        &[
-            ID,
-            Part::Number(at),
-            EDGE,
-            Part::Text("item"),
-            FROM,
-            Part::Id(item.from),
-            TARGETS,
-            Part::Ids(item.targets.as_slice()),
-            Part::Text("],\"document\":"),
-            Part::Id(item.document),
-            Part::Text(member),
-            Part::Text(item.property),
-            Part::Text(end),
-        ],
-    )
-}
-
-// An edge has its place in the dump as its id.
-fn put_entry(text: &mut String, at: u32, entry: &Entry) -> Result<(), AllocError> {
-    match entry {
-        Entry::Vertex(id, vertex) => put_vertex(text, *id, *vertex),
-        Entry::Contains(from, targets) => put(
-            text,
-            &[
-                ID,
-                Part::Number(at),
-                EDGE,
-                Part::Text("contains"),
-                FROM,
-                Part::Id(*from),
-                TARGETS,
-                Part::Ids(targets.as_slice()),
-                Part::Text("]"),
-            ],
-        ),
-        Entry::Link(label, from, to) => put(
-            text,
-            &[
-                ID,
-                Part::Number(at),
-                EDGE,
-                Part::Text(label),
-                FROM,
-                Part::Id(*from),
-                Part::Text(",\"inV\":"),
-                Part::Id(*to),
-            ],
-        ),
-        Entry::Item(item) => put_item(text, at, item),
-    }
-}
-
-// The text of the dump, whose lines end in all ways.
-fn dump_text(alloc: Global, random: &mut Pcg32, dump: &[Entry]) -> Result<String, AllocError> {
-    let mut text = String::new(alloc);
-    let mut at: u32 = 0;
-    for entry in dump {
-        put_entry(&mut text, at, entry)?;
+// Its lines end in all ways.
+fn some_dump(alloc: Global, random: &mut Pcg32, size: &Size) -> Result<Dump, AllocError> {
+    let mut dump = Dump::new(alloc, size.ids.saturating_mul(4))?;
+    for _ in 0..size.entries {
+        add_entry(random, size, &mut dump)?;
         let end = match below(random, 8) {
             0 => "}\r\n",
             1 => "}\n\r\n\n",
             _ => "}\n",
         };
-        text.push_str(end)?;
-        at = at.saturating_add(1);
+        dump.text.push_str(end)?;
     }
-    Ok(text)
+    Ok(dump)
 }
 
 // ---- The queries.
@@ -352,30 +288,22 @@ fn some_query(random: &mut Pcg32, size: &Size) -> Query {
     }
 }
 
-fn some_dump(alloc: Global, random: &mut Pcg32, size: &Size) -> Result<Dump, AllocError> {
-    let mut entries = Vec::new(alloc);
-    for _ in 0..size.entries {
-        entries.push(some_entry(random, size))?;
-    }
-    let text = dump_text(alloc, random, entries.as_slice())?;
-    Dump::new(alloc, entries, text, size.ids.saturating_mul(4))
-}
-
 // What the program gives for the query.
 fn asked(alloc: Global, dump: &Dump, query: &Query) -> Result<String, AllocError> {
-    let mut words = String::from_str(alloc, query.word)?;
-    put(
-        &mut words,
-        &[
-            Part::Text(" "),
-            Part::Text(query.uri),
-            Part::Text(" "),
-            Part::Number(query.position.line),
-            Part::Text(" "),
-            Part::Number(query.position.character),
-        ],
-    )?;
-    run(alloc, words.as_str(), dump.text.as_bytes(), 4096)
+    let Query {
+        word,
+        uri,
+        position,
+        ..
+    } = *query;
+    let words = format!(in alloc; "{word} {uri} {} {}", position.line, position.character)?;
+    run(
+        alloc,
+        words.as_str(),
+        dump.text.as_bytes(),
+        4096,
+        NONE_FAILS,
+    )
 }
 
 // What was tried, and how many queries found something.

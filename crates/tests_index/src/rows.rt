@@ -159,46 +159,63 @@ const ROWS: &[[&str; 3]] = &[
     ["hover file:///a 1 1", "\n\r\n\n", "0 null\n"],
 ];
 
-// The bytes, and the status with what is written for `definition file:///a 0 1`.
-const INPUTS: &[[&str; 2]] = &[
-    ["", "0 []\n"],
-    ["\n", "0 []\n"],
-    ["\r\n", "0 []\n"],
+// What is asked of bytes that are no dump.
+const FIRST: &str = "definition file:///a 0 1";
+
+// The same over these bytes alone.
+const INPUTS: &[[&str; 3]] = &[
+    [FIRST, "", "0 []\n"],
+    [FIRST, "\n", "0 []\n"],
+    [FIRST, "\r\n", "0 []\n"],
     [
+        FIRST,
         "{\"id\":1,\"type\":\"vertex\",\"label\":\"resultSet\"}",
         "0 []\n",
     ],
     // A byte order mark stands in no line.
     [
+        FIRST,
         "\u{feff}{\"id\":1,\"type\":\"vertex\",\"label\":\"resultSet\"}\n",
         "8 ",
     ],
-    ["\u{feff}", "8 "],
+    [FIRST, "\u{feff}", "8 "],
     // A CR alone ends no line, and of two before an LF the first stays.
-    ["\r", "8 "],
-    ["\r\r\n", "8 "],
+    [FIRST, "\r", "8 "],
+    [FIRST, "\r\r\n", "8 "],
     [
+        FIRST,
         "{\"id\":1,\"type\":\"vertex\",\"label\":\"resultSet\"}\r{\"id\":2,\"type\":\"vertex\",\"label\":\"resultSet\"}\n",
         "8 ",
     ],
     // Two entries in a line, and one over two lines.
     [
+        FIRST,
         "{\"id\":1,\"type\":\"vertex\",\"label\":\"resultSet\"}{\"id\":2,\"type\":\"vertex\",\"label\":\"resultSet\"}\n",
         "8 ",
     ],
     [
+        FIRST,
         "{\"id\":1,\"type\":\"vertex\",\n\"label\":\"resultSet\"}\n",
         "8 ",
     ],
     // No entries: of no id, of no kind, of a label that none has, and a list of entries.
-    ["{\"type\":\"vertex\",\"label\":\"resultSet\"}\n", "8 "],
-    ["{\"id\":1,\"label\":\"resultSet\"}\n", "8 "],
-    ["{\"id\":1,\"type\":\"vertex\",\"label\":\"x\"}\n", "8 "],
     [
+        FIRST,
+        "{\"type\":\"vertex\",\"label\":\"resultSet\"}\n",
+        "8 ",
+    ],
+    [FIRST, "{\"id\":1,\"label\":\"resultSet\"}\n", "8 "],
+    [
+        FIRST,
+        "{\"id\":1,\"type\":\"vertex\",\"label\":\"x\"}\n",
+        "8 ",
+    ],
+    [
+        FIRST,
         "[{\"id\":1,\"type\":\"vertex\",\"label\":\"resultSet\"}]\n",
         "8 ",
     ],
-    ["\0", "8 "],
+    [FIRST, "\0", "8 "],
 ];
 
 fn words_of(alloc: Global, text: &str) -> Result<Vec<String>, AllocError> {
@@ -209,21 +226,12 @@ fn words_of(alloc: Global, text: &str) -> Result<Vec<String>, AllocError> {
     Ok(words)
 }
 
-// The status, and what is written, of the program with these words over the bytes, of which it reads
-// so many at a time.
-pub(crate) fn run(
-    alloc: Global,
-    words: &str,
-    dump: &[u8],
-    piece: usize,
-) -> Result<String, AllocError>
-    requires { 0 < piece }
-{
-    run_failing(alloc, words, dump, piece, [0, 0])
-}
+// Where neither a read nor a call of the sink fails.
+pub(crate) const NONE_FAILS: [u32; 2] = [0, 0];
 
-// The same where the read and the call of the sink of these numbers fail.
-fn run_failing(
+// The status, and what is written, of the program with these words over the bytes, of which it reads
+// so many at a time, where the read and the call of the sink of these numbers fail.
+pub(crate) fn run(
     alloc: Global,
     words: &str,
     dump: &[u8],
@@ -243,29 +251,48 @@ fn run_failing(
     format!(in alloc; "{status} {written}")
 }
 
-fn try_row(trial: &mut Trial, alloc: Global, row: &[&str; 3]) -> Result<(), AllocError> {
-    let [words, more, expected] = row;
-    let mut dump = String::from_str(alloc, DUMP)?;
-    dump.push_str(more)?;
-    trial.text(*more, run(alloc, words, dump.as_bytes(), 7), expected);
-    Ok(())
+// The same with more bytes after the dump.
+fn run_after(
+    alloc: Global,
+    words: &str,
+    dump: &str,
+    more: &str,
+    piece: usize,
+) -> Result<String, AllocError>
+    requires { 0 < piece }
+{
+    let mut bytes = String::from_str(alloc, dump)?;
+    bytes.push_str(more)?;
+    run(alloc, words, bytes.as_bytes(), piece, NONE_FAILS)
+}
+
+/// Tries the rows over a dump: each has the words, what stands after the dump, and the status with what
+/// is written.
+pub(crate) fn try_rows(
+    trial: &mut Trial,
+    alloc: Global,
+    dump: &str,
+    piece: usize,
+    rows: &[[&str; 3]],
+)
+    requires { 0 < piece }
+{
+    for (row, [words, more, expected]) in rows.iter().enumerate() {
+        let found = run_after(alloc, words, dump, more, piece);
+        trial.text(row, found, expected);
+    }
 }
 
 #[test]
 fn queries(rt: HostRuntime) -> Result<(), RowError> {
     let alloc = rt.alloc();
     let mut trial = Trial::new(alloc);
-    for row in ROWS {
-        try_row(&mut trial, alloc, row)?;
-    }
-    for [input, expected] in INPUTS {
-        let found = run(alloc, "definition file:///a 0 1", input.as_bytes(), 7);
-        trial.text(*input, found, expected);
-    }
-    let no_text = run(alloc, "definition file:///a 1 1", b"\xff\n", 7);
+    try_rows(&mut trial, alloc, DUMP, 7, ROWS);
+    try_rows(&mut trial, alloc, "", 7, INPUTS);
+    let no_text = run(alloc, FIRST, b"\xff\n", 7, NONE_FAILS);
     trial.text("no text", no_text, "8 ");
     let cut = DUMP.trim_end_matches(LAST);
-    let no_end = run(alloc, "definition file:///a 1 1", cut.as_bytes(), 7);
+    let no_end = run(alloc, FIRST, cut.as_bytes(), 7, NONE_FAILS);
     trial.text("the last line is cut", no_end, "8 ");
     trial.end()
 }
@@ -326,7 +353,7 @@ fn each_read_write_and_flush_fails(rt: HostRuntime) -> Result<(), RowError> {
                 (0, number)
             };
             let words = "definition file:///a 1 1";
-            let found = run_failing(rt.alloc(), words, DUMP.as_bytes(), 100, [read, call]);
+            let found = run(rt.alloc(), words, DUMP.as_bytes(), 100, [read, call]);
             trial.text(number, found, row.expected);
         }
     }
@@ -392,7 +419,7 @@ fn push_long(
 fn try_long(trial: &mut Trial, alloc: Global, row: &Long) -> Result<(), AllocError> {
     let mut dump = String::from_str(alloc, DUMP)?;
     push_long(&mut dump, row.line, row.piece, MIB)?;
-    let found = run(alloc, row.words, dump.as_bytes(), 4096);
+    let found = run(alloc, row.words, dump.as_bytes(), 4096, NONE_FAILS);
     let mut wanted = String::new(alloc);
     let shown = if row.is_shown { MIB } else { 0 };
     push_long(&mut wanted, row.expected, row.piece, shown)?;
