@@ -31,7 +31,7 @@ fn apply(text: &mut String, change: &TextDocumentContentChangeEvent) -> Result<(
     Ok(())
 }
 
-// Makes changes in order, or none: several are made in a copy of the text.
+// Makes changes in order, or none: where one of several fails, a copy of the text is put back.
 pub(crate) fn apply_all(
     text: &mut String,
     changes: &[TextDocumentContentChangeEvent],
@@ -46,10 +46,12 @@ pub(crate) fn apply_all(
     if let [change] = changes {
         return apply(text, change);
     }
-    let mut draft = text.clone()?;
+    let before = text.clone()?;
     for change in changes {
-        apply(&mut draft, change)?;
+        if let Err(error) = apply(text, change) {
+            *text = before;
+            return Err(error);
+        }
     }
-    *text = draft;
     Ok(())
 }
