@@ -1,6 +1,6 @@
 -- Changes of characters and of bytes.
 use Rattle.std.proofs.Common.{◌≡◌, ◌<◌, ◌≤◌, ◌+◌, ◌-◌, ℕ, suc, List, [], ◌∷◌, ◌++◌, Bool, true, false, cond, Option, Some, None, refl, sym, ap, ◌∙◌, subst, arith, length, map, take, drop, get_or, nat_le}
-use Rattle.std.specs.Prelude.{slice_index}
+use Rattle.std.specs.Prelude.{slice_index, IsSome}
 use Rattle.std.specs.Option.{option_and_then}
 use Rattle.std.specs.Str.{chars, IsUtf8, IsCharBoundary}
 use Rattle.std.proofs.lemmas.Bool.{lt-leb, le-leb}
@@ -130,6 +130,16 @@ are_cuts (Some r) bs start end u is = (place_is_cut bs (start_in (chars bs) r) s
 pub change_behind : (o : Option Range) (bs s : List ℕ) (start end : ℕ) → AreBytesOf o bs start end → end < start → changed_in o s (chars bs) ≡ None
 change_behind None bs s start end is less = absurd (omega (arith, less, is.0))
 change_behind (Some r) bs s start end is less = range_behind bs s r start end is.0 is.1 less
+
+pub change_fits : (o : Option Range) (bs s : List ℕ) (start end : ℕ) → AreBytesOf o bs start end → start ≤ end → IsSome (changed_in o s (chars bs))
+change_fits None bs s start end is le = refl
+change_fits (Some r) bs s start end is le =
+    let cs = chars bs in
+    let p = start_in cs r in
+    let q = end_in cs r in
+    let no_less : bytes_to cs p ≤ bytes_to cs q = omega (arith, is.0, is.1, le) in
+    let no_behind = place_below cs p q (place_within r.start.line r.start.character cs) no_less in
+    subst (λ b. IsSome (cond b (Some ((take p cs ++ s) ++ drop q cs)) None)) (sym (le-leb _ _ no_behind)) refl
 
 pub change_made : (o : Option Range) (bs s out : List ℕ) (start end : ℕ) → IsUtf8 bs → IsUtf8 s → IsUtf8 out → AreBytesOf o bs start end → start ≤ end → out ≡ (take start bs ++ s) ++ drop end bs
     → changed_in o (chars s) (chars bs) ≡ Some (chars out)

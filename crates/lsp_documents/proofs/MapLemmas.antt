@@ -1,6 +1,6 @@
 -- The table of the documents, and the map that it shows.
-use Rattle.std.proofs.Common.{◌≡◌, ℕ, List, [], ◌∷◌, Bool, true, false, cond, Option, Some, None, option_map, refl, sym, ap, ◌∙◌, map, nat_cmp}
-use Rattle.std.specs.Prelude.{ℤ, String, string_bytes, bytes_eq, Result, Ok, Err, OnOk}
+use Rattle.std.proofs.Common.{◌≡◌, ℕ, List, [], ◌∷◌, Bool, true, false, cond, Option, Some, None, option_map, refl, sym, ap, ◌∙◌, subst, map, nat_cmp}
+use Rattle.std.specs.Prelude.{ℤ, String, string_bytes, bytes_eq, Result, Ok, Err, OnOk, IsSome}
 use Rattle.std.specs.Option.{option_and_then}
 use Rattle.std.specs.Map.{lookup}
 use Rattle.std.specs.HashMap.{HashMap, get_by_text}
@@ -63,6 +63,15 @@ module _ {Z S : Type 0} where
   none_made m k version cs d is made =
       ap (λ o. option_map (λ (x : OpenDocument). fin.insert (documents_of m) k x) (option_and_then (changed_document version cs) o)) (found_in m k (Some d) is)
       ∙ ap (λ o. option_map (λ (x : OpenDocument). fin.insert (documents_of m) k x) (option_map (document_of version) o)) made
+
+  pub some_made : (m : HashMap (String Z) OpenDocument S) (k : List ℕ) (version : ℤ) (cs : List Change) (d : OpenDocument) → get_by_text m k ≡ Some d → IsSome (all_changed cs d.text) → IsSome (after_changes k version cs (documents_of m))
+  some_made m k version cs d is made =
+      subst (λ o. IsSome (option_map (λ (x : OpenDocument). fin.insert (documents_of m) k x) (option_and_then (changed_document version cs) o))) (sym (found_in m k (Some d) is))
+      (go (all_changed cs d.text) made)
+    where
+      go : (o : Option (List ℕ)) → IsSome o → IsSome (option_map (λ (x : OpenDocument). fin.insert (documents_of m) k x) (option_map (document_of version) o))
+      go None h = absurd (cc h)
+      go (Some t) h = refl
 
   -- the document of k is written back as it was
   pub kept_map : (m n : HashMap (String Z) OpenDocument S) (k : List ℕ) (d w : OpenDocument) → get_by_text m k ≡ Some d → w ≡ d → ((q : List ℕ) → get_by_text n q ≡ cond (bytes_eq k q) (Some w) (get_by_text m q)) → documents_of n ≡ documents_of m

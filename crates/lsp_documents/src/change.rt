@@ -1,5 +1,5 @@
 // Changes of a text.
-ghost use Rattle.std.specs.Prelude.{◌≡◌, ◌≢◌, Some, None, Err, OnOk, OnErr, map, string_bytes};
+ghost use Rattle.std.specs.Prelude.{◌≡◌, ◌≢◌, Some, None, Err, IsSome, OnOk, OnErr, length, map, string_bytes};
 ghost use Rattle.std.specs.Str.{chars};
 ghost use Rattle.lsp_documents.specs.Documents.{change_of, changed, all_changed};
 
@@ -13,6 +13,8 @@ fn apply(text: &mut String, change: &TextDocumentContentChangeEvent) -> Result<(
         ≡ Some (chars (string_bytes text.new))) }
     ensures behind { result ≡ Err ChangeError.StartBehindEnd
         → changed (change_of change.now) (chars (string_bytes text.old)) ≡ None }
+    ensures memory { result ≡ Err ChangeError.NoMemory
+        → IsSome (changed (change_of change.now) (chars (string_bytes text.old))) }
     ensures causes { result ≢ Err ChangeError.NotOpen }
     ensures err { OnErr result (string_bytes text.new ≡ string_bytes text.old) }
 {
@@ -40,6 +42,8 @@ pub(crate) fn apply_all(
         ≡ Some (chars (string_bytes text.new))) }
     ensures behind { result ≡ Err ChangeError.StartBehindEnd
         → all_changed (map change_of changes.now) (chars (string_bytes text.old)) ≡ None }
+    ensures memory { length changes.now ≡ 1 → result ≡ Err ChangeError.NoMemory
+        → IsSome (all_changed (map change_of changes.now) (chars (string_bytes text.old))) }
     ensures causes { result ≢ Err ChangeError.NotOpen }
     ensures err { OnErr result (string_bytes text.new ≡ string_bytes text.old) }
 {

@@ -83,6 +83,8 @@ impl Document {
         ensures version { OnOk result (self.new.version ≡ version) }
         ensures behind { result ≡ Err ChangeError.StartBehindEnd
             → all_changed (map change_of changes.now) self.old.text ≡ None }
+        ensures memory { length changes.now ≡ 1 → result ≡ Err ChangeError.NoMemory
+            → IsSome (all_changed (map change_of changes.now) self.old.text) }
         ensures causes { result ≢ Err ChangeError.NotOpen }
         ensures err { OnErr result (self.new ≡ self.old) }
     {

@@ -1,5 +1,5 @@
 // Whole frames into a sink.
-ghost use Rattle.std.specs.Prelude.{◌≡◌, false, ℕ, List, map, OnOk, OnErr};
+ghost use Rattle.std.specs.Prelude.{◌≡◌, false, ℕ, List, [], map, OnOk, OnErr, IsOk};
 ghost use Rattle.std.specs.Io.KnownBytes.{Appends};
 ghost use Rattle.lsp_rpc.specs.Shown.{show_message};
 ghost use Rattle.lsp_frame.specs.Codec.{frames};
@@ -31,6 +31,7 @@ pub(crate) fn put<O: Sink>(
         × IsPrefixOf written (frames (map show_message messages.now.items))
         × Appends (O.taken sink.old) (O.taken sink.new) written) }
     ensures sink { OnlyTakes O.flushed O.faults O.beside sink.old sink.new result }
+    ensures none { messages.now.items ≡ [] → IsOk result }
 {
     if messages.is_empty() {
         return Ok(());

@@ -5,7 +5,7 @@ use Rattle.lsp_session.specs.declared.handlers.CallMisfit.{CallMisfit}
 use Rattle.lsp_session.specs.declared.handlers.CallMisfit.TheVariants as misfits
 use Rattle.lsp_session.specs.declared.table.Entry.{Entry}
 use Rattle.lsp_session.specs.declared.table.Kind.{Kind}
-use Rattle.lsp_session.specs.Semantics.{Reading, call, missing, unexpected, unfit}
+use Rattle.lsp_session.specs.Semantics.{Reading, MayLackMemory, call, missing, unexpected, unfit}
 use Rattle.lsp_shape.specs.Plain.{Plain}
 use Rattle.lsp_shape.specs.Shape.{Shape}
 use Rattle.lsp_shape.specs.Read.{read}
@@ -55,4 +55,4 @@ abbrev pub Refuses : {C : Type 0} → Reading C → CallMisfit → Type 0
 Refuses r misfits.Missing = r ≡ missing
 Refuses r misfits.Unexpected = r ≡ unexpected
 Refuses r misfits.Unfit = r ≡ unfit
-Refuses r misfits.NoMemory = Unit {0}
+Refuses r misfits.NoMemory = MayLackMemory r

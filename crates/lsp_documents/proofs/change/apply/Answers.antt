@@ -2,7 +2,7 @@
 use Rattle.std.proofs.Common.{◌++◌, ap, ◌∙◌, arith, take, drop}
 use Rattle.std.specs.Prelude.{string_bytes}
 use Rattle.std.proofs.lemmas.Str.{IsUtf8-string_bytes}
-use Rattle.lsp_documents.proofs.ChangeLemmas.{AreBytesOf, all_bytes, range_bytes, are_cuts, change_behind, change_made}
+use Rattle.lsp_documents.proofs.ChangeLemmas.{AreBytesOf, all_bytes, range_bytes, are_cuts, change_behind, change_fits, change_made}
 use Rattle.lsp_documents.proofs.change.apply.Goals.{in-None, in-Some}
 use Rattle.lsp_documents.proofs.change.apply.Goals as goal
 
@@ -33,6 +33,15 @@ replaced c =
           w.in-Some.is w.as_str.ensures.value w.start-is w.offsets.ensures.start w.offsets.ensures.end
     ]
 
+failed : (c : goal.In_err-replace_range) → AreBytesOf c.args.change.now.range (string_bytes c.args.text.now) c.match-change.start.0 c.match-change.start.1
+failed c =
+    elim c.match-change.branch [
+      | in-None w ↦ all_bytes c.args.change.now.range (string_bytes c.args.text.now) c.match-change.start w.len.result w.in-None.is w.start-is (omega (arith, w.len.ensures, c.args.text.now.bytes.ok.0))
+      | in-Some w ↦
+          range_bytes c.args.change.now.range (string_bytes c.args.text.now) w.as_str.result.now c.match-change.start w.offsets.result w.in-Some.range
+          w.in-Some.is w.as_str.ensures.value w.start-is w.offsets.ensures.start w.offsets.ensures.end
+    ]
+
 pub returns-then-end-start-clause-behind : goal.returns-then-end-start-clause-behind
 returns-then-end-start-clause-behind c = λ _. change_behind c.args.change.now.range (string_bytes c.args.text.now) _ _ _ (behind c) c.if-end-start.true
 
@@ -55,3 +64,6 @@ returns-clause-ok c =
     let end = c.match-change.start.1 in
     change_made c.args.change.now.range bs (string_bytes c.args.change.now.text) out start end (IsUtf8-string_bytes c.args.text.now) (IsUtf8-string_bytes c.args.change.now.text) (IsUtf8-string_bytes c.replace_range.new.self) (replaced c) c.if-end-start.false
     (c.in_ok-replace_range.ensures.bytes ∙ ap (λ x. (take start bs ++ x) ++ drop end bs) c.as_str-2.ensures.value)
+
+pub returns-in_err-replace_range-clause-memory : goal.returns-in_err-replace_range-clause-memory
+returns-in_err-replace_range-clause-memory c = λ _. change_fits c.args.change.now.range (string_bytes c.args.text.now) _ _ _ (failed c) c.if-end-start.false

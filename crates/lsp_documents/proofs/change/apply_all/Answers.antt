@@ -1,7 +1,8 @@
 -- A change alone is made in the text, and each of several in what the ones before left.
-use Rattle.std.proofs.Common.{Some, None, sym, ◌∙◌, arith}
-use Rattle.std.specs.Prelude.{Result, Ok, Err, OnOk, string_bytes}
+use Rattle.std.proofs.Common.{Some, None, refl, sym, subst, ◌∙◌, arith}
+use Rattle.std.specs.Prelude.{Result, Ok, Err, OnOk, IsSome, string_bytes}
 use Rattle.std.specs.Str.{chars}
+use Rattle.lsp_documents.specs.Documents.{change_of, changed}
 use Rattle.lsp_documents.proofs.ChangeLemmas.{only_changed, one_changed, none_changed, all_made}
 use Rattle.lsp_documents.proofs.change.apply_all.Goals as goal
 
@@ -16,6 +17,11 @@ returns-in-len1-clause-ok c =
 pub returns-in-len1-clause-behind : goal.returns-in-len1-clause-behind
 returns-in-len1-clause-behind c = λ q.
     only_changed c.args.changes.now c.change-item.result (chars (string_bytes c.args.text.now)) None (omega arith) c.change-item.is (c.apply.ensures.behind q)
+
+pub returns-in-len1-clause-memory : goal.returns-in-len1-clause-memory
+returns-in-len1-clause-memory c = λ one q.
+    let t = chars (string_bytes c.args.text.now) in
+    subst IsSome (sym (only_changed c.args.changes.now c.change-item.result t (changed (change_of c.change-item.result) t) one c.change-item.is refl)) (c.apply.ensures.memory q)
 
 pub loop-change-preserved : goal.loop-change-preserved
 loop-change-preserved c =

@@ -1,4 +1,5 @@
-use Rattle.std.proofs.Common.{◌≡◌, Some, sym, ap, ◌∙◌, refl, map, rules, w32}
+use Rattle.std.proofs.Common.{◌≡◌, Some, sym, ap, ◌∙◌, refl, subst, map, rules, w32}
+use Rattle.std.specs.Prelude.{IsSome}
 use Rattle.std.specs.Option.{option_copied_mut}
 use Rattle.std.specs.FinMap as fin
 use Rattle.std.specs.HashMap.{get_by_text}
@@ -6,7 +7,7 @@ use Rattle.std.proofs.lemmas.Map.Text.{hash_map_updates_text}
 use Rattle.std.proofs.lemmas.Int.{to_z-of_z}
 use Rattle.std.proofs.lemmas.Result.{on_err_weaker}
 use Rattle.lsp_documents.specs.Documents.{DocumentMap, after_changes, change_of}
-use Rattle.lsp_documents.proofs.MapLemmas.{get-documents_of, changed_map, none_made, kept_map, ok_both}
+use Rattle.lsp_documents.proofs.MapLemmas.{get-documents_of, changed_map, none_made, some_made, kept_map, ok_both}
 use Rattle.lsp_documents.proofs.documents.Documents.change.Goals as goal
 
 pub returns-in_default-clause-not_open : goal.returns-in_default-clause-not_open
@@ -48,6 +49,14 @@ returns-clause-behind c =
     let is : get_by_text m k ≡ Some c.in-Some.document.now = sym c.get_mut.ensures.value ∙ ap option_copied_mut c.in-Some.is in
     λ e. ap (λ (ds : DocumentMap). after_changes k c.args.version (map change_of c.args.changes.now) ds) (sym c.self.view_is)
     ∙ none_made m k c.args.version (map change_of c.args.changes.now) c.in-Some.document.now is (c.change.ensures.behind e)
+
+pub returns-clause-memory : goal.returns-clause-memory
+returns-clause-memory c =
+    let m = c.self.inside.documents in
+    let k = c.args.uri.now in
+    let is : get_by_text m k ≡ Some c.in-Some.document.now = sym c.get_mut.ensures.value ∙ ap option_copied_mut c.in-Some.is in
+    λ one e. subst (λ (ds : DocumentMap). IsSome (after_changes k c.args.version (map change_of c.args.changes.now) ds)) c.self.view_is
+    (some_made m k c.args.version (map change_of c.args.changes.now) c.in-Some.document.now is (c.change.ensures.memory one e))
 
 pub returns-clause-err : goal.returns-clause-err
 returns-clause-err c =
