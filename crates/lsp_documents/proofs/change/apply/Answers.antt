@@ -33,7 +33,7 @@ replaced c =
           w.in-Some.is w.as_str.ensures.value w.start-is w.offsets.ensures.start w.offsets.ensures.end
     ]
 
-failed : (c : goal.In_err-replace_range) → AreBytesOf c.args.change.now.range (string_bytes c.args.text.now) c.match-change.start.0 c.match-change.start.1
+failed : (c : goal.After-from_residual) → AreBytesOf c.args.change.now.range (string_bytes c.args.text.now) c.match-change.start.0 c.match-change.start.1
 failed c =
     elim c.match-change.branch [
       | in-None w ↦ all_bytes c.args.change.now.range (string_bytes c.args.text.now) c.match-change.start w.len.result w.in-None.is w.start-is (omega (arith, w.len.ensures, c.args.text.now.bytes.ok.0))
