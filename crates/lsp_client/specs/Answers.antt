@@ -1,5 +1,5 @@
 -- What becomes of what a server sends and asks.
-use Rattle.std.specs.Prelude.{ℕ, Bool, false, Option, Some, None, Result, Ok, Err}
+use Rattle.std.specs.Prelude.{ℕ, Bool, true, false, Option, Some, None, Result, Ok, Err, is_ok}
 use Rattle.serde_json.specs.Data.{Data}
 use Rattle.lsp_rpc.specs.declared.code.ErrorCode.TheVariants as error_codes
 use Rattle.lsp_rpc.specs.Message.{ErrorData, error_with_code, not_initialized_error, may_have_float}
@@ -83,3 +83,21 @@ abbrev pub answered_has_float : AnsweredData → Bool
 answered_has_float (value p) = plain_has_float p
 answered_has_float (error e) = may_have_float e.payload
 answered_has_float (pending n) = false
+
+-- telling this reply to a poll takes memory: a result is read, and an error is made where no answer is awaited
+abbrev pub may_lack : Reply → Bool
+may_lack (replies.Ticket m i) = false
+may_lack replies.Sent = false
+may_lack replies.Suppressed = false
+may_lack replies.NotInitialized = false
+may_lack replies.Exited = false
+may_lack (replies.Answered r) = is_ok r.body
+may_lack replies.Awaited = false
+may_lack replies.Gone = true
+may_lack (replies.Number m) = false
+may_lack (replies.LifeIs life) = false
+may_lack replies.Done = false
+may_lack replies.Given = false
+may_lack replies.Ignored = false
+may_lack (replies.First r) = false
+may_lack (replies.Messages rs) = false

@@ -13,7 +13,7 @@ use Rattle.lsp_session.specs.Semantics.{AreClient}
 use Rattle.lsp_shape.specs.Shape.{Shape}
 use Rattle.lsp_client.specs.declared.answers.Told.{Told}
 use Rattle.lsp_client.specs.declared.answers.Told.TheVariants as tolds
-use Rattle.lsp_client.specs.Answers.{told_reply, AskedData, refused, asked_of, AnsweredData, answered_of}
+use Rattle.lsp_client.specs.Answers.{told_reply, AskedData, refused, asked_of, AnsweredData, answered_of, may_lack}
 
 -- this call was made, and the desk's reply is told
 abbrev pub TellsClean : Call → Told → List DeskEntry → Type 0
@@ -56,10 +56,19 @@ abbrev pub SendsNone : Call → List DeskEntry → Type 0
 SendsNone c [] = Unit {0}
 SendsNone c (e ∷ own) = (e.call ≡ c) × (says_sent e.reply ≡ false) × (own ≡ [])
 
--- at most this call was made
-abbrev pub IsAtMost : Call → List DeskEntry → Type 0
-IsAtMost c [] = Unit {0}
-IsAtMost c (e ∷ own) = (e.call ≡ c) × (own ≡ [])
+-- at most this call was made, and there was no reply: telling any takes no memory
+abbrev pub IsUnreplied : Call → List DeskEntry → Type 0
+IsUnreplied c [] = Unit {0}
+IsUnreplied c (e ∷ own) = (e.call ≡ c) × (e.reply ≡ None) × (own ≡ [])
+
+abbrev pub may_lack_after : Option Reply → Bool
+may_lack_after None = true
+may_lack_after (Some reply) = may_lack reply
+
+-- at most this ticket's answer was asked for, and the reply, where there was one, is one that takes memory to tell
+abbrev pub IsPollCut : ℕ → List DeskEntry → Type 0
+IsPollCut ticket [] = Unit {0}
+IsPollCut ticket (e ∷ own) = (e.call ≡ Poll ticket) × (may_lack_after e.reply ≡ true) × (own ≡ [])
 
 -- ---- calls in a row
 

@@ -1,11 +1,11 @@
 // What becomes of what a server sends and asks.
-ghost use Rattle.std.specs.Prelude.{◌≡◌, false, IfOk, OnErr, IsSome, Some};
+ghost use Rattle.std.specs.Prelude.{◌≡◌, true, false, is_ok, IfOk, OnErr, IsSome, Some};
 ghost use Rattle.lsp_rpc.specs.Message.{body_has_float};
 ghost use Rattle.lsp_rpc.specs.Shown.{show_response};
 ghost use Rattle.lsp_desk.specs.Flow.{is_sent};
 ghost use Rattle.lsp_desk.specs.Reply.{reply_has_float};
 ghost use Rattle.lsp_desk.specs.Shown.{show_client_reply};
-ghost use Rattle.lsp_client.specs.Answers.{answer_in, asked_of, answered_of, answered_has_float};
+ghost use Rattle.lsp_client.specs.Answers.{answer_in, asked_of, answered_of, answered_has_float, may_lack};
 ghost use Rattle.lsp_client.specs.Shown.{show_asked, show_answered};
 
 use lsp_desk::ClientReply;
@@ -98,6 +98,7 @@ where
         ≡ Some (show_answered R.Result.shown answered)) }
     ensures float_free { IfOk result (λ answered.
         answered_has_float (show_answered R.Result.shown answered) ≡ false) }
+    ensures memory { OnErr result (may_lack (show_client_reply reply) ≡ true) }
 {
     match reply {
         ClientReply::Answer(response) => answer_in_response::<R>(alloc, response),
@@ -118,6 +119,7 @@ where
         ≡ answer_in R.Result.shape (show_response response).body) }
     ensures float_free { IfOk result (λ answered.
         answered_has_float (show_answered R.Result.shown answered) ≡ false) }
+    ensures memory { OnErr result (is_ok (show_response response).body ≡ true) }
 {
     let (_, body) = response.into_parts();
     match body {

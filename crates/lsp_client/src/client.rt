@@ -11,7 +11,7 @@ ghost use Rattle.lsp_desk.specs.Shown.{show_client_reply};
 ghost use Rattle.lsp_session.specs.Fails.{PollFails};
 ghost use Rattle.lsp_session.specs.Run.{replied};
 ghost use Rattle.lsp_client.specs.Answers.{answered_has_float};
-ghost use Rattle.lsp_client.specs.Client.{Continues, IsPolled, IsAsked, IsAtMost, IsDrawn, IsTold, SendsNone};
+ghost use Rattle.lsp_client.specs.Client.{Continues, IsPolled, IsAsked, IsDrawn, IsPollCut, IsTold, IsUnreplied, SendsNone};
 ghost use Rattle.lsp_client.specs.Methods.{register_capability_call, unregister_capability_call, show_message_call, log_message_call, show_message_request_call, show_document_call, telemetry_event_call, refresh_call, publish_diagnostics_call, configuration_call, workspace_folders_call, apply_edit_call};
 ghost use Rattle.lsp_client.specs.Shown.{show_answered, show_asked, ticket_number};
 
@@ -96,7 +96,7 @@ pub trait Client: Caller {
         ensures failed { IfErr result (λ fault. PollFails Self.meaning self.old self.new fault) }
         ensures continues { Continues Self.meaning self.old self.new }
         ensures unsent { OnErr result (PollsOn Self.meaning self.old self.new
-            (SendsNone (show_message_call typ message.now))) }
+            (IsUnreplied (show_message_call typ message.now))) }
     {
         let message = text(alloc, message)?;
         let params = ShowMessageParams { typ, message };
@@ -116,7 +116,7 @@ pub trait Client: Caller {
         ensures failed { IfErr result (λ fault. PollFails Self.meaning self.old self.new fault) }
         ensures continues { Continues Self.meaning self.old self.new }
         ensures unsent { OnErr result (PollsOn Self.meaning self.old self.new
-            (SendsNone (log_message_call typ message.now))) }
+            (IsUnreplied (log_message_call typ message.now))) }
     {
         let message = text(alloc, message)?;
         let params = LogMessageParams { typ, message };
@@ -171,7 +171,7 @@ pub trait Client: Caller {
         ensures failed { IfErr result (λ fault. PollFails Self.meaning self.old self.new fault) }
         ensures continues { Continues Self.meaning self.old self.new }
         ensures unsent { OnErr result (PollsOn Self.meaning self.old self.new
-            (SendsNone (telemetry_event_call (view event)))) }
+            (IsUnreplied (telemetry_event_call (view event)))) }
     {
         let method = text(alloc, TelemetryEvent::method())?;
         let params = telemetry_params(alloc, event)?;
@@ -274,7 +274,7 @@ pub trait Client: Caller {
         ensures failed { IfErr result (λ fault. PollFails Self.meaning self.old self.new fault) }
         ensures continues { Continues Self.meaning self.old self.new }
         ensures unsent { OnErr result (PollsOn Self.meaning self.old self.new
-            (SendsNone (publish_diagnostics_call uri diagnostics version))) }
+            (IsUnreplied (publish_diagnostics_call uri diagnostics version))) }
     {
         let params = PublishDiagnosticsParams {
             uri,
@@ -369,7 +369,7 @@ pub trait Client: Caller {
         ensures failed { IfErr result (λ fault. PollFails Self.meaning self.old self.new fault) }
         ensures continues { Continues Self.meaning self.old self.new }
         ensures unsent { OnErr result (PollsOn Self.meaning self.old self.new
-            (SendsNone (Tell N.name (write N.Params.shape (N.Params.shown params)) true))) }
+            (IsUnreplied (Tell N.name (write N.Params.shape (N.Params.shown params)) true))) }
     {
         notify::<Self, N>(alloc, self, &params, true)
     }
@@ -390,7 +390,7 @@ pub trait Client: Caller {
         ensures failed { IfErr result (λ fault. PollFails Self.meaning self.old self.new fault) }
         ensures continues { Continues Self.meaning self.old self.new }
         ensures once { OnErr result (PollsOn Self.meaning self.old self.new
-            (IsAtMost (Poll (ticket_number ticket)))) }
+            (IsPollCut (ticket_number ticket))) }
     {
         let number = ticket.number;
         match make_call(self, ClientCall::Poll(number)) {
@@ -405,7 +405,7 @@ pub trait Client: Caller {
             (IsDrawn (show_id id))) }
         ensures failed { IfErr result (λ fault. PollFails Self.meaning self.old self.new fault) }
         ensures continues { Continues Self.meaning self.old self.new }
-        ensures once { OnErr result (PollsOn Self.meaning self.old self.new (IsAtMost NextId)) }
+        ensures once { OnErr result (PollsOn Self.meaning self.old self.new (IsUnreplied NextId)) }
     {
         match make_call(self, ClientCall::NextId) {
             Ok(reply) => match reply {

@@ -8,7 +8,7 @@ ghost use Rattle.lsp_desk.specs.Reply.{reply_has_float};
 ghost use Rattle.lsp_desk.specs.Shown.{show_client_call, show_client_reply};
 ghost use Rattle.lsp_session.specs.Fails.{PollFails};
 ghost use Rattle.lsp_shape.specs.Write.{write};
-ghost use Rattle.lsp_client.specs.Client.{AsksClean, Continues, IsAsked, IsTold, SendsNone, TellsClean};
+ghost use Rattle.lsp_client.specs.Client.{AsksClean, Continues, IsAsked, IsTold, IsUnreplied, SendsNone, TellsClean};
 ghost use Rattle.lsp_client.specs.Methods.{telemetry_params as telemetry_data};
 ghost use Rattle.lsp_client.specs.Shown.{show_asked};
 
@@ -72,7 +72,7 @@ fn tell_clean<D: Caller>(
     ensures failed { IfErr result (λ fault. PollFails D.meaning client.old client.new fault) }
     ensures continues { Continues D.meaning client.old client.new }
     ensures unsent { OnErr result (PollsOn D.meaning client.old client.new
-        (SendsNone (Tell (string_bytes method) (view params) gated))) }
+        (IsUnreplied (Tell (string_bytes method) (view params) gated))) }
 {
     let call = ClientCall::Tell {
         method,
@@ -102,7 +102,7 @@ pub(crate) fn tell<D: Caller>(
     ensures failed { IfErr result (λ fault. PollFails D.meaning client.old client.new fault) }
     ensures continues { Continues D.meaning client.old client.new }
     ensures unsent { OnErr result (PollsOn D.meaning client.old client.new
-        (SendsNone (Tell (string_bytes method) (view params) gated))) }
+        (IsUnreplied (Tell (string_bytes method) (view params) gated))) }
 {
     if is_float_free(&params) {
         tell_clean(client, method, params, gated)
@@ -125,7 +125,7 @@ where
     ensures failed { IfErr result (λ fault. PollFails D.meaning client.old client.new fault) }
     ensures continues { Continues D.meaning client.old client.new }
     ensures unsent { OnErr result (PollsOn D.meaning client.old client.new
-        (SendsNone (Tell N.name (write N.Params.shape (N.Params.shown params.now)) gated))) }
+        (IsUnreplied (Tell N.name (write N.Params.shape (N.Params.shown params.now)) gated))) }
 {
     let method = text(alloc, N::method())?;
     let params = params.to_value(alloc)?;

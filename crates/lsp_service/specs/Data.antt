@@ -78,6 +78,11 @@ abbrev pub noted_by : Kind → Result Data ErrorData
 noted_by Notification = Ok null
 noted_by Request = mismatch
 
+-- the kind of the method that was called
+abbrev pub kind_of : Target → Kind
+kind_of (targets.Typed m) = (method_row m).kind
+kind_of (targets.Custom kind) = kind
+
 -- what is written for a reply to a call of this method
 abbrev pub written_by : Target → MethodReply → Result Data ErrorData
 written_by (targets.Typed m) (answer n r) = written_to m n (write_body (result_shape n) r)

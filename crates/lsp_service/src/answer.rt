@@ -1,8 +1,8 @@
 // What a reply of a server comes to.
-ghost use Rattle.std.specs.Prelude.{◌≡◌, IfOk};
+ghost use Rattle.std.specs.Prelude.{◌≡◌, IfOk, IsOk};
 ghost use Rattle.lsp_rpc.specs.Shown.{show_body};
 ghost use Rattle.lsp_methods.specs.Shapes.{result_shape};
-ghost use Rattle.lsp_service.specs.Data.{answer, written as written_def, custom_answer as custom_answer_of, noted as noted_def, outcome_by, result_shown, write_body, mismatch as mismatch_def, unless_float as unless_float_def};
+ghost use Rattle.lsp_service.specs.Data.{answer, written as written_def, custom_answer as custom_answer_of, noted as noted_def, outcome_by, result_shown, write_body, mismatch as mismatch_def, kind_of, unless_float as unless_float_def};
 ghost use Rattle.lsp_service.specs.Replies.{show_offered};
 
 use crate::call::Target;
@@ -105,7 +105,8 @@ pub(crate) fn custom_answered(
 
 /// No answer: what a notification is owed.
 pub(crate) fn noted(alloc: Global, target: Target) -> Result<Result<Value, Error>, NoMemory>
-    ensures { IfOk result (λ sent. show_body sent ≡ outcome_by target noted_def) }
+    ensures noted { IfOk result (λ sent. show_body sent ≡ outcome_by target noted_def) }
+    ensures notification { kind_of target ≡ Kind.Notification → IsOk result }
 {
     let kind = match target {
         Target::Typed(method) => method.kind(),

@@ -1,5 +1,5 @@
 // A service: a language server behind a method table.
-ghost use Rattle.std.specs.Prelude.{◌≡◌, IfOk, IfErr, None, true, not, option_map};
+ghost use Rattle.std.specs.Prelude.{◌≡◌, IfOk, IfErr, IsErrOf, IsSome, None, true, not, option_map};
 ghost use Rattle.serde_json.specs.View.{view};
 ghost use Rattle.lsp_session.specs.Semantics.{call as call_read};
 ghost use Rattle.lsp_methods.specs.Methods.{method_at};
@@ -131,6 +131,7 @@ fn read_custom(place: u64, params: Option<&Value>) -> Result<(u64, Option<Value>
         ≡ call_read (custom c.0 (option_map view c.1))) }
     ensures err { IfErr result (λ e. Refuses (reading_custom place (option_map (λ v. view v.now)
         params.entry)) e) }
+    ensures memory { IsErrOf result CallMisfit.NoMemory → IsSome params.entry }
 {
     if place < STANDARD {
         return Err(CallMisfit::Unfit);
