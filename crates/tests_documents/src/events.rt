@@ -1,65 +1,92 @@
 //! A document that is opened, and changed as tables say.
 use lsp_base::{Position, Range, TextDocumentContentChangeEvent};
 use lsp_documents::{ChangeError, Documents, OpenError};
+use lsp_rows::Trial;
 use std::alloc::{AllocError, Global};
+use std::fmt::Display;
 
 /// The document that is changed.
 pub(crate) const URI: &str = "file:///a";
 
-/// A change of the range from a line and a character to others, or of the whole text.
-pub(crate) type Change = (Option<(u32, u32, u32, u32)>, &'static str);
+/// A change of the part from a line and a character to others, or of the whole text.
+pub(crate) enum Change {
+    Part(u32, u32, u32, u32, &'static str),
+    Whole(&'static str),
+}
 
-/// Opens a document.
+/// Opens a document that has a text behind another.
 pub(crate) fn open(
     alloc: Global,
     documents: &mut Documents,
     uri: &str,
     version: i32,
+    before: &str,
     text: &str,
 ) -> Result<(), OpenError> {
-    let text = String::from_str(alloc, text)?;
-    documents.open(uri, version, text)
+    let mut whole = String::from_str(alloc, before)?;
+    whole.push_str(text)?;
+    documents.open(uri, version, whole)
 }
 
-fn range_of(change: &Change) -> Option<Range> {
-    let (line, character, last, end) = change.0?;
-    let start = Position::new(line, character);
-    Some(Range::new(start, Position::new(last, end)))
+// The position so many lines and characters further on.
+fn further(by: Position, line: u32, character: u32) -> Position {
+    Position::new(
+        line.saturating_add(by.line),
+        character.saturating_add(by.character),
+    )
 }
 
-// What the editor tells of the changes, with that `rangeLength`.
-fn events(
+fn event(
     alloc: Global,
-    changes: &[Change],
+    by: Position,
     range_length: Option<u32>,
-) -> Result<Vec<TextDocumentContentChangeEvent>, AllocError> {
-    let mut events = Vec::new(alloc);
-    for change in changes {
-        events.push(TextDocumentContentChangeEvent {
-            range: range_of(change),
-            range_length,
-            text: String::from_str(alloc, change.1)?,
-        })?;
-    }
-    Ok(events)
+    change: &Change,
+) -> Result<TextDocumentContentChangeEvent, AllocError> {
+    let (range, text) = match change {
+        Change::Whole(text) => (None, text),
+        Change::Part(line, character, last, end, text) => {
+            let start = further(by, *line, *character);
+            (Some(Range::new(start, further(by, *last, *end))), text)
+        }
+    };
+    Ok(TextDocumentContentChangeEvent {
+        range,
+        range_length,
+        text: String::from_str(alloc, text)?,
+    })
 }
 
-/// Makes the changes of the document, with that version.
-pub(crate) fn change(
+/// Makes the changes of the document, each so many lines and characters further on, with that
+/// version and `rangeLength`.
+pub(crate) fn make_changes(
     alloc: Global,
     documents: &mut Documents,
     version: i32,
     range_length: Option<u32>,
+    by: Position,
     changes: &[Change],
 ) -> Result<(), ChangeError> {
-    let events = events(alloc, changes, range_length)?;
+    let mut events = Vec::new(alloc);
+    for change in changes {
+        let event = event(alloc, by, range_length, change)?;
+        let Ok(()) = events.push(event) else {
+            return Err(ChangeError::NoMemory);
+        };
+    }
     documents.change(URI, version, events.as_slice())
 }
 
-/// The text of the document, if it is open.
-pub(crate) fn text_in(documents: &Documents) -> Option<&str> {
-    match documents.get(URI) {
-        Some(document) => Some(document.text()),
+/// The document has a text behind another.
+pub(crate) fn has_text<W: Display + Drop>(
+    trial: &mut Trial,
+    what: W,
+    documents: &Documents,
+    before: &str,
+    text: &str,
+) {
+    let found = match documents.get(URI) {
+        Some(document) => document.text().strip_prefix(before),
         None => None,
-    }
+    };
+    trial.same(what, found, Some(text));
 }
