@@ -263,19 +263,10 @@ fn try_rows(trial: &mut Trial, alloc: Global, rows: &[Row]) {
     }
 }
 
-// A table of tables would cost the prover more than twice the time of all of them.
-#[test]
-fn changes_make_the_texts_of_the_rows(rt: HostRuntime) -> Result<(), RowError> {
-    let mut trial = Trial::new(rt.alloc());
-    try_rows(&mut trial, rt.alloc(), UNITS);
-    try_rows(&mut trial, rt.alloc(), ENDS);
-    try_rows(&mut trial, rt.alloc(), PAST);
-    try_rows(&mut trial, rt.alloc(), ORDER);
-    trial.end()
-}
-
-fn try_edges(trial: &mut Trial, alloc: Global, times: u32) -> Result<(), AllocError> {
-    for edge in EDGES {
+// Lines and code units are counted in blocks: an end of a line and a pair on each side of their
+// bounds and across them.
+fn try_edge(trial: &mut Trial, alloc: Global, edge: &Edge) -> Result<(), AllocError> {
+    for times in 234..246 {
         let before = edge.piece.repeat(alloc, times as usize)?;
         let by = Position::new(
             edge.lines.saturating_mul(times),
@@ -286,13 +277,16 @@ fn try_edges(trial: &mut Trial, alloc: Global, times: u32) -> Result<(), AllocEr
     Ok(())
 }
 
-// Lines and code units are counted in blocks: an end of a line and a pair on each side of their
-// bounds and across them.
+// A table of tables would cost the prover more than twice the time of all of them.
 #[test]
-fn blocks_have_no_edges(rt: HostRuntime) -> Result<(), RowError> {
+fn changes_make_the_texts_of_the_rows(rt: HostRuntime) -> Result<(), RowError> {
     let mut trial = Trial::new(rt.alloc());
-    for times in 234..246 {
-        let tried = try_edges(&mut trial, rt.alloc(), times);
+    try_rows(&mut trial, rt.alloc(), UNITS);
+    try_rows(&mut trial, rt.alloc(), ENDS);
+    try_rows(&mut trial, rt.alloc(), PAST);
+    try_rows(&mut trial, rt.alloc(), ORDER);
+    for edge in EDGES {
+        let tried = try_edge(&mut trial, rt.alloc(), edge);
         trial.is_true("there is memory", tried.is_ok());
     }
     trial.end()

@@ -60,7 +60,11 @@ const CALLS: &[Row] = &[
         Call::Change(9, None, &[Whole("gh")]),
         "Err(NotOpen)",
     ),
+    Row("opened again", Call::Open("file:///a", 1, TEXT), "Ok(())"),
 ];
+
+// The text in which places are sought at the end.
+const TEXT: &str = "aé😀b\r\ncd\n";
 
 // Shows the version and the text.
 fn shows(trial: &mut Trial, what: &str, document: Option<&Document>, shown: &str) {
@@ -90,19 +94,6 @@ fn try_call(trial: &mut Trial, alloc: Global, documents: &mut Documents, row: &R
         Call::Get(uri) => shows(trial, what, documents.get(uri), gives),
     }
 }
-
-#[test]
-fn documents_are_opened_changed_and_closed(rt: HostRuntime) -> Result<(), RowError> {
-    let mut documents = Documents::new(rt.alloc());
-    let mut trial = Trial::new(rt.alloc());
-    for row in CALLS {
-        try_call(&mut trial, rt.alloc(), &mut documents, row);
-    }
-    drop(documents);
-    trial.end()
-}
-
-const TEXT: &str = "aé😀b\r\ncd\n";
 
 // Lines and characters, and the bytes at which they are.
 struct Offset(&'static str, u32, u32, usize);
@@ -156,11 +147,12 @@ fn try_places(trial: &mut Trial, document: &Document) {
 }
 
 #[test]
-fn positions_are_found(rt: HostRuntime) -> Result<(), RowError> {
+fn documents_are_as_the_rows_say(rt: HostRuntime) -> Result<(), RowError> {
     let mut documents = Documents::new(rt.alloc());
     let mut trial = Trial::new(rt.alloc());
-    let opened = open(rt.alloc(), &mut documents, URI, 1, "", TEXT);
-    trial.shows("opened", opened, "Ok(())");
+    for row in CALLS {
+        try_call(&mut trial, rt.alloc(), &mut documents, row);
+    }
     match documents.get(URI) {
         Some(document) => try_places(&mut trial, document),
         None => trial.is_true("it is open", false),
