@@ -2,10 +2,9 @@
 #![tactic(auto)]
 
 use lsp_index::answer;
-use lsp_program::{Status, words};
-use lsp_server::{ReadSource, Sink, WriteSink};
+use lsp_program::words;
+use lsp_server::{ReadSource, WriteSink};
 use std::env;
-use std::io::BufWriter;
 use std::process::ExitCode;
 
 fn main(rt: HostRuntime) -> ExitCode {
@@ -13,15 +12,9 @@ fn main(rt: HostRuntime) -> ExitCode {
         Ok(words) => words,
         Err(status) => return ExitCode::from(status as u8),
     };
-    let Ok(output) = BufWriter::new(rt.alloc(), rt.stdout()) else {
-        return ExitCode::from(Status::NoMemory as u8);
-    };
     let mut source = ReadSource::new(rt.stdin());
-    let mut sink = WriteSink::new(output);
-    let status = answer(rt.alloc(), &words, &mut source, &mut sink);
 
-    // After a failure some of what was written may still wait here; nothing can be told of a second
-    // one.
-    let _ = sink.flush();
-    ExitCode::from(status)
+    // The one line of the answer is written whole, so it needs no buffer.
+    let mut sink = WriteSink::new(rt.stdout());
+    ExitCode::from(answer(rt.alloc(), &words, &mut source, &mut sink))
 }
