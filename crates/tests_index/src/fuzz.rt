@@ -1,8 +1,8 @@
 //! Random dumps, on which queries are answered as by plain walks.
-use crate::plain::{Dump, Entry, Item, Names, Query, Vertex, plain_answer};
-use crate::rows::run;
-use crate::text::{Name, Part, put};
-use lsp_base::{Position, Range};
+use crate::dump::{Dump, Size, some_position, some_uri};
+use crate::plain::{Answer, Query};
+use crate::rows::{NONE_FAILS, run};
+use lsp_base::Position;
 use lsp_index::{Request, answer_each};
 use lsp_rows::{RowError, Trial};
 use lsp_uri::Uri;
@@ -10,20 +10,7 @@ use rand_core::utils::NextWord;
 use rand_pcg::Pcg32;
 use std::alloc::{AllocError, Global};
 
-// How many entries a dump has, how many ids there are of each kind, how many lines a document has,
-// how many such dumps there are, and how many queries of each: one by one, and in rounds, each of
-// which asks the same at so many positions.
-struct Size {
-    entries: u32,
-    ids: u32,
-    lines: u32,
-    dumps: u32,
-    queries: u32,
-    rounds: u32,
-    positions: u32,
-}
-
-// 12,000 queries.
+// 12,000 queries, and 7,900.
 const SMALL: &[Size] = &[
     Size {
         entries: 12,
@@ -33,6 +20,7 @@ const SMALL: &[Size] = &[
         queries: 20,
         rounds: 0,
         positions: 0,
+        least: 100,
     },
     Size {
         entries: 40,
@@ -42,6 +30,7 @@ const SMALL: &[Size] = &[
         queries: 20,
         rounds: 0,
         positions: 0,
+        least: 300,
     },
     Size {
         entries: 120,
@@ -51,19 +40,19 @@ const SMALL: &[Size] = &[
         queries: 20,
         rounds: 0,
         positions: 0,
+        least: 800,
+    },
+    Size {
+        entries: 500,
+        ids: 8,
+        lines: 2,
+        dumps: 395,
+        queries: 4,
+        rounds: 4,
+        positions: 4,
+        least: 2800,
     },
 ];
-
-// 7,900 queries.
-const MIDDLING: &[Size] = &[Size {
-    entries: 500,
-    ids: 8,
-    lines: 2,
-    dumps: 395,
-    queries: 4,
-    rounds: 4,
-    positions: 4,
-}];
 
 // 50 queries one by one, and 10,000 in rounds.
 const LARGE: &[Size] = &[Size {
@@ -74,275 +63,17 @@ const LARGE: &[Size] = &[Size {
     queries: 50,
     rounds: 20,
     positions: 500,
+    least: 2500,
 }];
 
-// The kinds of vertices, each with ids of its own, which are taken for one of another now and then.
-#[derive(Clone, Copy)]
-enum Kind {
-    Document,
-    Range,
-    Set,
-    Result,
-}
-
-// A number below `limit`.
-fn below(random: &mut Pcg32, limit: u32) -> u32 {
-    random.next_word() % limit.max(1)
-}
-
-fn some_id(random: &mut Pcg32, size: &Size, kind: Kind) -> Name {
-    let kind = if below(random, 10) == 0 {
-        below(random, 4)
-    } else {
-        kind as u32
-    };
-    let number = below(random, size.ids)
-        .saturating_mul(4)
-        .saturating_add(kind);
-    Name {
-        number,
-        is_text: below(random, 10) == 0,
-    }
-}
-
-fn some_ids(random: &mut Pcg32, size: &Size, kind: Kind) -> Names {
-    let none = Name {
-        number: 0,
-        is_text: false,
-    };
-    let count = below(random, 6) as usize;
-    let mut all = [none; 5];
-    for i in 0..5 {
-        if i < count {
-            all[i] = some_id(random, size, kind);
-        }
-    }
-    Names { all, count }
-}
-
-fn some_uri(random: &mut Pcg32) -> &'static str {
-    if below(random, 4) == 0 {
-        "file:///b"
-    } else {
-        "file:///a"
-    }
-}
-
-fn some_position(random: &mut Pcg32, size: &Size) -> Position {
-    let line = below(random, size.lines);
-    Position::new(line, below(random, 6))
-}
-
-// The end may stand before the start.
-fn some_range(random: &mut Pcg32, size: &Size) -> Range {
-    let start = some_position(random, size);
-    let line = start.line.saturating_add(below(random, 2));
-    Range::new(start, Position::new(line, below(random, 6)))
-}
-
-fn some_vertex(random: &mut Pcg32, size: &Size) -> Entry {
-    let (kind, vertex) = match below(random, 18) {
-        0..=2 => (Kind::Document, Vertex::Document(some_uri(random))),
-        3..=5 => (Kind::Set, Vertex::Other("resultSet")),
-        6 => (Kind::Result, Vertex::Other("definitionResult")),
-        7 => (Kind::Result, Vertex::Other("referenceResult")),
-        8 => (Kind::Result, Vertex::Hover(below(random, 1000))),
-        _ => (Kind::Range, Vertex::Range(some_range(random, size))),
-    };
-    Entry::Vertex(some_id(random, size, kind), vertex)
-}
-
-// An edge from a range or a set to another set, or to a result.
-fn some_link(random: &mut Pcg32, size: &Size) -> Entry {
-    let (label, kind) = match below(random, 8) {
-        0 => ("moniker", Kind::Set),
-        1 | 2 => (DEFINITION, Kind::Result),
-        3 | 4 => (REFERENCES, Kind::Result),
-        5 => (HOVER, Kind::Result),
-        _ => ("next", Kind::Set),
-    };
-    let from = if below(random, 2) == 0 {
-        Kind::Range
-    } else {
-        Kind::Set
-    };
-    let from = some_id(random, size, from);
-    Entry::Link(label, from, some_id(random, size, kind))
-}
-
-fn some_item(random: &mut Pcg32, size: &Size) -> Entry {
-    let (property, kind) = match below(random, 8) {
-        0 => ("", Kind::Range),
-        1 => ("declarations", Kind::Range),
-        2 => ("definitions", Kind::Range),
-        3 | 4 => ("references", Kind::Range),
-        5 | 6 => ("referenceResults", Kind::Result),
-        _ => ("implementationResults", Kind::Range),
-    };
-    Entry::Item(Item {
-        from: some_id(random, size, Kind::Result),
-        targets: some_ids(random, size, kind),
-        document: some_id(random, size, Kind::Document),
-        property,
-    })
-}
-
-fn some_entry(random: &mut Pcg32, size: &Size) -> Entry {
-    match below(random, 10) {
-        0..=4 => some_vertex(random, size),
-        5 | 6 => some_link(random, size),
-        7 | 8 => some_item(random, size),
-        _ => {
-            let from = some_id(random, size, Kind::Document);
-            Entry::Contains(from, some_ids(random, size, Kind::Range))
-        }
-    }
-}
-
-// ---- The text of a dump.
-
-// An entry begins so.
-const ID: Part = Part::Text("{\"id\":");
-
-const VERTEX: Part = Part::Text(",\"type\":\"vertex\",\"label\":\"");
-
-const EDGE: Part = Part::Text(",\"type\":\"edge\",\"label\":\"");
-
-const FROM: Part = Part::Text("\",\"outV\":");
-
-const TARGETS: Part = Part::Text(",\"inVs\":[");
-
-const CHARACTER: Part = Part::Text(",\"character\":");
-
-fn put_vertex(text: &mut String, id: Name, vertex: Vertex) -> Result<(), AllocError> {
-    put(text, &[ID, Part::Id(id), VERTEX])?;
-    match vertex {
-        Vertex::Document(uri) => put(
-            text,
-            &[
-                Part::Text("document\",\"languageId\":\"x\",\"uri\":\""),
-                Part::Text(uri),
-                Part::Text("\""),
-            ],
-        ),
-        Vertex::Range(Range { start, end }) => put(
-            text,
-            &[
-                Part::Text("range\",\"start\":{\"line\":"),
-                Part::Number(start.line),
-                CHARACTER,
-                Part::Number(start.character),
-                Part::Text("},\"end\":{\"line\":"),
-                Part::Number(end.line),
-                CHARACTER,
-                Part::Number(end.character),
-                Part::Text("}"),
-            ],
-        ),
-        Vertex::Hover(number) => put(
-            text,
-            &[
-                Part::Text("hoverResult\",\"result\":{\"contents\":\"h"),
-                Part::Number(number),
-                Part::Text("\"}"),
-            ],
-        ),
-        Vertex::Other(label) => put(text, &[Part::Text(label), Part::Text("\"")]),
-    }
-}
-
-fn put_item(text: &mut String, at: u32, item: &Item) -> Result<(), AllocError> {
-    let (member, end) = if item.property.is_empty() {
-        ("", "")
-    } else {
-        (",\"property\":\"", "\"")
-    };
-    put(
-        text,
-        &[
-            ID,
-            Part::Number(at),
-            EDGE,
-            Part::Text("item"),
-            FROM,
-            Part::Id(item.from),
-            TARGETS,
-            Part::Ids(item.targets.as_slice()),
-            Part::Text("],\"document\":"),
-            Part::Id(item.document),
-            Part::Text(member),
-            Part::Text(item.property),
-            Part::Text(end),
-        ],
-    )
-}
-
-// An edge has its place in the dump as its id.
-fn put_entry(text: &mut String, at: u32, entry: &Entry) -> Result<(), AllocError> {
-    match entry {
-        Entry::Vertex(id, vertex) => put_vertex(text, *id, *vertex),
-        Entry::Contains(from, targets) => put(
-            text,
-            &[
-                ID,
-                Part::Number(at),
-                EDGE,
-                Part::Text("contains"),
-                FROM,
-                Part::Id(*from),
-                TARGETS,
-                Part::Ids(targets.as_slice()),
-                Part::Text("]"),
-            ],
-        ),
-        Entry::Link(label, from, to) => put(
-            text,
-            &[
-                ID,
-                Part::Number(at),
-                EDGE,
-                Part::Text(label),
-                FROM,
-                Part::Id(*from),
-                Part::Text(",\"inV\":"),
-                Part::Id(*to),
-            ],
-        ),
-        Entry::Item(item) => put_item(text, at, item),
-    }
-}
-
-// The text of the dump, whose lines end in all ways.
-fn dump_text(alloc: Global, random: &mut Pcg32, dump: &[Entry]) -> Result<String, AllocError> {
-    let mut text = String::new(alloc);
-    let mut at: u32 = 0;
-    for entry in dump {
-        put_entry(&mut text, at, entry)?;
-        let end = match below(random, 8) {
-            0 => "}\r\n",
-            1 => "}\n\r\n\n",
-            _ => "}\n",
-        };
-        text.push_str(end)?;
-        at = at.saturating_add(1);
-    }
-    Ok(text)
-}
-
-// ---- The queries.
-
-const DEFINITION: &str = "textDocument/definition";
-
-const REFERENCES: &str = "textDocument/references";
-
-const HOVER: &str = "textDocument/hover";
+const ASKED: [(Request, &str, &str); 3] = [
+    (Request::Definition, "definition", "textDocument/definition"),
+    (Request::References, "references", "textDocument/references"),
+    (Request::Hover, "hover", "textDocument/hover"),
+];
 
 fn some_query(random: &mut Pcg32, size: &Size) -> Query {
-    let (request, word, label) = match below(random, 3) {
-        0 => (Request::Definition, "definition", DEFINITION),
-        1 => (Request::References, "references", REFERENCES),
-        _ => (Request::Hover, "hover", HOVER),
-    };
+    let (request, word, label) = ASKED[(random.next_word() % 3) as usize];
     Query {
         request,
         word,
@@ -352,152 +83,124 @@ fn some_query(random: &mut Pcg32, size: &Size) -> Query {
     }
 }
 
-fn some_dump(alloc: Global, random: &mut Pcg32, size: &Size) -> Result<Dump, AllocError> {
-    let mut entries = Vec::new(alloc);
-    for _ in 0..size.entries {
-        entries.push(some_entry(random, size))?;
-    }
-    let text = dump_text(alloc, random, entries.as_slice())?;
-    Dump::new(alloc, entries, text, size.ids.saturating_mul(4))
-}
-
 // What the program gives for the query.
-fn asked(alloc: Global, dump: &Dump, query: &Query) -> Result<String, AllocError> {
-    let mut words = String::from_str(alloc, query.word)?;
-    put(
-        &mut words,
-        &[
-            Part::Text(" "),
-            Part::Text(query.uri),
-            Part::Text(" "),
-            Part::Number(query.position.line),
-            Part::Text(" "),
-            Part::Number(query.position.character),
-        ],
-    )?;
-    run(alloc, words.as_str(), dump.text.as_bytes(), 4096)
+fn asked(alloc: Global, dump: &str, query: &Query) -> Result<String, AllocError> {
+    let Position { line, character } = query.position;
+    let words = format!(in alloc; "{} {} {line} {character}", query.word, query.uri)?;
+    run(alloc, words.as_str(), dump.as_bytes(), 4096, NONE_FAILS)
 }
 
-// What was tried, and how many queries found something.
+// What is given for the query at each of the positions.
+fn asked_each(alloc: Global, dump: &str, query: &Query, positions: &[Position]) -> Vec<String> {
+    if let Ok(uri) = Uri::parse(alloc, query.uri) {
+        let given = answer_each(alloc, query.request, uri, positions, dump.as_bytes());
+        if let Ok(Some(lines)) = given {
+            return lines;
+        }
+    }
+    Vec::new(alloc)
+}
+
+// What is tried, and how many queries found something.
 #[derive(Drop)]
 struct Tried {
+    alloc: Global,
+    dump: Dump,
+    positions: Vec<Position>,
+    answer: Answer,
     trial: Trial,
     found: u32,
 }
 
-// Compares what was given for the query with what plain walks find.
-fn compare(
-    alloc: Global,
-    dump: &Dump,
-    query: &Query,
-    given: Result<String, AllocError>,
-    tried: &mut Tried,
-) -> Result<(), AllocError> {
-    let line = plain_answer(alloc, dump, query)?;
-    tried.trial.text(query.word, given, line.as_str());
-    if line.len() > 7 {
-        tried.found = tried.found.saturating_add(1);
+impl Tried {
+    // Answers the query by plain walks.
+    fn answer(&mut self, query: &Query) {
+        self.answer.fill(&self.dump, query);
+        if self.answer.line.len() > 7 {
+            self.found = self.found.saturating_add(1);
+        }
     }
-    Ok(())
+
+    fn query(&mut self, query: &Query) {
+        self.answer(query);
+        let given = asked(self.alloc, self.dump.text.as_str(), query);
+        self.trial
+            .text(query.word, given, self.answer.line.as_str());
+    }
+
+    // The same query at some positions.
+    fn round(&mut self, random: &mut Pcg32, size: &Size) {
+        let mut query = some_query(random, size);
+        self.positions.clear();
+        for _ in 0..size.positions {
+            let _ = self.positions.push(some_position(random, size));
+        }
+        let dump = self.dump.text.as_str();
+        let lines = asked_each(self.alloc, dump, &query, &self.positions);
+        self.trial
+            .same("lines", lines.len(), size.positions as usize);
+        for (i, line) in lines.iter().enumerate() {
+            if let Some(position) = self.positions.get(i) {
+                query.position = *position;
+                self.answer(&query);
+                let answer = self.answer.line.as_str().strip_prefix("0 ");
+                self.trial.same(query.word, Some(line.as_str()), answer);
+            }
+        }
+    }
+
+    // All queries of the random dumps of a size.
+    fn dumps(&mut self, random: &mut Pcg32, size: &Size) {
+        self.found = 0;
+        for _ in 0..size.dumps {
+            self.dump.fill(random, size);
+            for _ in 0..size.queries {
+                self.query(&some_query(random, size));
+            }
+            for _ in 0..size.rounds {
+                self.round(random, size);
+            }
+        }
+        self.trial.is_true(self.found, self.found >= size.least);
+    }
 }
 
-fn some_positions(
-    alloc: Global,
-    random: &mut Pcg32,
-    size: &Size,
-) -> Result<Vec<Position>, AllocError> {
-    let mut positions = Vec::new(alloc);
-    for _ in 0..size.positions {
-        positions.push(some_position(random, size))?;
-    }
-    Ok(positions)
-}
-
-// What is given for the query at each of the positions.
-fn asked_each(
-    alloc: Global,
-    dump: &Dump,
-    query: &Query,
-    positions: &[Position],
-) -> Result<Vec<String>, RowError> {
-    let Ok(uri) = Uri::parse(alloc, query.uri) else {
-        return Ok(Vec::new(alloc));
-    };
-    match answer_each(alloc, query.request, uri, positions, dump.text.as_bytes())? {
-        Some(lines) => Ok(lines),
-        None => Ok(Vec::new(alloc)),
-    }
-}
-
-// A round of queries of a dump.
-fn try_round(
-    alloc: Global,
-    random: &mut Pcg32,
-    size: &Size,
-    dump: &Dump,
-    tried: &mut Tried,
-) -> Result<(), RowError> {
-    let mut query = some_query(random, size);
-    let positions = some_positions(alloc, random, size)?;
-    let lines = asked_each(alloc, dump, &query, &positions)?;
-    tried.trial.same("lines", lines.len(), positions.len());
-    for (position, line) in positions.iter().zip(lines.iter()) {
-        query.position = *position;
-        let given = format!(in alloc; "0 {line}");
-        compare(alloc, dump, &query, given, tried)?;
-    }
-    Ok(())
-}
-
-// All queries of a random dump.
-fn try_dump(
-    alloc: Global,
-    random: &mut Pcg32,
-    size: &Size,
-    tried: &mut Tried,
-) -> Result<(), RowError> {
-    let dump = some_dump(alloc, random, size)?;
-    for _ in 0..size.queries {
-        let query = some_query(random, size);
-        let given = asked(alloc, &dump, &query);
-        compare(alloc, &dump, &query, given, tried)?;
-    }
-    for _ in 0..size.rounds {
-        try_round(alloc, random, size, &dump, tried)?;
-    }
-    Ok(())
-}
-
-// All dumps of these sizes, by the random numbers of a stream. At least so many of the queries have to
-// find something.
-fn walks(alloc: Global, stream: u64, sizes: &[Size], least: u32) -> Result<(), RowError> {
+// All dumps of these sizes, by the random numbers of a stream.
+fn walks(alloc: Global, stream: u64, sizes: &[Size]) -> Result<(), RowError> {
     let mut tried = Tried {
+        alloc,
+        dump: Dump {
+            text: String::new(alloc),
+            vertices: Vec::new(alloc),
+            edges: Vec::new(alloc),
+        },
+        positions: Vec::new(alloc),
+        answer: Answer {
+            line: String::new(alloc),
+            places: Vec::new(alloc),
+            results: Vec::new(alloc),
+        },
         trial: Trial::new(alloc),
         found: 0,
     };
     let mut random = Pcg32::new(20261129, stream);
     for size in sizes {
-        for _ in 0..size.dumps {
-            try_dump(alloc, &mut random, size, &mut tried)?;
-        }
+        tried.dumps(&mut random, size);
     }
-    let found = tried.found;
-    tried.trial.is_true(found, found >= least);
     tried.trial.end()
 }
 
 #[test]
 fn plain_walks_over_small_dumps(rt: HostRuntime) -> Result<(), RowError> {
-    walks(rt.alloc(), 54, SMALL, 1_200)?;
-    walks(rt.alloc(), 54, MIDDLING, 2_800)
+    walks(rt.alloc(), 54, SMALL)
 }
 
 #[test]
 fn plain_walks_over_a_large_dump(rt: HostRuntime) -> Result<(), RowError> {
-    walks(rt.alloc(), 54, LARGE, 2_500)
+    walks(rt.alloc(), 54, LARGE)
 }
 
 #[test]
 fn plain_walks_over_another_large_dump(rt: HostRuntime) -> Result<(), RowError> {
-    walks(rt.alloc(), 55, LARGE, 2_500)
+    walks(rt.alloc(), 55, LARGE)
 }

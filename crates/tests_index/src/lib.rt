@@ -3,6 +3,8 @@
 #![tactic(auto)]
 
 #[cfg(test)]
+mod dump;
+#[cfg(test)]
 mod fuzz;
 #[cfg(test)]
 mod plain;
@@ -10,5 +12,3 @@ mod plain;
 mod rows;
 #[cfg(test)]
 mod standard;
-#[cfg(test)]
-mod text;

@@ -1,6 +1,7 @@
 //! Queries over a small dump, with the status and what is written.
 ghost use Rattle.std.specs.Prelude.{◌<◌};
 
+use crate::dump::put_text;
 use lsp_index::answer;
 use lsp_rows::{RowError, Trial};
 use lsp_server::{MemorySink, MemorySource};
@@ -159,47 +160,67 @@ const ROWS: &[[&str; 3]] = &[
     ["hover file:///a 1 1", "\n\r\n\n", "0 null\n"],
 ];
 
-// The bytes, and the status with what is written for `definition file:///a 0 1`.
-const INPUTS: &[[&str; 2]] = &[
-    ["", "0 []\n"],
-    ["\n", "0 []\n"],
-    ["\r\n", "0 []\n"],
+// What is asked of bytes that are no dump.
+const FIRST: &str = "definition file:///a 0 1";
+
+// The same over these bytes alone.
+const INPUTS: &[[&str; 3]] = &[
+    [FIRST, "", "0 []\n"],
+    [FIRST, "\n", "0 []\n"],
+    [FIRST, "\r\n", "0 []\n"],
     [
+        FIRST,
         "{\"id\":1,\"type\":\"vertex\",\"label\":\"resultSet\"}",
         "0 []\n",
     ],
     // A byte order mark stands in no line.
     [
+        FIRST,
         "\u{feff}{\"id\":1,\"type\":\"vertex\",\"label\":\"resultSet\"}\n",
         "8 ",
     ],
-    ["\u{feff}", "8 "],
+    [FIRST, "\u{feff}", "8 "],
     // A CR alone ends no line, and of two before an LF the first stays.
-    ["\r", "8 "],
-    ["\r\r\n", "8 "],
+    [FIRST, "\r", "8 "],
+    [FIRST, "\r\r\n", "8 "],
     [
+        FIRST,
         "{\"id\":1,\"type\":\"vertex\",\"label\":\"resultSet\"}\r{\"id\":2,\"type\":\"vertex\",\"label\":\"resultSet\"}\n",
         "8 ",
     ],
     // Two entries in a line, and one over two lines.
     [
+        FIRST,
         "{\"id\":1,\"type\":\"vertex\",\"label\":\"resultSet\"}{\"id\":2,\"type\":\"vertex\",\"label\":\"resultSet\"}\n",
         "8 ",
     ],
     [
+        FIRST,
         "{\"id\":1,\"type\":\"vertex\",\n\"label\":\"resultSet\"}\n",
         "8 ",
     ],
     // No entries: of no id, of no kind, of a label that none has, and a list of entries.
-    ["{\"type\":\"vertex\",\"label\":\"resultSet\"}\n", "8 "],
-    ["{\"id\":1,\"label\":\"resultSet\"}\n", "8 "],
-    ["{\"id\":1,\"type\":\"vertex\",\"label\":\"x\"}\n", "8 "],
     [
+        FIRST,
+        "{\"type\":\"vertex\",\"label\":\"resultSet\"}\n",
+        "8 ",
+    ],
+    [FIRST, "{\"id\":1,\"label\":\"resultSet\"}\n", "8 "],
+    [
+        FIRST,
+        "{\"id\":1,\"type\":\"vertex\",\"label\":\"x\"}\n",
+        "8 ",
+    ],
+    [
+        FIRST,
         "[{\"id\":1,\"type\":\"vertex\",\"label\":\"resultSet\"}]\n",
         "8 ",
     ],
-    ["\0", "8 "],
+    [FIRST, "\0", "8 "],
 ];
+
+// Over the dump whose last line is cut.
+const CUT: &[[&str; 3]] = &[["definition file:///a 1 1", "", "8 "]];
 
 fn words_of(alloc: Global, text: &str) -> Result<Vec<String>, AllocError> {
     let mut words = Vec::new(alloc);
@@ -209,21 +230,24 @@ fn words_of(alloc: Global, text: &str) -> Result<Vec<String>, AllocError> {
     Ok(words)
 }
 
-// The status, and what is written, of the program with these words over the bytes, of which it reads
-// so many at a time.
-pub(crate) fn run(
+// Where neither a read nor a call of the sink fails.
+pub(crate) const NONE_FAILS: [u32; 2] = [0, 0];
+
+fn source_of(
     alloc: Global,
-    words: &str,
     dump: &[u8],
     piece: usize,
-) -> Result<String, AllocError>
+    failing: u32,
+) -> Result<MemorySource, AllocError>
     requires { 0 < piece }
 {
-    run_failing(alloc, words, dump, piece, [0, 0])
+    let dump = Vec::from_slice(alloc, dump)?;
+    Ok(MemorySource::new(dump, piece, vec![in alloc; u64::from(failing)]?))
 }
 
-// The same where the read and the call of the sink of these numbers fail.
-fn run_failing(
+// The status, and what is written, of the program with these words over the bytes, of which it reads
+// so many at a time, where the read and the call of the sink of these numbers fail.
+pub(crate) fn run(
     alloc: Global,
     words: &str,
     dump: &[u8],
@@ -233,40 +257,55 @@ fn run_failing(
     requires { 0 < piece }
 {
     let [read, call] = failing;
-    let words = words_of(alloc, words)?;
-    let dump = Vec::from_slice(alloc, dump)?;
-    let mut source = MemorySource::new(dump, piece, vec![in alloc; u64::from(read)]?);
+    let mut source = source_of(alloc, dump, piece, read)?;
     let mut sink = MemorySink::new(alloc, vec![in alloc; u64::from(call)]?);
+    let words = words_of(alloc, words)?;
     let status = answer(alloc, &words, &mut source, &mut sink);
+    drop(words);
     drop(source);
     let written = String::from_utf8_lossy(alloc, sink.bytes())?;
     format!(in alloc; "{status} {written}")
 }
 
-fn try_row(trial: &mut Trial, alloc: Global, row: &[&str; 3]) -> Result<(), AllocError> {
-    let [words, more, expected] = row;
-    let mut dump = String::from_str(alloc, DUMP)?;
-    dump.push_str(more)?;
-    trial.text(*more, run(alloc, words, dump.as_bytes(), 7), expected);
-    Ok(())
+// Two texts, so many bytes of pieces, and another text.
+fn text_of(alloc: Global, ends: [&str; 3], piece: &str, length: usize) -> String {
+    let mut text = String::new(alloc);
+    put_text(&mut text, ends[0]);
+    put_text(&mut text, ends[1]);
+    for _ in 0..length / piece.len().max(1) {
+        put_text(&mut text, piece);
+    }
+    put_text(&mut text, ends[2]);
+    text
+}
+
+/// Tries the rows over a dump: each has the words, what stands after the dump, and the status with what
+/// is written.
+pub(crate) fn try_rows(
+    trial: &mut Trial,
+    alloc: Global,
+    dump: &str,
+    piece: usize,
+    rows: &[[&str; 3]],
+)
+    requires { 0 < piece }
+{
+    for [words, more, expected] in rows {
+        let bytes = text_of(alloc, [dump, more, ""], "", 0);
+        let found = run(alloc, words, bytes.as_bytes(), piece, NONE_FAILS);
+        trial.text(*more, found, expected);
+    }
 }
 
 #[test]
 fn queries(rt: HostRuntime) -> Result<(), RowError> {
     let alloc = rt.alloc();
     let mut trial = Trial::new(alloc);
-    for row in ROWS {
-        try_row(&mut trial, alloc, row)?;
-    }
-    for [input, expected] in INPUTS {
-        let found = run(alloc, "definition file:///a 0 1", input.as_bytes(), 7);
-        trial.text(*input, found, expected);
-    }
-    let no_text = run(alloc, "definition file:///a 1 1", b"\xff\n", 7);
+    try_rows(&mut trial, alloc, DUMP, 7, ROWS);
+    try_rows(&mut trial, alloc, "", 7, INPUTS);
+    try_rows(&mut trial, alloc, DUMP.trim_end_matches(LAST), 7, CUT);
+    let no_text = run(alloc, "definition file:///a 1 1", b"\xff\n", 7, NONE_FAILS);
     trial.text("no text", no_text, "8 ");
-    let cut = DUMP.trim_end_matches(LAST);
-    let no_end = run(alloc, "definition file:///a 1 1", cut.as_bytes(), 7);
-    trial.text("the last line is cut", no_end, "8 ");
     trial.end()
 }
 
@@ -317,16 +356,17 @@ const FAILING: &[Failing] = &[
 // Want of memory, status 6, is tried by `.ci/hostile`; no run reaches the last of all reads, status 5.
 #[test]
 fn each_read_write_and_flush_fails(rt: HostRuntime) -> Result<(), RowError> {
-    let mut trial = Trial::new(rt.alloc());
+    let alloc = rt.alloc();
+    let mut trial = Trial::new(alloc);
     for row in FAILING {
         for number in row.first..=row.last {
-            let (read, call) = if row.is_read {
-                (number, 0)
+            let failing = if row.is_read {
+                [number, 0]
             } else {
-                (0, number)
+                [0, number]
             };
             let words = "definition file:///a 1 1";
-            let found = run_failing(rt.alloc(), words, DUMP.as_bytes(), 100, [read, call]);
+            let found = run(alloc, words, DUMP.as_bytes(), 100, failing);
             trial.text(number, found, row.expected);
         }
     }
@@ -374,37 +414,24 @@ const LONG: &[Long] = &[
     },
 ];
 
-// Puts the text, so many bytes of pieces, and the other text behind what is there.
-fn push_long(
-    text: &mut String,
-    ends: [&str; 2],
-    piece: &str,
-    length: usize,
-) -> Result<(), AllocError> {
-    text.push_str(ends[0])?;
-    for _ in 0..length / piece.len().max(1) {
-        text.push_str(piece)?;
-    }
-    text.push_str(ends[1])?;
-    Ok(())
-}
-
-fn try_long(trial: &mut Trial, alloc: Global, row: &Long) -> Result<(), AllocError> {
-    let mut dump = String::from_str(alloc, DUMP)?;
-    push_long(&mut dump, row.line, row.piece, MIB)?;
-    let found = run(alloc, row.words, dump.as_bytes(), 4096);
-    let mut wanted = String::new(alloc);
+fn try_long(trial: &mut Trial, alloc: Global, row: &Long) {
+    let dump = text_of(alloc, [DUMP, row.line[0], row.line[1]], row.piece, MIB);
     let shown = if row.is_shown { MIB } else { 0 };
-    push_long(&mut wanted, row.expected, row.piece, shown)?;
+    let wanted = text_of(
+        alloc,
+        ["", row.expected[0], row.expected[1]],
+        row.piece,
+        shown,
+    );
+    let found = run(alloc, row.words, dump.as_bytes(), 4096, NONE_FAILS);
     trial.text(row.words, found, wanted.as_str());
-    Ok(())
 }
 
 #[test]
 fn long_lines(rt: HostRuntime) -> Result<(), RowError> {
     let mut trial = Trial::new(rt.alloc());
     for row in LONG {
-        try_long(&mut trial, rt.alloc(), row)?;
+        try_long(&mut trial, rt.alloc(), row);
     }
     trial.end()
 }

@@ -1,6 +1,6 @@
 //! Queries over a dump in the form of the examples of LSIF 0.6: that of the lines of tests_texts_top
 //! with one document.
-use crate::rows::run;
+use crate::rows::try_rows;
 use lsp_rows::{RowError, Trial};
 
 const DUMP: &str =
@@ -61,61 +61,66 @@ const DUMP: &str =
 {"data":2,"id":55,"kind":"end","label":"$event","scope":"project","type":"vertex"}
 "#;
 
-// The words, and the line of the answer, typed from the entries named.
-const ROWS: &[[&str; 2]] = &[
+// The words, nothing more after the dump, and the status with the line of the answer, typed from the
+// entries named.
+const ROWS: &[[&str; 3]] = &[
     // 9 is where `bar` is used: over 10 and 14 its definition is 7.
     [
         "definition file:///w/src/file4.ts 12 2",
-        r#"[{"range":{"end":{"character":12,"line":7},"start":{"character":9,"line":7}},"uri":"file:///w/src/file4.ts"}]"#,
+        "",
+        r#"0 [{"range":{"end":{"character":12,"line":7},"start":{"character":9,"line":7}},"uri":"file:///w/src/file4.ts"}]
+"#,
     ],
     // 7 itself, by its first and its last character.
     [
         "definition file:///w/src/file4.ts 7 9",
-        r#"[{"range":{"end":{"character":12,"line":7},"start":{"character":9,"line":7}},"uri":"file:///w/src/file4.ts"}]"#,
+        "",
+        r#"0 [{"range":{"end":{"character":12,"line":7},"start":{"character":9,"line":7}},"uri":"file:///w/src/file4.ts"}]
+"#,
     ],
     [
         "definition file:///w/src/file4.ts 7 11",
-        r#"[{"range":{"end":{"character":12,"line":7},"start":{"character":9,"line":7}},"uri":"file:///w/src/file4.ts"}]"#,
+        "",
+        r#"0 [{"range":{"end":{"character":12,"line":7},"start":{"character":9,"line":7}},"uri":"file:///w/src/file4.ts"}]
+"#,
     ],
-    ["definition file:///w/src/file4.ts 7 12", "[]"],
+    ["definition file:///w/src/file4.ts 7 12", "", "0 []\n"],
     // 26, `foo`, has a declaration and no definition; 42 has no edge, and nothing stands at 30.
-    ["definition file:///w/src/file4.ts 11 9", "[]"],
-    ["definition file:///w/src/file4.ts 16 0", "[]"],
-    ["definition file:///w/src/file4.ts 30 0", "[]"],
+    ["definition file:///w/src/file4.ts 11 9", "", "0 []\n"],
+    ["definition file:///w/src/file4.ts 16 0", "", "0 []\n"],
+    ["definition file:///w/src/file4.ts 30 0", "", "0 []\n"],
     // The items 18 and 19.
     [
         "references file:///w/src/file4.ts 12 4",
-        r#"[{"range":{"end":{"character":12,"line":7},"start":{"character":9,"line":7}},"uri":"file:///w/src/file4.ts"},{"range":{"end":{"character":5,"line":12},"start":{"character":2,"line":12}},"uri":"file:///w/src/file4.ts"}]"#,
+        "",
+        r#"0 [{"range":{"end":{"character":12,"line":7},"start":{"character":9,"line":7}},"uri":"file:///w/src/file4.ts"},{"range":{"end":{"character":5,"line":12},"start":{"character":2,"line":12}},"uri":"file:///w/src/file4.ts"}]
+"#,
     ],
     // The item 40, and those of 16, to which 41 leads.
     [
         "references file:///w/src/file4.ts 11 10",
-        r#"[{"range":{"end":{"character":12,"line":11},"start":{"character":9,"line":11}},"uri":"file:///w/src/file4.ts"},{"range":{"end":{"character":12,"line":7},"start":{"character":9,"line":7}},"uri":"file:///w/src/file4.ts"},{"range":{"end":{"character":5,"line":12},"start":{"character":2,"line":12}},"uri":"file:///w/src/file4.ts"}]"#,
+        "",
+        r#"0 [{"range":{"end":{"character":12,"line":11},"start":{"character":9,"line":11}},"uri":"file:///w/src/file4.ts"},{"range":{"end":{"character":12,"line":7},"start":{"character":9,"line":7}},"uri":"file:///w/src/file4.ts"},{"range":{"end":{"character":5,"line":12},"start":{"character":2,"line":12}},"uri":"file:///w/src/file4.ts"}]
+"#,
     ],
-    ["references file:///w/src/file4.ts 18 3", "[]"],
+    ["references file:///w/src/file4.ts 18 3", "", "0 []\n"],
     // 11, over 12.
     [
         "hover file:///w/src/file4.ts 12 2",
-        r#"{"contents":[{"language":"typescript","value":"function bar4(): void"},"Says \"bar\".\n"]}"#,
+        "",
+        r#"0 {"contents":[{"language":"typescript","value":"function bar4(): void"},"Says \"bar\".\n"]}
+"#,
     ],
-    ["hover file:///w/src/file4.ts 11 9", "null"],
+    ["hover file:///w/src/file4.ts 11 9", "", "0 null\n"],
     // Of no document: the project's file, the package's, and one that isn't there.
-    ["definition file:///w/tsconfig.json 7 9", "[]"],
-    ["references file:///w/package.json 7 9", "[]"],
-    ["hover file:///w/src/file5.ts 7 9", "null"],
+    ["definition file:///w/tsconfig.json 7 9", "", "0 []\n"],
+    ["references file:///w/package.json 7 9", "", "0 []\n"],
+    ["hover file:///w/src/file5.ts 7 9", "", "0 null\n"],
 ];
 
 #[test]
 fn a_dump_in_the_form_of_the_examples(rt: HostRuntime) -> Result<(), RowError> {
-    let alloc = rt.alloc();
-    let mut trial = Trial::new(alloc);
-    for [words, line] in ROWS {
-        let wanted = format!(in alloc; "0 {line}\n")?;
-        trial.text(
-            *words,
-            run(alloc, words, DUMP.as_bytes(), 50),
-            wanted.as_str(),
-        );
-    }
+    let mut trial = Trial::new(rt.alloc());
+    try_rows(&mut trial, rt.alloc(), DUMP, 50, ROWS);
     trial.end()
 }
