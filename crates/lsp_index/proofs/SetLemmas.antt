@@ -14,13 +14,14 @@ use Rattle.lsp_rpc.specs.Shown.{show_id}
 use Rattle.lsp_rpc.specs.declared.id.Id.{Id}
 use Rattle.lsp_base.specs.declared.position.Position.{Position}
 use Rattle.lsp_base.specs.declared.position.Range.{Range}
+use Rattle.lsp_index.specs.declared.graph.Index.{Index}
 use Rattle.lsp_index.specs.declared.graph.Node.{Node}
 use Rattle.lsp_index.specs.Graph.{Graph}
 use Rattle.lsp_index.specs.declared.graph.Role.{Role}
 use Rattle.lsp_index.specs.declared.graph.Role.TheVariants as roles
-use Rattle.lsp_index.specs.Queries.{LocationData, with_new_id, with_linked, with_results, with_results_of, with_places, items_from, results_after, AreResults, candidate_in, with_candidate, closest_of, range_holding, range_in}
+use Rattle.lsp_index.specs.Queries.{LocationData, with_new_id, with_linked, with_results, with_results_of, with_places, items_from, results_after, AreResults, candidate_in, named_in, with_candidate, chosen_at, closest_of, range_holding, range_in}
 use Rattle.lsp_index.specs.Shown.{show_node, show_vertex_of}
-use Rattle.lsp_index.specs.Kept.{same_key}
+use Rattle.lsp_index.specs.Kept.{same_key, IsKept}
 use Rattle.lsp_index.proofs.TableLemmas.{any-shown}
 
 -- a fold over the members that a list shows, with one more
@@ -148,6 +149,13 @@ closest_more named p es i old other new within so_far candidate is =
           ∙ sym (fold_shown_more (with_candidate named p) show_vertex_of None es i s.0 within (sym s.3))
       | inr past ↦ absurd (omega (arith, past.0, within))
     ]
+
+-- the closest of those that the graph names
+pub chosen_is : (g : Graph) (index : Index) (kept : IsKept g index) (uri : List ℕ) (p : Position) (named : List IdData) → named ≡ named_in g uri
+    → option_map (λ (c : IdData × Range). c.0) (fold (with_candidate named p) None (map show_vertex_of index.vertices.entries)) ≡ option_map (λ (c : IdData × Range). c.0) (chosen_at g uri p)
+chosen_is g index kept uri p named is =
+    ap (λ ns. option_map (λ (c : IdData × Range). c.0) (fold (with_candidate ns p) None (map show_vertex_of index.vertices.entries))) is
+    ∙ ap (λ vs. option_map (λ (c : IdData × Range). c.0) (fold (with_candidate (named_in g uri) p) None vs)) kept.vertices
 
 pub candidate_yes : (keys : List Id) (p : Position) (id : Id) (node : Node) (b : Bool) → b ≡ list_any (same_key id) keys → b ≡ true
     → candidate_in (map show_id keys) p (show_vertex_of (id, node)) ≡ range_holding (show_id id) p (range_in (show_node node))

@@ -1,10 +1,10 @@
 // The program but for its `main`.
-ghost use Rattle.std.specs.Prelude.{◌≡◌, ◌≢◌, ◌≤◌, ◌<◌, ◌⊎◌, ◌↔◌, ◌+◌, ◌-◌, ◌^◌, None, not, length, IfOk, IfSome};
+ghost use Rattle.std.specs.Prelude.{◌≡◌, ◌≢◌, ◌≤◌, ◌<◌, ◌⊎◌, ◌↔◌, ◌+◌, ◌-◌, ◌^◌, None, length, IfOk, IfSome};
 ghost use Rattle.lsp_server.specs.SourceSink.{CountRose, IsFlushed};
 ghost use Rattle.lsp_server.specs.Served.{call_bytes};
 ghost use Rattle.lsp_uri.specs.Uri.{uri_text};
 ghost use Rattle.lsp_index.specs.Answered.{IsQueryAnswered, IsRefused, WroteBegun, WroteNone, WhereAsked, AreAnswers};
-ghost use Rattle.lsp_index.specs.Ended.{AnswerEnded, AnswerTells, ended_with, status_from};
+ghost use Rattle.lsp_index.specs.Ended.{AnswerTells, ended_with, status_from};
 ghost use Rattle.lsp_index.specs.Shown.{show_query};
 ghost use Rattle.lsp_index.specs.Words.{query_asked};
 
@@ -14,7 +14,7 @@ use crate::{Query, Request};
 use lsp_base::Position;
 use lsp_program::{Status, status_of};
 use lsp_rpc::NoMemory;
-use lsp_server::{Ends, ServeError, Sink, Source, Transport, over_reads};
+use lsp_server::{Ends, ServeError, Sink, Source, over_reads};
 use lsp_uri::Uri;
 use std::alloc::Global;
 
@@ -93,65 +93,26 @@ fn answer_query<I: Source, O: Sink>(alloc: Global, query: Query, source: &mut I,
           writes_failed_after = O.faults sink.new;
         }) result }
 {
-    let mut ends = Ends { source, sink };
-    status_from(answer_over(alloc, query, &mut ends, u64::MAX))
-}
-
-fn status_from(ended: Result<bool, ServeError>) -> u8
-    ensures { result ≡ status_from ended }
-{
-    match ended {
-        Ok(true) => Status::Done as u8,
-        Ok(false) => Status::BadInput as u8,
-        Err(error) => status_of(error),
-    }
-}
-
-// Answers a query over a transport, and says whether no line is bad.
-fn answer_over<T: Transport>(
-    alloc: Global,
-    query: Query,
-    io: &mut T,
-    reads: u64,
-) -> Result<bool, ServeError>
-    ensures ended { AnswerEnded (show_query query) reads
-        (record {
-          left = T.left io.old;
-          left_after = T.left io.new;
-          reads_failed = T.read_faults io.old;
-          reads_failed_after = T.read_faults io.new;
-          taken = T.taken io.old;
-          taken_after = T.taken io.new;
-          flushed = T.flushed io.old;
-          flushed_after = T.flushed io.new;
-          writes_failed = T.faults io.old;
-          writes_failed_after = T.faults io.new;
-        }) (T.reads io.old) (T.reads io.new) result }
-    ensures tied { T.tied io.new ≡ T.tied io.old }
-{
     let mut lines = Lines {
         part: Vec::new(alloc),
     };
     let mut search = Search::new(alloc, query);
-    let ended = over_reads(io, &mut lines, &mut search, reads);
+    let mut ends = Ends { source, sink };
+    let ended = over_reads(&mut ends, &mut lines, &mut search, u64::MAX);
     drop(lines);
-    let good = is_good(search);
-    ended_with(ended, good)
+    let good = !search.is_bad;
+    drop(search);
+    status(ended, good)
 }
 
-// Lets the search go, and says whether no line was bad.
-fn is_good(search: Search) -> bool
-    ensures { result ≡ not search.is_bad }
-{
-    !search.is_bad
-}
-
-fn ended_with(ended: Result<(), ServeError>, good: bool) -> Result<bool, ServeError>
-    ensures { result ≡ ended_with ended good }
+// The exit status of what the reads ended with, and whether no line is bad.
+fn status(ended: Result<(), ServeError>, good: bool) -> u8
+    ensures { result ≡ status_from (ended_with ended good) }
 {
     match ended {
-        Ok(()) => Ok(good),
-        Err(error) => Err(error),
+        Ok(()) if good => Status::Done as u8,
+        Ok(()) => Status::BadInput as u8,
+        Err(error) => status_of(error),
     }
 }
 

@@ -190,16 +190,6 @@ impl Index {
         }
     }
 
-    // The closest range of the document that holds the position.
-    fn chosen(&self, uri: &Uri, position: Position) -> Result<Option<&Id>, NoMemory>
-        ensures { IfOk result (λ o. (g : Graph) → IsKept g self.now
-            → option_map (λ id. show_id id.now) o ≡ option_map (λ c. c.0)
-            (chosen_at g (uri_text uri.now) position)) }
-    {
-        let named = self.named(uri)?;
-        Ok(self.closest(&named, position))
-    }
-
     // The closest of the ranges named that hold the position.
     fn closest<'a>(&'a self, named: &IndexSet<Id>, position: Position) -> Option<&'a Id>
         ensures { option_map (λ id. show_id id.now) result ≡ option_map (λ c. c.0)
@@ -354,7 +344,8 @@ impl Index {
             (chosen_at g (uri_text uri.now) position)
             (option_map (λ id. show_id id.now) o)) }
     {
-        match self.chosen(uri, position)? {
+        let named = self.named(uri)?;
+        match self.closest(&named, position) {
             Some(range) => {
                 let mut passed = IndexSet::new(self.alloc);
                 self.walk(range, &mut passed)
