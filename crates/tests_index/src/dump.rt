@@ -374,7 +374,7 @@ pub(crate) fn put_text(text: &mut String, piece: &str) {
 #[derive(Drop)]
 pub(crate) struct Dump {
     pub(crate) text: String,
-    /// The first vertex of each id.
+    /// The first vertex of each id, and `NOTHING` for each id that no vertex has.
     pub(crate) vertices: Vec<Entry>,
     pub(crate) edges: Vec<Entry>,
 }

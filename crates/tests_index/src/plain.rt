@@ -50,15 +50,16 @@ fn link(edges: &[Entry], label: &str, from: Name) -> Name {
     NONE
 }
 
-// The result of that label that a vertex leads to. A walk over more edges than there are goes round.
-fn reached(edges: &[Entry], label: &str, from: Name) -> Name {
+// The result of that label that a vertex leads to. A walk over more vertices than there are ids goes
+// round.
+fn reached(dump: &Dump, label: &str, from: Name) -> Name {
     let mut vertex = from;
-    for _ in 0..=edges.len() {
-        let result = link(edges, label, vertex);
+    for _ in 0..=dump.vertices.len() {
+        let result = link(&dump.edges, label, vertex);
         if result != NONE || vertex == NONE {
             return result;
         }
-        vertex = link(edges, "next", vertex);
+        vertex = link(&dump.edges, "next", vertex);
     }
     NONE
 }
@@ -140,7 +141,7 @@ impl Answer {
         self.places.clear();
         self.results.clear();
         let range = chosen(dump, query);
-        let result = reached(&dump.edges, query.label, range.id);
+        let result = reached(dump, query.label, range.id);
         let is_definition = match query.request {
             Request::Definition => true,
             Request::References => false,
