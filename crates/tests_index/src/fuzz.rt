@@ -20,7 +20,7 @@ const SMALL: &[Size] = &[
         queries: 20,
         rounds: 0,
         positions: 0,
-        least: 100,
+        least: 5,
     },
     Size {
         entries: 40,
@@ -30,7 +30,7 @@ const SMALL: &[Size] = &[
         queries: 20,
         rounds: 0,
         positions: 0,
-        least: 300,
+        least: 150,
     },
     Size {
         entries: 120,
@@ -40,7 +40,7 @@ const SMALL: &[Size] = &[
         queries: 20,
         rounds: 0,
         positions: 0,
-        least: 800,
+        least: 1_200,
     },
     Size {
         entries: 500,
@@ -50,7 +50,7 @@ const SMALL: &[Size] = &[
         queries: 4,
         rounds: 4,
         positions: 4,
-        least: 2800,
+        least: 2_800,
     },
 ];
 
@@ -63,7 +63,7 @@ const LARGE: &[Size] = &[Size {
     queries: 50,
     rounds: 20,
     positions: 500,
-    least: 2500,
+    least: 2_500,
 }];
 
 const ASKED: [(Request, &str, &str); 3] = [
