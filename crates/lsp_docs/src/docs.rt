@@ -1,5 +1,5 @@
 // The server.
-ghost use Rattle.std.specs.Prelude.{◌≡◌, IfErr, IfOk, None, OnErr, OnOk, Some, option_map, true};
+ghost use Rattle.std.specs.Prelude.{◌≡◌, ◌≢◌, IfErr, IfOk, IsSome, None, OnErr, OnOk, Some, option_map, true};
 ghost use Rattle.std.specs.FinMap as map;
 ghost use Rattle.std.specs.Str.{encode_utf8_all};
 ghost use Rattle.serde_json.specs.View.{view};
@@ -8,6 +8,8 @@ ghost use Rattle.lsp_desk.specs.Meaning.{PollsOn};
 ghost use Rattle.lsp_session.specs.Fails.{PollFails};
 ghost use Rattle.lsp_service.specs.Replies.{initialize_data, show_life_reply, show_offer};
 ghost use Rattle.lsp_service.specs.Data.{noted};
+ghost use Rattle.lsp_service.specs.declared.call.LifeCall.TheVariants as life_calls;
+ghost use Rattle.lsp_uri.specs.Uri.{uri_text};
 ghost use Rattle.lsp_docs.specs.Docs.{requested_uri as requested_uri_def, text_answer, found_data, offered, replies, Heeded, LogsRefusal, TakesTurn};
 ghost use Rattle.lsp_docs.specs.Typed.{opening_of, changes_of, closing_of, life_turn, sync_turn, reply_or_error};
 
@@ -20,7 +22,7 @@ use lsp_offer_text::TextDocumentSyncOptions;
 use lsp_rpc::{Error, ErrorCode};
 use lsp_service::{
     Call, InitializeReply, LanguageServer, LifeCall, LifeReply, NoMemory, NoTask, Reply, Started,
-    SyncCall, let_go,
+    SyncCall, not_found_for,
 };
 use lsp_work::{
     DidChangeTextDocumentParams, DidCloseTextDocumentParams, DidOpenTextDocumentParams,
@@ -112,6 +114,8 @@ impl DocsServer {
         ensures heeded { OnOk result (PollsOn D.meaning client.old client.new
             (Heeded (closing_of params) self.old.documents self.new.documents)) }
         ensures failed { IfErr result (λ fault. PollFails D.meaning client.old client.new fault) }
+        ensures closes { OnErr result (map.get self.old.documents
+            (uri_text params.text_document.uri) ≡ None) }
     {
         match self.documents.close(params.text_document.uri.as_str()) {
             Some(_) => Ok(()),
@@ -205,13 +209,10 @@ impl<D: Caller> LanguageServer<D> for DocsServer {
                 Ok(body) => Ok(Started::Now(Reply::Custom(body))),
                 Err(NoMemory) => Err(DeskFault::NoMemory),
             },
-            other => {
-                let_go(other);
-                match Error::method_not_found(alloc) {
-                    Ok(error) => Ok(Started::Now(Reply::Error(error))),
-                    Err(NoMemory) => Err(DeskFault::NoMemory),
-                }
-            }
+            other => match not_found_for(alloc, other) {
+                Ok(reply) => Ok(Started::Now(reply)),
+                Err(NoMemory) => Err(DeskFault::NoMemory),
+            },
         }
     }
 
@@ -236,8 +237,9 @@ fn refuse<D: Caller>(alloc: Global, client: &mut D) -> Result<(), DeskFault>
 
 // What is replied to a call of the life of a session. `initialized` isn't known.
 fn life_reply(alloc: Global, call: LifeCall) -> Result<Result<LifeReply, Error>, NoMemory>
-    ensures { IfOk result (λ reply. life_turn call
+    ensures reply { IfOk result (λ reply. life_turn call
         ≡ replies (reply_or_error show_life_reply reply)) }
+    ensures memory { OnErr result (call ≢ life_calls.Shutdown) }
 {
     match call {
         LifeCall::Initialize(params) => {
@@ -255,18 +257,12 @@ fn life_reply(alloc: Global, call: LifeCall) -> Result<Result<LifeReply, Error>,
     }
 }
 
-fn initialize(alloc: Global) -> Result<InitializeReply, NoMemory>
-    ensures { IfOk result (λ reply. show_offer reply ≡ initialize_data
-        (record { capabilities = offered; server_info = None })) }
-{
-    InitializeReply::offering(alloc, capabilities())
-}
-
 // Documents are to be told when they are opened, changed and closed, and changes in ranges. Nothing
 // else is offered.
 #[tactic(auto, unfolding(crate::specs::Docs::offered))]
-fn capabilities() -> ServerCapabilities
-    ensures { result ≡ offered }
+fn initialize(alloc: Global) -> Result<InitializeReply, NoMemory>
+    ensures { IfOk result (λ reply. show_offer reply ≡ initialize_data
+        (record { capabilities = offered; server_info = None })) }
 {
     let mut capabilities = ServerCapabilities::default();
     let wanted = TextDocumentSyncOptions {
@@ -277,7 +273,7 @@ fn capabilities() -> ServerCapabilities
         save: None,
     };
     capabilities.text_document_sync = Some(wanted.into());
-    capabilities
+    InitializeReply::offering(alloc, capabilities)
 }
 
 // The params of `docs/text` are an object with a string `uri`.
@@ -289,8 +285,9 @@ fn requested_uri(params: &Value) -> Option<&str>
 
 // What `docs/text` gives.
 fn document_value(alloc: Global, document: Option<&Document>) -> Result<Value, NoMemory>
-    ensures { IfOk result (λ value. view value
+    ensures found { IfOk result (λ value. view value
         ≡ found_data (option_map (λ d. d.now) document.entry)) }
+    ensures memory { OnErr result (IsSome document.entry) }
 {
     let Some(document) = document else {
         return Ok(Value::Null);
