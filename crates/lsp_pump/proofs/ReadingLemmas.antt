@@ -14,7 +14,7 @@ use Rattle.lsp_pump.specs.declared.job.Ended.{Ended}
 use Rattle.lsp_pump.specs.declared.job.Ended.TheVariants.{Open, End, Failed}
 use Rattle.lsp_pump.specs.declared.job.Reading.{Reading}
 use Rattle.lsp_pump.specs.Pieces.{all_items, back_items, some_float}
-use Rattle.lsp_pump.specs.Reading.{TellsAll, ReadOnce, ReadEnds, CountsReads, EndsBy, HasRead, IsFresh, HasBegun, IsReadingOf}
+use Rattle.lsp_pump.specs.Reading.{TellsAll, ReadOnce, ReadEnds, CountsReads, EndsBy, HasRead, IsUnbegun, HasBegun, IsReadingOf}
 
 -- ---- what is told
 
@@ -115,7 +115,7 @@ ends_by_read codec later left0 left1 left2 read faults0 faults1 faults2 reads ma
 
 module _ {I : Type 0} (left_of : I → Option (List ℕ)) (faults_of : I → ℕ) where
   -- one that is to begin has told nothing
-  pub fresh_begun : (r : Reading I) → IsFresh r → HasBegun left_of faults_of r r
+  pub fresh_begun : (r : Reading I) → IsUnbegun r → HasBegun left_of faults_of r r
   fresh_begun r fresh = record {
     ring = ((refl, refl, refl, refl), refl);
     read = [];
@@ -139,5 +139,5 @@ module _ {I : Type 0} (left_of : I → Option (List ℕ)) (faults_of : I → ℕ
         float_free = ap (λ b. some_float (back_items b)) p.none;
       }
 
-  pub fresh_open : (r : Reading I) (reads : ℕ) → IsFresh r → IsReadingOf left_of faults_of r reads r r.ended
+  pub fresh_open : (r : Reading I) (reads : ℕ) → IsUnbegun r → IsReadingOf left_of faults_of r reads r r.ended
   fresh_open r reads fresh = subst (IsReadingOf left_of faults_of r reads r) (sym fresh.ended) (stops_open r r reads (fresh_begun r fresh) (omega (arith, fresh.made)))

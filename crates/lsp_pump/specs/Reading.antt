@@ -74,7 +74,7 @@ pub record HasRead (codec : At) (left left_after : Option (List ℕ)) (made : �
   pub each : LeavesReads ended → made ≤ length (read ++ lost)
 
 -- a reading that is to begin
-pub record IsFresh {I : Type 0} (reading : Reading I) : Type 0 where
+pub record IsUnbegun {I : Type 0} (reading : Reading I) : Type 0 where
   pub told : told_at reading.codec ≡ []
   pub sent : sent reading.sender ≡ []
   pub back : reading.back ≡ None

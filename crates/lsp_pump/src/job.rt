@@ -4,7 +4,7 @@ ghost use Rattle.rtrb.specs.Ring.{sent, SameProducer};
 ghost use Rattle.lsp_frame.specs.Codec.{more};
 ghost use Rattle.lsp_server.specs.SourceSink.{CountRose};
 ghost use Rattle.lsp_pump.specs.Pieces.{piece_items, all_items, back_items, ItemsAreFloatFree};
-ghost use Rattle.lsp_pump.specs.Reading.{TellsAll, ReadOnce, ReadEnds, IsFresh, IsReadingOf};
+ghost use Rattle.lsp_pump.specs.Reading.{TellsAll, ReadOnce, ReadEnds, IsUnbegun, IsReadingOf};
 
 use crate::pieces::Sender;
 use crate::signal::Signal;
@@ -55,7 +55,7 @@ pub(crate) enum Ended {
 /// Reads the source, at most `reads` times, and puts the items that each read tells onto the ring,
 /// as one piece; unless reading was over before it began.
 pub(crate) fn read_job<I: Source>(alloc: Global, reading: Reading<I>, reads: u64) -> Reading<I>
-    requires fresh { IsFresh reading }
+    requires fresh { IsUnbegun reading }
     ensures { IsReadingOf I.left I.faults reading reads result result.ended }
 {
     let mut reading = reading;
@@ -68,7 +68,7 @@ pub(crate) fn read_job<I: Source>(alloc: Global, reading: Reading<I>, reads: u64
 }
 
 fn read_all<I: Source>(alloc: Global, reading: &mut Reading<I>, reads: u64) -> Ended
-    requires fresh { IsFresh reading.old }
+    requires fresh { IsUnbegun reading.old }
     ensures { IsReadingOf I.left I.faults reading.old reads reading.new result }
 {
     for _ in 0..reads {

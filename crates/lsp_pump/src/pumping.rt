@@ -12,7 +12,7 @@ ghost use Rattle.lsp_server.specs.ServerView.{server_desk, server_limits, server
 ghost use Rattle.lsp_pump.specs.Pieces.{all_items};
 ghost use Rattle.lsp_pump.specs.Steps.{MakesSteps, MayGoOn, IsUnexited};
 ghost use Rattle.lsp_pump.specs.SeatWay.{seat_way};
-ghost use Rattle.lsp_pump.specs.Reading.{IsFresh, IsReadingOf};
+ghost use Rattle.lsp_pump.specs.Reading.{IsUnbegun, IsReadingOf};
 ghost use Rattle.lsp_pump.specs.Onward.{PumpsOn};
 ghost use Rattle.lsp_pump.specs.PumpsSession.{PumpsSession};
 
@@ -81,7 +81,7 @@ fn serve_beside<R: Threads + Wait, I: Source + Send + Drop + 'static, S: Steps>(
     rounds: u64,
 ) -> (Reading<I>, Result<bool, ServeError>)
     requires going { MayGoOn S.way steps.old }
-    requires fresh { IsFresh reading }
+    requires fresh { IsUnbegun reading }
     requires none { received pieces.old ≡ [] }
     ensures reading { IsReadingOf I.left I.faults reading reads result.0 result.0.ended }
     ensures makes { MakesSteps S.way rounds steps.old (all_items (received pieces.new)) result.1
@@ -96,7 +96,7 @@ fn serve_beside<R: Threads + Wait, I: Source + Send + Drop + 'static, S: Steps>(
         rt,
         promise,
         move || -> Reading<I>
-            requires { IsFresh reading }
+            requires { IsUnbegun reading }
             ensures { IsReadingOf I.left I.faults reading reads result result.ended }
         { read_job(alloc, reading, reads) },
     );
