@@ -7,8 +7,6 @@ use Rattle.lsp_server.specs.declared.step.ServeError.{ServeError}
 use Rattle.lsp_server.specs.Reads.{Moment}
 use Rattle.lsp_server.specs.Consuming.{Given, piece, end, ConsumerOutcome, goes_on, done, stops, IsLawfulConsumer, bytes_of, IsTimely, TookLast}
 use Rattle.lsp_server.proofs.KnownLemmas.{all_read, end_before}
-use Rattle.tests_session.specs.declared.lines.Lines.{Lines}
-use Rattle.tests_session.specs.declared.lines.Count.{Count}
 use Rattle.tests_session.specs.Lines.{lines_in, counted}
 use Rattle.tests_session.specs.LinesCounted.{Counts, counting}
 
@@ -21,8 +19,8 @@ counted_none n h = omega arith
 fits : (n m : ℕ) → m ≡ counted n → m < 2 ^ 64
 fits n m is = omega (arith, is)
 
-opens : (a b : Lines × Count) (given : Given) (written : List ℕ) → Counts a.1.lines given goes_on written b.1.lines → b.1.lines < 2 ^ 64
-opens a b (piece bytes) written p = fits (a.1.lines + lines_in bytes) b.1.lines p.0
+opens : (a b : ℕ) (given : Given) (written : List ℕ) → Counts a given goes_on written b → b < 2 ^ 64
+opens a b (piece bytes) written p = fits (a + lines_in bytes) b p.0
 opens a b end written p = absurd p
 
 more : (a b c : ℕ) (xs ys ws vs : List ℕ) → Counts a (piece xs) goes_on ws b → Counts b (piece ys) goes_on vs c → Counts a (piece (xs ++ ys)) goes_on (ws ++ vs) c
@@ -35,20 +33,20 @@ refused : (a b : ℕ) (given : Given) (outcome : ConsumerOutcome) (written : Lis
 refused a b (piece bytes) outcome written e = tt
 refused a b end outcome written e = tt
 
-pub counting_lawful : IsLawfulConsumer counting
-counting_lawful = record {
-  opens = opens;
-  none = λ a is. (counted_none a.1.lines is, refl);
-  more = λ a b c. more a.1.lines b.1.lines c.1.lines;
-  refused = λ a b given outcome written e p sink. refused a.1.lines b.1.lines given outcome written e;
+pub counting_lawful : {S : Type 0} (lines : S → ℕ) → IsLawfulConsumer (counting lines)
+counting_lawful lines = record {
+  opens = λ a b. opens (lines a) (lines b);
+  none = λ a is. (counted_none (lines a) is, refl);
+  more = λ a b c. more (lines a) (lines b) (lines c);
+  refused = λ a b given outcome written e p sink. refused (lines a) (lines b) given outcome written e;
 }
 
 -- at the end all lines were counted
-pub lines_counted : (a b : Lines × Count) (start now : Moment) (size : ℕ) (bytes : List ℕ) → a.1.lines ≡ 0 → start.left ≡ Some bytes → TookLast counting a start now size done b
-    → b.1.lines ≡ counted (lines_in bytes)
-lines_counted a b start now size bytes zero is t = at t.last t.gives t.timely t.did.does
+pub lines_counted : {S : Type 0} (lines : S → ℕ) (a b : S) (start now : Moment) (size : ℕ) (bytes : List ℕ) → lines a ≡ 0 → start.left ≡ Some bytes → TookLast (counting lines) a start now size done b
+    → lines b ≡ counted (lines_in bytes)
+lines_counted lines a b start now size bytes zero is t = at t.last t.gives t.timely t.did.does
   where
-    at : (last : Given) → Consumes t.middle.left now.left (bytes_of last) → IsTimely last start.left now.left → Counts t.mid.1.lines last done t.did.written b.1.lines → b.1.lines ≡ counted (lines_in bytes)
+    at : (last : Given) → Consumes t.middle.left now.left (bytes_of last) → IsTimely last start.left now.left → Counts (lines t.mid) last done t.did.written (lines b) → lines b ≡ counted (lines_in bytes)
     at (piece xs) gives timely does = absurd does
     at end gives timely does =
         let after : now.left ≡ Some [] = rw is at timely in

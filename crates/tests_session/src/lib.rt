@@ -6,12 +6,9 @@
 #![tactic(auto)]
 
 #[cfg(test)]
-mod ample;
+mod frames;
 #[cfg(test)]
-mod hostile;
-pub mod lines;
-#[cfg(test)]
-mod outcome;
+mod lines;
 #[cfg(test)]
 mod proxy;
 #[cfg(test)]
@@ -19,11 +16,22 @@ mod proxy_rows;
 #[cfg(test)]
 mod read_write;
 #[cfg(test)]
+mod reads;
+#[cfg(test)]
 mod relay;
 #[cfg(test)]
-mod server;
+mod serving;
 #[cfg(test)]
 mod session;
 #[cfg(test)]
+mod sessions;
+#[cfg(test)]
 mod small;
-pub mod spending;
+#[cfg(test)]
+mod spending;
+#[cfg(test)]
+mod stops;
+#[cfg(test)]
+mod table;
+#[cfg(test)]
+mod turns;

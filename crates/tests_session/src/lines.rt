@@ -2,13 +2,11 @@
 ghost use Rattle.std.specs.Prelude.{◌≡◌, ◌<◌, ◌^◌, ◌+◌, ⊤, IfOk, IfSome};
 ghost use Rattle.tests_session.specs.Lines.{lines_in, counted};
 
-#[cfg(test)]
-use lsp_rows::Trial;
-#[cfg(test)]
-use lsp_server::MemoryTransport;
-use lsp_server::{Consumer, ServeError, Sink, Transport, over_reads};
-#[cfg(test)]
-use std::test::Fail;
+use crate::table::{TableRow, try_table};
+use lsp_rows::{RowError, Trial};
+use lsp_rpc::NoMemory;
+use lsp_server::{Consumer, MemoryTransport, ServeError, Sink, Transport, over_reads};
+use std::alloc::Global;
 
 // Finds the ends of lines. It holds nothing from one piece to the next.
 #[derive(Drop)]
@@ -36,7 +34,7 @@ impl Count {
 impl Consumer<Count> for Lines {
     ghost use Rattle.tests_session.specs.LinesCounted.{counting};
 
-    ghost meaning = { counting };
+    ghost meaning = { counting (λ s. s.1.lines) };
 
     ghost Tied = { ⊤ };
 
@@ -58,7 +56,7 @@ impl Consumer<Count> for Lines {
 }
 
 // How many lines end in what is left of the transport.
-pub fn count_lines<T: Transport>(io: &mut T, reads: u64) -> Result<u64, ServeError>
+fn count_lines<T: Transport>(io: &mut T, reads: u64) -> Result<u64, ServeError>
     ensures { IfOk result (λ n. IfSome (T.left io.old) (λ bytes. n ≡ counted (lines_in bytes))) }
 {
     let mut count = Count { lines: 0 };
@@ -67,21 +65,21 @@ pub fn count_lines<T: Transport>(io: &mut T, reads: u64) -> Result<u64, ServeErr
 }
 
 // How many bytes a read gives at most.
-#[cfg(test)]
-const PIECES: &[usize] = &[1, 3, 4096];
+struct Piece(usize);
+
+const PIECES: &[Piece] = &[Piece(1), Piece(3), Piece(4096)];
+
+impl TableRow for Piece {
+    fn try_row(&self, trial: &mut Trial, alloc: Global) -> Result<(), NoMemory> {
+        let bytes = Vec::from_slice(alloc, b"a\nbc\n\nd")?;
+        let mut io = MemoryTransport::new(alloc, bytes, self.0.max(1));
+        trial.same(self.0, count_lines(&mut io, 1000), Ok(3));
+        trial.same(self.0, io.bytes().len(), 0);
+        Ok(())
+    }
+}
 
 #[test]
-fn lines_are_counted_over_reads(rt: HostRuntime) -> Result<(), Fail> {
-    let alloc = rt.alloc();
-    let mut trial = Trial::new(alloc);
-    for piece in PIECES {
-        if *piece == 0 {
-            return Err(Fail::new("no piece"));
-        }
-        let bytes = Vec::from_slice(alloc, b"a\nbc\n\nd")?;
-        let mut io = MemoryTransport::new(alloc, bytes, *piece);
-        trial.same(*piece, count_lines(&mut io, 1000), Ok(3));
-        trial.same(*piece, io.bytes().len(), 0);
-    }
-    Ok(trial.end()?)
+fn lines_are_counted_over_reads(rt: HostRuntime) -> Result<(), RowError> {
+    try_table(rt.alloc(), PIECES)
 }

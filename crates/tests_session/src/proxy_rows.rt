@@ -1,7 +1,10 @@
-//! A run of the proxy's program, in which each row of its table comes up.
-use crate::relay::{arguments_of, framed};
+//! Runs of the proxy's program: one in which each row of its table comes up, and other arguments.
+use crate::frames::{Part, bytes_of, push_frame};
+use crate::relay::{ASKED, SENT};
+use crate::table::{TableRow, try_table};
 use lsp_relay::{Status, run_proxy};
 use lsp_rows::{RowError, Trial};
+use lsp_rpc::NoMemory;
 use lsp_server::{NeverSink, NeverSource};
 use std::alloc::{AllocError, Global};
 
@@ -214,27 +217,73 @@ const ROWS: &[&[&str]] = &[
     ],
 ];
 
-// The frame of a message from a side, or to one.
-fn frame(alloc: Global, method: &str, params: &str) -> Result<Vec<u8>, AllocError> {
+// Appends the frame of a message from a side, or to one.
+fn push_message(
+    alloc: Global,
+    bytes: &mut Vec<u8>,
+    method: &str,
+    params: &str,
+) -> Result<(), AllocError> {
     let head = "{\"jsonrpc\":\"2.0\",\"method\":\"proxy/";
-    let text = format!(in alloc; "{head}{method}\",\"params\":{params}}}")?;
-    framed(alloc, &[text.as_str()])
+    let body = format!(in alloc; "{head}{method}\",\"params\":{params}}}")?;
+    push_frame(alloc, bytes, body.as_str())
 }
 
+fn arguments_of(alloc: Global, texts: &[&str]) -> Result<Vec<String>, AllocError> {
+    let mut arguments = Vec::new(alloc);
+    for text in texts {
+        arguments.push(String::from_str(alloc, text)?)?;
+    }
+    Ok(arguments)
+}
+
+// The program's status, and what it writes, with these arguments, by so many bytes a read.
 fn try_run(
     trial: &mut Trial,
     alloc: Global,
-    what: &str,
+    name: &str,
+    arguments: &[&str],
     told: Vec<u8>,
+    piece: usize,
+    status: Status,
     wanted: &[u8],
 ) -> Result<(), AllocError> {
-    let arguments = arguments_of(alloc, &["2"])?;
-    let mut source = NeverSource::new(told, 4096);
+    let arguments = arguments_of(alloc, arguments)?;
+    let mut source = NeverSource::new(told, piece.max(1));
     let mut sink = NeverSink::new(alloc);
-    let status = run_proxy(alloc, &arguments, &mut source, &mut sink);
-    trial.same(what, status, Status::Done as u8);
-    trial.same(what, sink.bytes(), wanted);
+    let found = run_proxy(alloc, &arguments, &mut source, &mut sink);
+    let what = format_args!("{name}: {arguments:?}, by {piece}");
+    trial.same(what, found, status as u8);
+    trial.same(name, sink.bytes(), wanted);
     Ok(())
+}
+
+// The row, of which `told` and `wanted` have what comes before it.
+fn try_row(
+    trial: &mut Trial,
+    alloc: Global,
+    row: &[&str],
+    told: &mut Vec<u8>,
+    wanted: &mut Vec<u8>,
+) -> Result<(), AllocError> {
+    let [what, message, sent @ ..] = row else {
+        return Ok(());
+    };
+    push_message(alloc, told, "in", message)?;
+    for each in sent {
+        push_message(alloc, wanted, "out", each)?;
+    }
+    let told = told.clone()?;
+    try_run(
+        trial,
+        alloc,
+        what,
+        &["2"],
+        told,
+        4096,
+        Status::Done,
+        wanted.as_slice(),
+    )
 }
 
 #[test]
@@ -244,15 +293,81 @@ fn each_row_of_the_table(rt: HostRuntime) -> Result<(), RowError> {
     let mut told = Vec::new(alloc);
     let mut wanted = Vec::new(alloc);
     for row in ROWS {
-        let mut texts = row.iter();
-        let (Some(what), Some(message)) = (texts.next(), texts.next()) else {
-            continue;
-        };
-        told.extend_from_slice(frame(alloc, "in", message)?.as_slice())?;
-        for sent in texts {
-            wanted.extend_from_slice(frame(alloc, "out", sent)?.as_slice())?;
-        }
-        try_run(&mut trial, alloc, *what, told.clone()?, wanted.as_slice())?;
+        try_row(&mut trial, alloc, row, &mut told, &mut wanted)?;
     }
     trial.end()
+}
+
+// Arguments, what is told then, by pieces of these sizes, the status, and what is written.
+struct Run {
+    name: &'static str,
+    arguments: &'static [&'static [&'static str]],
+    told: &'static [Part],
+    pieces: &'static [usize],
+    status: Status,
+    written: &'static [Part],
+}
+
+const RUNS: &[Run] = &[
+    Run {
+        name: "two editors with one id",
+        arguments: &[&["2"]],
+        told: ASKED,
+        pieces: &[1, 50, 4096],
+        status: Status::Done,
+        written: SENT,
+    },
+    Run {
+        name: "what isn't one number from 1 to 64",
+        arguments: &[
+            &[],
+            &["0"],
+            &["65"],
+            &["+2"],
+            &["2 "],
+            &[""],
+            &["-1"],
+            &["18446744073709551618"],
+            &["2", "2"],
+        ],
+        told: ASKED,
+        pieces: &[4096],
+        status: Status::Usage,
+        written: &[],
+    },
+    Run {
+        name: "the least number, and the greatest",
+        arguments: &[&["1"], &["64"], &["064"]],
+        told: &[],
+        pieces: &[4096],
+        status: Status::Done,
+        written: &[],
+    },
+];
+
+impl TableRow for Run {
+    fn try_row(&self, trial: &mut Trial, alloc: Global) -> Result<(), NoMemory> {
+        let wanted = bytes_of(alloc, self.written)?;
+        for arguments in self.arguments {
+            for piece in self.pieces {
+                let told = bytes_of(alloc, self.told)?;
+                try_run(
+                    trial,
+                    alloc,
+                    self.name,
+                    arguments,
+                    told,
+                    *piece,
+                    self.status,
+                    wanted.as_slice(),
+                )?;
+            }
+        }
+        Ok(())
+    }
+}
+
+#[test]
+fn arguments(rt: HostRuntime) -> Result<(), RowError> {
+    try_table(rt.alloc(), RUNS)
 }

@@ -1,6 +1,9 @@
 // One call of a reader or a writer of std for each call of a source or a sink.
+use crate::table::{TableRow, try_table};
 use lsp_rows::{RowError, Trial};
+use lsp_rpc::NoMemory;
 use lsp_server::{Failed, ReadSource, Refused, Sink, Source, WriteSink, write_all};
+use std::alloc::Global;
 use std::io;
 use std::io::{ErrorKind, Read, Write};
 
@@ -55,102 +58,80 @@ const READS: &[(Option<usize>, Result<usize, Failed>)] = &[
     (None, Err(Failed)),
 ];
 
-#[test]
-fn one_call_of_the_reader_for_each_read(rt: HostRuntime) -> Result<(), RowError> {
-    let mut trial = Trial::new(rt.alloc());
-    for (most, read) in READS {
+impl TableRow for (Option<usize>, Result<usize, Failed>) {
+    fn try_row(&self, trial: &mut Trial, _alloc: Global) -> Result<(), NoMemory> {
+        let (most, read) = self;
         let mut reads = 0;
         let mut source = ReadSource::new(CountedReader {
             most: *most,
             reads: &mut reads,
         });
-        let mut piece = [0; 5];
-        trial.same(
-            format_args!("at most {most:?}"),
-            source.read(&mut piece),
-            *read,
-        );
-        trial.same(format_args!("calls at most {most:?}"), reads, 1);
+        let found = source.read(&mut [0; 5]);
+        trial.same(format_args!("at most {most:?}"), (found, reads), (*read, 1));
+        Ok(())
     }
-    trial.end()
 }
 
-// How many bytes a write takes at most, and what a write and a flush answer.
-const CALLS: &[(Option<usize>, Result<usize, Refused>, Result<(), Refused>)] = &[
-    (Some(9), Ok(5), Ok(())),
-    (Some(5), Ok(5), Ok(())),
-    (Some(2), Ok(2), Ok(())),
-    (Some(0), Err(Refused::Failed), Ok(())),
-    (None, Err(Refused::Failed), Err(Refused::Failed)),
-];
-
 #[test]
-fn one_call_of_the_writer_for_each_call(rt: HostRuntime) -> Result<(), RowError> {
-    let mut trial = Trial::new(rt.alloc());
-    for (most, written, flushed) in CALLS {
-        let (mut writes, mut flushes) = (0, 0);
-        let mut sink = WriteSink::new(Counted {
-            most: *most,
-            writes: &mut writes,
-            flushes: &mut flushes,
-        });
-        trial.same(
-            format_args!("write at most {most:?}"),
-            sink.write(b"bytes"),
-            *written,
-        );
-        trial.same(
-            format_args!("calls at most {most:?}"),
-            (writes, flushes),
-            (1, 0),
-        );
-        let mut sink = WriteSink::new(Counted {
-            most: *most,
-            writes: &mut writes,
-            flushes: &mut flushes,
-        });
-        trial.same(
-            format_args!("flush at most {most:?}"),
-            sink.flush(),
-            *flushed,
-        );
-        trial.same(
-            format_args!("flushes at most {most:?}"),
-            (writes, flushes),
-            (1, 1),
-        );
-    }
-    trial.end()
+fn one_call_of_the_reader_for_each_read(rt: HostRuntime) -> Result<(), RowError> {
+    try_table(rt.alloc(), READS)
 }
 
-// How many bytes a write takes at most, and what comes of five, in how many writes.
-const ALL: &[(Option<usize>, Result<(), Refused>, u32)] = &[
-    (Some(9), Ok(()), 1),
-    (Some(2), Ok(()), 3),
-    (Some(0), Err(Refused::Failed), 1),
-    (None, Err(Refused::Failed), 1),
+// What is called, of five bytes.
+#[derive(Clone, Copy, Debug)]
+enum Call {
+    Write,
+    Flush,
+    All,
+}
+
+// How many bytes a write takes at most, what is called, what it answers, 0 where it gives no number,
+// and how many writes and flushes that takes.
+struct Row(Option<usize>, Call, Result<usize, Refused>, (u32, u32));
+
+const CALLS: &[Row] = &[
+    Row(Some(9), Call::Write, Ok(5), (1, 0)),
+    Row(Some(5), Call::Write, Ok(5), (1, 0)),
+    Row(Some(2), Call::Write, Ok(2), (1, 0)),
+    Row(Some(0), Call::Write, Err(Refused::Failed), (1, 0)),
+    Row(None, Call::Write, Err(Refused::Failed), (1, 0)),
+    Row(Some(9), Call::Flush, Ok(0), (0, 1)),
+    Row(Some(5), Call::Flush, Ok(0), (0, 1)),
+    Row(Some(2), Call::Flush, Ok(0), (0, 1)),
+    Row(Some(0), Call::Flush, Ok(0), (0, 1)),
+    Row(None, Call::Flush, Err(Refused::Failed), (0, 1)),
+    Row(Some(9), Call::All, Ok(0), (1, 0)),
+    Row(Some(2), Call::All, Ok(0), (3, 0)),
+    Row(Some(0), Call::All, Err(Refused::Failed), (1, 0)),
+    Row(None, Call::All, Err(Refused::Failed), (1, 0)),
 ];
 
-#[test]
-fn all_bytes_in_as_many_writes_as_it_takes(rt: HostRuntime) -> Result<(), RowError> {
-    let mut trial = Trial::new(rt.alloc());
-    for (most, answer, expected) in ALL {
-        let (mut writes, mut flushes) = (0, 0);
-        let mut sink = WriteSink::new(Counted {
-            most: *most,
-            writes: &mut writes,
-            flushes: &mut flushes,
-        });
-        trial.same(
-            format_args!("at most {most:?}"),
-            write_all(&mut sink, b"bytes"),
-            *answer,
-        );
-        trial.same(
-            format_args!("calls at most {most:?}"),
-            (writes, flushes),
-            (*expected, 0),
-        );
+// What the call answers, and how many writes and flushes it takes.
+fn called(most: Option<usize>, call: Call) -> (Result<usize, Refused>, (u32, u32)) {
+    let (mut writes, mut flushes) = (0, 0);
+    let mut sink = WriteSink::new(Counted {
+        most,
+        writes: &mut writes,
+        flushes: &mut flushes,
+    });
+    let answer = match call {
+        Call::Write => sink.write(b"bytes"),
+        Call::Flush => sink.flush().and(Ok(0)),
+        Call::All => write_all(&mut sink, b"bytes").and(Ok(0)),
+    };
+    (answer, (writes, flushes))
+}
+
+impl TableRow for Row {
+    fn try_row(&self, trial: &mut Trial, _alloc: Global) -> Result<(), NoMemory> {
+        let Row(most, call, answer, calls) = self;
+        let what = format_args!("{call:?}, at most {most:?}");
+        trial.same(what, called(*most, *call), (*answer, *calls));
+        Ok(())
     }
-    trial.end()
+}
+
+#[test]
+fn as_many_calls_of_the_writer_as_it_takes(rt: HostRuntime) -> Result<(), RowError> {
+    try_table(rt.alloc(), CALLS)
 }

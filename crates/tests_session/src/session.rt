@@ -1,67 +1,75 @@
-// Rows over a session with a small server.
+// Rows over a session with a small server, and single calls of what a session is made of.
 ghost use Rattle.std.specs.Prelude.{◌≡◌, false, IfOk};
 ghost use Rattle.lsp_desk.specs.Call.{call_has_float};
 ghost use Rattle.lsp_desk.specs.Shown.{show_client_call};
 ghost use Rattle.lsp_session.specs.Item.{show_item, item_has_float};
 
+use crate::frames::sink_of;
+use crate::sessions::{ANSWER_1, BARE_INITIALIZE};
 use crate::small::{Small, make_server};
+use crate::table::{TableRow, try_table};
 use lsp_desk::{Caller, ClientCall, ClientReply, Desk, PlainDesk, ServerCall, ServerReply};
 use lsp_rows::{RowError, Trial};
-use lsp_rpc::{Id, Message, Request, Response};
+use lsp_rpc::{Id, Message, NoMemory, Request, Response, TextFault};
+use lsp_server::{MemorySink, ServeError, Server};
 use lsp_session::{InOrder, Item, Life, Pending, Pick, Poll, Rotate, Session, step};
 use serde_json::Value;
 use std::alloc::{AllocError, Global};
-use std::test::Fail;
 
-fn item(alloc: Global, text: &str) -> Result<Item, Fail>
+fn request(alloc: Global, text: &str) -> Result<Item, TextFault>
     ensures { IfOk result (λ i. item_has_float (show_item i) ≡ false) }
 {
-    if text == "tick" {
-        return Ok(Item::Tick);
-    }
     Ok(Item::Message(Message::Request(Request::from_text(alloc, text)?)))
 }
 
-// Makes the step of an item, and writes who is answered, and how.
-fn make_step(
+// Makes the step of an item, or says why not.
+fn make_step(session: &mut Session<Small, PlainDesk>, item: Item, rounds: u64) -> &'static str
+    requires { item_has_float (show_item item) ≡ false }
+{
+    if session.is_stopped() {
+        return "stopped;";
+    }
+    if session.life() == Life::Exited {
+        return "exited;";
+    }
+    match step(session, item, &mut InOrder, rounds) {
+        Ok(()) => "",
+        Err(_) => "failed;",
+    }
+}
+
+// The same of the item of a text.
+fn make_step_of(
     alloc: Global,
     session: &mut Session<Small, PlainDesk>,
     text: &str,
     rounds: u64,
-    out: &mut String,
-) -> Result<(), Fail> {
-    if session.is_stopped() {
-        return Err(Fail::new("stopped"));
+) -> &'static str {
+    if text == "tick" {
+        return make_step(session, Item::Tick, rounds);
     }
-    if session.life() == Life::Exited {
-        out.push_str("exited;")?;
-        return Ok(());
+    match request(alloc, text) {
+        Ok(item) => make_step(session, item, rounds),
+        Err(_) => "no request;",
     }
-    if let Err(fault) = step(session, item(alloc, text)?, &mut InOrder, rounds) {
-        return Err(Fail::from(fault));
-    }
-    let messages = session.take_out();
-    let written = write_answers(alloc, &messages, out);
-    drop(messages);
-    written
 }
 
-fn write_answers(alloc: Global, messages: &[Message], out: &mut String) -> Result<(), Fail> {
-    for message in messages {
-        if let Message::Response(response) = message {
-            write_answer(alloc, response, out)?;
-        }
-    }
-    Ok(())
-}
-
-fn write_answer(alloc: Global, response: &Response, out: &mut String) -> Result<(), Fail> {
+fn write_answer(alloc: Global, response: &Response, out: &mut String) -> Result<(), AllocError> {
     let id = response.id();
     let line = match response.error() {
         Some(error) => format!(in alloc; "{} {};", id, error.code)?,
         None => format!(in alloc; "{} ok;", id)?,
     };
-    out.push_str(line.as_str())?;
+    out.push_str(line.as_str())
+}
+
+// Writes who is answered, and how.
+fn write_answers(alloc: Global, messages: &[Message], out: &mut String) -> Result<(), AllocError> {
+    for message in messages {
+        if let Message::Response(response) = message {
+            write_answer(alloc, response, out)?;
+        }
+    }
     Ok(())
 }
 
@@ -96,7 +104,7 @@ const ROWS: &[Row] = &[
         rounds: 8,
         items: &["{\"jsonrpc\":\"2.0\",\"method\":\"$/foo\",\"id\":0}"],
         out: "0 -32601;",
-        left: "",
+        left: "Ok([])",
     },
     Row {
         name: "a second `initialize` while the first goes on",
@@ -109,7 +117,7 @@ const ROWS: &[Row] = &[
             "tick",
         ],
         out: "2 -32600;1 ok;",
-        left: "",
+        left: "Ok([])",
     },
     Row {
         name: "an `initialize` that is cancelled, and another",
@@ -123,7 +131,7 @@ const ROWS: &[Row] = &[
             "tick",
         ],
         out: "1 -32800;3 ok;",
-        left: "",
+        left: "Ok([])",
     },
     Row {
         name: "an `initialize` that fails, and another",
@@ -136,7 +144,7 @@ const ROWS: &[Row] = &[
             "{\"jsonrpc\":\"2.0\",\"method\":\"initialize\",\"params\":0,\"id\":3}",
         ],
         out: "1 -32603;2 -32002;3 ok;",
-        left: "",
+        left: "Ok([])",
     },
     Row {
         name: "a request where as many wait as may",
@@ -150,7 +158,7 @@ const ROWS: &[Row] = &[
             "{\"jsonrpc\":\"2.0\",\"method\":\"wait\",\"params\":0,\"id\":4}",
         ],
         out: "1 ok;4 -32803;",
-        left: "2;3;",
+        left: "Ok([Number(2), Number(3)])",
     },
     Row {
         name: "a notification where as many wait as may",
@@ -164,7 +172,7 @@ const ROWS: &[Row] = &[
             "{\"jsonrpc\":\"2.0\",\"method\":\"initialized\",\"params\":{}}",
         ],
         out: "1 ok;",
-        left: "2;3;",
+        left: "Ok([Number(2), Number(3)])",
     },
     Row {
         name: "a call that waits is polled in the round that frees its slot",
@@ -178,7 +186,7 @@ const ROWS: &[Row] = &[
             "tick",
         ],
         out: "1 ok;2 ok;3 ok;",
-        left: "",
+        left: "Ok([])",
     },
     Row {
         name: "a live id, a cancel, and one that comes too late",
@@ -193,7 +201,7 @@ const ROWS: &[Row] = &[
             "{\"jsonrpc\":\"2.0\",\"method\":\"$/cancelRequest\",\"params\":{\"id\":2}}",
         ],
         out: "1 ok;2 -32600;2 -32800;",
-        left: "",
+        left: "Ok([])",
     },
     Row {
         name: "an exit answers all in order",
@@ -208,62 +216,102 @@ const ROWS: &[Row] = &[
             EXIT,
         ],
         out: "1 ok;2 -32800;5 -32800;exited;",
-        left: "",
+        left: "Ok([])",
     },
 ];
 
+// Makes the steps of the row's items, and writes who is answered, and how.
 fn make_steps(
     alloc: Global,
     session: &mut Session<Small, PlainDesk>,
     row: &Row,
-) -> Result<String, Fail> {
+) -> Result<String, AllocError> {
     let mut out = String::new(alloc);
     for text in row.items {
-        make_step(alloc, session, text, row.rounds, &mut out)?;
+        out.push_str(make_step_of(alloc, session, text, row.rounds))?;
+        let messages = session.take_out();
+        let written = write_answers(alloc, &messages, &mut out);
+        drop(messages);
+        written?;
     }
     Ok(out)
 }
 
-fn ids_left(alloc: Global, session: &Session<Small, PlainDesk>) -> Result<String, Fail> {
-    let ids = session.unanswered()?;
-    let mut left = String::new(alloc);
-    for id in &ids {
-        left.push_str(format!(in alloc; "{id};")?.as_str())?;
+impl TableRow for Row {
+    fn try_row(&self, trial: &mut Trial, alloc: Global) -> Result<(), NoMemory> {
+        let small = make_server(alloc)?;
+        let session = Session::new(alloc, small, PlainDesk::new(alloc), self.max.max(1));
+        let mut session = session.waiting_limit(self.wait);
+        trial.text(self.name, make_steps(alloc, &mut session, self), self.out);
+        trial.shows(self.name, session.unanswered(), self.left);
+        Ok(())
     }
-    Ok(left)
-}
-
-fn try_steps(
-    trial: &mut Trial,
-    alloc: Global,
-    session: &mut Session<Small, PlainDesk>,
-    row: &Row,
-) -> Result<(), Fail> {
-    let out = make_steps(alloc, session, row)?;
-    trial.same(row.name, out.as_str(), row.out);
-    let left = ids_left(alloc, session)?;
-    trial.same(row.name, left.as_str(), row.left);
-    Ok(())
-}
-
-fn try_row(trial: &mut Trial, alloc: Global, row: &Row) -> Result<(), Fail> {
-    if row.max == 0 {
-        return Err(Fail::new(row.name));
-    }
-    let session = Session::new(alloc, make_server(alloc)?, PlainDesk::new(alloc), row.max);
-    let mut session = session.waiting_limit(row.wait);
-    let tried = try_steps(trial, alloc, &mut session, row);
-    drop(session);
-    tried
 }
 
 #[test]
-fn rows(rt: HostRuntime) -> Result<(), Fail> {
-    let mut trial = Trial::new(rt.alloc());
-    for row in ROWS {
-        try_row(&mut trial, rt.alloc(), row)?;
+fn rows(rt: HostRuntime) -> Result<(), RowError> {
+    try_table(rt.alloc(), ROWS)
+}
+
+// The step of an item in a session of its own.
+fn first_step(
+    alloc: Global,
+    sink: &mut MemorySink,
+    small: Small,
+    item: Item,
+) -> Result<(), ServeError>
+    requires { item_has_float (show_item item) ≡ false }
+{
+    let mut session = Session::new(alloc, small, PlainDesk::new(alloc), 4);
+    Server::<PlainDesk>::step(alloc, sink, &mut session, item, &mut InOrder, 1)
+}
+
+// A tick of a session that has begun nothing.
+fn first_tick(alloc: Global, sink: &mut MemorySink, small: Small) -> Result<(), ServeError> {
+    let mut session = Session::new(alloc, small, PlainDesk::new(alloc), 4);
+    Server::<PlainDesk>::idle(alloc, sink, &mut session, &mut InOrder, 1)
+}
+
+fn try_step(trial: &mut Trial, alloc: Global, sink: &mut MemorySink, small: Small) {
+    match request(alloc, BARE_INITIALIZE) {
+        Ok(item) => trial.same("a step", first_step(alloc, sink, small, item), Ok(())),
+        Err(_) => trial.is_true("a request", false),
     }
-    Ok(trial.end()?)
+}
+
+// The tick puts nothing out.
+#[test]
+fn one_step_and_a_tick(rt: HostRuntime) -> Result<(), RowError> {
+    let alloc = rt.alloc();
+    let mut trial = Trial::new(alloc);
+    let mut sink = sink_of(alloc, 0)?;
+    try_step(&mut trial, alloc, &mut sink, make_server(alloc)?);
+    trial.same("its bytes", sink.bytes(), ANSWER_1);
+    let ticked = first_tick(alloc, &mut sink, make_server(alloc)?);
+    trial.same("a tick", ticked, Ok(()));
+    trial.same("no more bytes", sink.bytes(), ANSWER_1);
+    trial.end()
+}
+
+const ERRORS: &[(ServeError, &str)] = &[
+    (ServeError::ReadFault, "read failed"),
+    (ServeError::WriteFault, "write failed"),
+    (ServeError::ReadsSpent, "reads spent"),
+    (ServeError::DeskSpent(7), "desk spent"),
+    (ServeError::DeskSpent(u64::MAX), "desk spent"),
+    (ServeError::NoMemory, "out of memory"),
+];
+
+impl TableRow for (ServeError, &str) {
+    fn try_row(&self, trial: &mut Trial, alloc: Global) -> Result<(), NoMemory> {
+        trial.text(self.1, self.0.to_string(alloc), self.1);
+        Ok(())
+    }
+}
+
+#[test]
+fn texts_of_errors(rt: HostRuntime) -> Result<(), RowError> {
+    try_table(rt.alloc(), ERRORS)
 }
 
 // The first three numbers of a pick.
@@ -272,15 +320,15 @@ fn three<P: Pick + Drop>(mut pick: P) -> (u64, u64, u64) {
 }
 
 #[test]
-fn picks_tables_and_ids(rt: HostRuntime) -> Result<(), Fail> {
+fn picks_tables_and_ids(rt: HostRuntime) -> Result<(), RowError> {
     let alloc = rt.alloc();
     let mut trial = Trial::new(alloc);
     let rotated = three(Rotate::new(u64::MAX));
     trial.same("rotated", rotated, (u64::MAX, 0, 1));
     trial.same("in order", three(InOrder), (0, 0, 0));
     try_ids(&mut trial, Pending::new(alloc));
-    try_table(&mut trial, alloc, make_server(alloc)?);
-    Ok(trial.end()?)
+    try_methods(&mut trial, alloc, make_server(alloc)?);
+    trial.end()
 }
 
 fn try_ids(trial: &mut Trial, mut live: Pending) {
@@ -294,7 +342,7 @@ fn try_ids(trial: &mut Trial, mut live: Pending) {
     drop(live);
 }
 
-fn try_table(trial: &mut Trial, alloc: Global, small: Small) {
+fn try_methods(trial: &mut Trial, alloc: Global, small: Small) {
     let session = Session::new(alloc, small, PlainDesk::new(alloc), 1);
     trial.is_true("it is ready", session.poll_ready() == Poll::Ready(Ok(())));
     trial.is_true("it goes on", session.exited().is_none());
@@ -307,26 +355,34 @@ fn try_table(trial: &mut Trial, alloc: Global, small: Small) {
 
 const MANY: i64 = 400_000;
 
+// Whether each of so many ids is new, or live.
+fn are_executed(live: &mut Pending, is_new: bool) -> bool {
+    for n in 1..=MANY {
+        if live.execute(Id::Number(n)) != Ok(is_new) {
+            return false;
+        }
+    }
+    true
+}
+
+fn are_in_order(ids: &[Id]) -> bool {
+    for (id, n) in ids.iter().zip(1..=MANY) {
+        if *id != Id::Number(n) {
+            return false;
+        }
+    }
+    ids.len() == MANY as usize
+}
+
 // So many live ids and waiting calls take about as long each as a few: a walk over all that is held
 // at each of them would not end within a test's time.
 #[test]
 fn many_live(rt: HostRuntime) -> Result<(), RowError> {
-    let alloc = rt.alloc();
-    let mut trial = Trial::new(alloc);
-    let mut live = Pending::new(alloc);
-    for n in 0..MANY {
-        trial.same(n, live.execute(Id::Number(n + 1)), Ok(true));
-    }
-    for n in 0..MANY {
-        trial.same(n, live.execute(Id::Number(n + 1)), Ok(false));
-    }
-    let ids = live.cancel_all();
-    trial.same("how many ids", ids.len(), MANY as usize);
-    let mut next = 1;
-    for id in &ids {
-        trial.is_true(next, *id == Id::Number(next));
-        next = next.wrapping_add(1);
-    }
+    let mut trial = Trial::new(rt.alloc());
+    let mut live = Pending::new(rt.alloc());
+    trial.is_true("each is new", are_executed(&mut live, true));
+    trial.is_true("each is live", are_executed(&mut live, false));
+    trial.is_true("all in order", are_in_order(&live.cancel_all()));
     trial.end()
 }
 

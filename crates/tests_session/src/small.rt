@@ -5,11 +5,10 @@ ghost use Rattle.lsp_session.specs.TableView.{methods_of};
 ghost use Rattle.tests_session.specs.Trial.{trial, trial_lawful, EndsWithout};
 
 use lsp_desk::{Caller, DeskFault};
-use lsp_rpc::Error;
+use lsp_rpc::{Error, NoMemory};
 use lsp_session::{CallMisfit, Entry, Handlers, Kind, Layer, MethodTable, Progress};
 use serde_json::Value;
 use std::alloc::Global;
-use std::test::Fail;
 
 // A server whose calls end after so many polls, as their params say; below 0 they fail.
 #[derive(Drop)]
@@ -81,13 +80,19 @@ impl<D: Caller> Handlers<D> for Small {
     }
 }
 
-pub(crate) fn make_server(alloc: Global) -> Result<Small, Fail> {
+const METHODS: &[(&str, Layer, Kind)] = &[
+    ("initialize", Layer::Initialize, Kind::Request),
+    ("initialized", Layer::Normal, Kind::Notification),
+    ("shutdown", Layer::Shutdown, Kind::Request),
+    ("exit", Layer::Exit, Kind::Notification),
+    ("$/cancelRequest", Layer::Cancel, Kind::Notification),
+    ("wait", Layer::Normal, Kind::Request),
+];
+
+pub(crate) fn make_server(alloc: Global) -> Result<Small, NoMemory> {
     let mut table = MethodTable::new(alloc);
-    table.method("initialize", Layer::Initialize, Kind::Request)?;
-    table.method("initialized", Layer::Normal, Kind::Notification)?;
-    table.method("shutdown", Layer::Shutdown, Kind::Request)?;
-    table.method("exit", Layer::Exit, Kind::Notification)?;
-    table.method("$/cancelRequest", Layer::Cancel, Kind::Notification)?;
-    table.method("wait", Layer::Normal, Kind::Request)?;
+    for (name, layer, kind) in METHODS {
+        table.method(*name, *layer, *kind)?;
+    }
     Ok(Small { table })
 }

@@ -11,19 +11,18 @@ use std::alloc::Global;
 
 /// A desk with so many turns, after which each call finds it spent.
 #[derive(Drop)]
-pub struct Spending {
+pub(crate) struct Spending {
     desk: PlainDesk,
     left: u64,
     is_spent: bool,
 }
 
 impl Spending {
-    ghost use Rattle.lsp_desk.specs.Meaning.{IsOpening};
-    ghost use Rattle.tests_session.specs.Spending.{spending_meaning};
+    ghost use Rattle.tests_session.specs.Spending.{OpensAt};
 
     /// A desk on which nothing was done.
-    pub fn new(alloc: Global, turns: u64) -> Spending
-        ensures { IsOpening spending_meaning result }
+    pub(crate) fn new(alloc: Global, turns: u64) -> Spending
+        ensures { OpensAt result (λ s. s.desk) (λ s. s.is_spent) }
     {
         Spending {
             desk: PlainDesk::new(alloc),
@@ -33,7 +32,7 @@ impl Spending {
     }
 
     /// How many turns are left.
-    pub fn left(&self) -> u64
+    pub(crate) fn left(&self) -> u64
         ensures { result ≡ self.now.left }
     {
         self.left
@@ -59,14 +58,14 @@ impl Caller for Spending {
     ghost use Rattle.lsp_desk.specs.Meaning.{Calls};
     ghost use Rattle.tests_session.specs.Spending.{spending_meaning, spending_laws};
 
-    ghost meaning = { spending_meaning };
+    ghost meaning = { spending_meaning (λ s. s.desk) (λ s. s.is_spent) };
 
     fn client(&mut self, call: ClientCall) -> Result<ClientReply, DeskFault> {
         self.turn()?;
         self.desk.client(call)
     }
 
-    ghost laws = { spending_laws };
+    ghost laws = { spending_laws (λ s. s.desk) (λ s. s.is_spent) };
 }
 
 impl Desk for Spending {
