@@ -6,7 +6,6 @@ use lsp_shared::SharedDesk;
 use lsp_talk::{Gate, Open, talk_with};
 use std::alloc::Global;
 use std::hint::spin_loop;
-use std::str;
 use std::sync::Wait;
 use std::sync::atomic::{AtomicU64, Ordering};
 use std::thread::Threads;
@@ -44,48 +43,14 @@ impl AfterTheSecond {
     }
 }
 
-#[test]
-fn callers_beside(rt: HostRuntime) -> Result<(), RowError> {
-    let alloc = rt.alloc();
-    let (desk, seat) = SharedDesk::new(alloc)?;
-    let gate = AfterTheSecond {
-        come: AtomicU64::new(0),
-        missed: AtomicU64::new(0),
-    };
-    let mut sink = MemorySink::new(alloc, Vec::new(alloc));
-    let owner = desk.owner(&rt, seat);
-    let (status, owner) = talk_with(&rt, alloc, 2, 3, owner, &gate, &mut sink);
-    let mut trial = Trial::new(alloc);
-    trial.same(
-        "the second didn't come",
-        gate.missed.load(Ordering::SeqCst),
-        0,
-    );
-    trial.same("status", status, 0);
-    trial.same(
-        "written",
-        str::from_utf8(sink.bytes()),
-        Ok("sent 6 delivered 6\n"),
-    );
-    trial.same("share", owner.share(), 1 << 63);
-    trial.end()
-}
-
-// Clones, messages, and the line.
-const TALKS: &[(u64, u64, &str)] = &[
-    (1, 0, "sent 0 delivered 0\n"),
-    (1, 1, "sent 1 delivered 1\n"),
-    (3, 7, "sent 21 delivered 21\n"),
-    (4, 1000, "sent 4000 delivered 4000\n"),
-];
-
 // Tries that a talk of so many clones and messages, which are within its bounds, writes that line.
-fn try_talk<R: Threads + Wait + Sync>(
+fn try_talk<R: Threads + Wait + Sync, G: Gate + Sync>(
     rt: &R,
     trial: &mut Trial,
     alloc: Global,
     clones: u64,
     messages: u64,
+    gate: &G,
     line: &str,
 ) -> Result<(), NoMemory> {
     let (desk, seat) = SharedDesk::new(alloc)?;
@@ -97,21 +62,58 @@ fn try_talk<R: Threads + Wait + Sync>(
         clones.min(4),
         messages.min(1000),
         owner,
-        &Open,
+        gate,
         &mut sink,
     );
+    let share = owner.share();
     drop(owner);
-    trial.same(line, status, 0);
-    trial.same(line, str::from_utf8(sink.bytes()), Ok(line));
+    trial.same(line, (status, share), (0, 1 << 63));
+    trial.same(line, sink.bytes(), line.as_bytes());
     Ok(())
 }
 
 #[test]
+fn callers_beside(rt: HostRuntime) -> Result<(), RowError> {
+    let mut trial = Trial::new(rt.alloc());
+    let gate = AfterTheSecond {
+        come: AtomicU64::new(0),
+        missed: AtomicU64::new(0),
+    };
+    try_talk(
+        &rt,
+        &mut trial,
+        rt.alloc(),
+        2,
+        3,
+        &gate,
+        "sent 6 delivered 6\n",
+    )?;
+    let missed = gate.missed.load(Ordering::SeqCst);
+    trial.same("the second didn't come", missed, 0);
+    trial.end()
+}
+
+// Clones, messages, and the line.
+const TALKS: &[(u64, u64, &str)] = &[
+    (1, 0, "sent 0 delivered 0\n"),
+    (1, 1, "sent 1 delivered 1\n"),
+    (3, 7, "sent 21 delivered 21\n"),
+    (4, 1000, "sent 4000 delivered 4000\n"),
+];
+
+#[test]
 fn lines(rt: HostRuntime) -> Result<(), RowError> {
-    let alloc = rt.alloc();
-    let mut trial = Trial::new(alloc);
+    let mut trial = Trial::new(rt.alloc());
     for (clones, messages, line) in TALKS {
-        try_talk(&rt, &mut trial, alloc, *clones, *messages, *line)?;
+        try_talk(
+            &rt,
+            &mut trial,
+            rt.alloc(),
+            *clones,
+            *messages,
+            &Open,
+            *line,
+        )?;
     }
     trial.end()
 }

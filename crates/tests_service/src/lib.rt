@@ -6,15 +6,11 @@
 #![tactic(auto)]
 
 #[cfg(test)]
-mod asks;
-#[cfg(test)]
 mod callers;
 #[cfg(test)]
 mod client;
 #[cfg(test)]
 mod counts;
-#[cfg(test)]
-mod folders;
 #[cfg(test)]
 mod idle;
 #[cfg(test)]
@@ -22,9 +18,9 @@ mod made;
 #[cfg(test)]
 mod pump_rows;
 #[cfg(test)]
-mod replies;
-#[cfg(test)]
 mod served;
+#[cfg(test)]
+mod sessions;
 #[cfg(test)]
 mod silent;
 #[cfg(test)]

@@ -36,16 +36,6 @@ pub(crate) fn make_service(alloc: Global) -> Result<Made, RowError>
     })
 }
 
-#[test]
-fn custom_methods_are_numbered(rt: HostRuntime) -> Result<(), RowError> {
-    let made = make_service(rt.alloc())?;
-    let numbers = made.numbers;
-    drop(made);
-    let mut trial = Trial::new(rt.alloc());
-    trial.same("their numbers", numbers, [0, 1]);
-    trial.end()
-}
-
 // A socket whose session has ended.
 fn exited_socket(alloc: Global) -> ClientSocket<PlainDesk> {
     let mut desk = PlainDesk::new(alloc);
@@ -54,13 +44,17 @@ fn exited_socket(alloc: Global) -> ClientSocket<PlainDesk> {
 }
 
 #[test]
-fn a_service_is_ready_until_exit(rt: HostRuntime) -> Result<(), RowError> {
+fn custom_methods_are_numbered_and_a_service_is_ready_until_exit(
+    rt: HostRuntime,
+) -> Result<(), RowError> {
     let alloc = rt.alloc();
     let mut made = make_service(alloc)?;
+    let numbers = made.numbers;
     let at_first = made.service.poll_ready(&mut made.socket);
     let after_exit = made.service.poll_ready(&mut exited_socket(alloc));
     drop(made);
     let mut trial = Trial::new(alloc);
+    trial.same("their numbers", numbers, [0, 1]);
     trial.shows("at first", at_first, "Ok(Ready(Ok(())))");
     trial.shows("after exit", after_exit, "Ok(Ready(Err(ExitedError)))");
     trial.end()
