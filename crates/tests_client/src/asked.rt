@@ -6,13 +6,13 @@ ghost use Rattle.lsp_desk.specs.Shown.{show_server_call};
 use lsp_client::{Answered, Asked, Told};
 use lsp_desk::{Desk, DeskFault, ServerCall, ServerReply};
 use lsp_rows::text_of;
-use lsp_rpc::{NoMemory, Response};
+use lsp_rpc::Response;
 use lsp_shape::{Misfit, Wire};
 use serde_json::Value;
 use std::alloc::Global;
 
 /// What became of a notification.
-pub(crate) fn told(alloc: Global, told: Result<Told, DeskFault>) -> Result<String, NoMemory> {
+pub(crate) fn told(alloc: Global, told: Result<Told, DeskFault>) -> Result<String, Misfit> {
     match told {
         Ok(told) => Ok(format!(in alloc; "{told:?}")?),
         Err(fault) => Ok(format!(in alloc; "{fault:?}")?),
@@ -23,7 +23,7 @@ pub(crate) fn told(alloc: Global, told: Result<Told, DeskFault>) -> Result<Strin
 pub(crate) fn asked<R>(
     alloc: Global,
     asked: Result<Asked<R>, DeskFault>,
-) -> Result<String, NoMemory> {
+) -> Result<String, Misfit> {
     match asked {
         Ok(Asked::Ticket(_)) => Ok(String::from_str(alloc, "Ticket")?),
         Ok(Asked::Refused(error)) => Ok(format!(in alloc; "Refused({})", error.code.code())?),
@@ -35,9 +35,9 @@ pub(crate) fn asked<R>(
 pub(crate) fn answered<R, A: Wire>(
     alloc: Global,
     answered: Result<Answered<R, A>, DeskFault>,
-) -> Result<String, NoMemory> {
+) -> Result<String, Misfit> {
     match answered {
-        Ok(Answered::Value(value)) => text_of(alloc, &value),
+        Ok(Answered::Value(value)) => Ok(text_of(alloc, &value)?),
         Ok(Answered::Error(error)) => Ok(format!(in alloc; "Error({})", error.code.code())?),
         Ok(Answered::Pending(_)) => Ok(String::from_str(alloc, "Pending")?),
         Err(fault) => Ok(format!(in alloc; "{fault:?}")?),
@@ -57,11 +57,11 @@ pub(crate) fn serve<D: Desk>(
     alloc: Global,
     desk: &mut D,
     call: ServerCall,
-) -> Result<String, NoMemory>
+) -> Result<String, Misfit>
     requires { call_has_float (show_server_call call) ≡ false }
 {
     match desk.server(call) {
-        Ok(ServerReply::First(Some(request))) => request.to_text(alloc),
+        Ok(ServerReply::First(Some(request))) => Ok(request.to_text(alloc)?),
         Ok(ServerReply::Messages(_)) => Ok(String::from_str(alloc, "Messages")?),
         Ok(reply) => Ok(format!(in alloc; "{reply:?}")?),
         Err(fault) => Ok(format!(in alloc; "{fault:?}")?),
@@ -71,7 +71,7 @@ pub(crate) fn serve<D: Desk>(
 /// What a desk replies to an answer of the client.
 pub(crate) fn answer<D: Desk>(alloc: Global, desk: &mut D, text: &str) -> Result<String, Misfit> {
     match Response::from_text(alloc, text) {
-        Ok(response) => Ok(serve(alloc, desk, ServerCall::Answer(response))?),
+        Ok(response) => serve(alloc, desk, ServerCall::Answer(response)),
         Err(_) => Err(Misfit::Unfit),
     }
 }

@@ -7,7 +7,7 @@ use lsp_kinds::MessageType;
 use lsp_methods::notification::Progress;
 use lsp_methods::request::{HoverRequest, WorkspaceFoldersRequest};
 use lsp_rows::{RowError, Trial};
-use lsp_shape::{Misfit, NoMemory};
+use lsp_shape::Misfit;
 use std::alloc::Global;
 
 // A step of a test, with the text of its params where it has any.
@@ -54,7 +54,7 @@ fn send_message<D: Client>(alloc: Global, desk: &mut D, call: Call) -> Result<St
         }
         _ => Err(DeskFault::NoMemory),
     };
-    Ok(told(alloc, made)?)
+    told(alloc, made)
 }
 
 fn publish<D: Client>(
@@ -71,20 +71,20 @@ fn ask_of_window<D: Client>(alloc: Global, desk: &mut D, call: Call) -> Result<S
     match call {
         Call::Register(registrations) => {
             let made = desk.register_capability(alloc, read(alloc, registrations)?);
-            Ok(asked(alloc, made)?)
+            asked(alloc, made)
         }
         Call::Unregister(registrations) => {
             let made = desk.unregister_capability(alloc, read(alloc, registrations)?);
-            Ok(asked(alloc, made)?)
+            asked(alloc, made)
         }
         Call::ShowMessageRequest(actions) => {
             let actions = read(alloc, actions)?;
             let made = desk.show_message_request(alloc, MessageType::INFO, "which", actions);
-            Ok(asked(alloc, made)?)
+            asked(alloc, made)
         }
         Call::ShowDocument(params) => {
             let made = desk.show_document(alloc, read(alloc, params)?);
-            Ok(asked(alloc, made)?)
+            asked(alloc, made)
         }
         other => send_message(alloc, desk, other),
     }
@@ -92,18 +92,18 @@ fn ask_of_window<D: Client>(alloc: Global, desk: &mut D, call: Call) -> Result<S
 
 fn make<D: Client>(alloc: Global, desk: &mut D, call: Call) -> Result<String, Misfit> {
     match call {
-        Call::Refresh => Ok(asked(alloc, desk.inlay_hint_refresh(alloc))?),
+        Call::Refresh => asked(alloc, desk.inlay_hint_refresh(alloc)),
         Call::Configuration(items) => {
             let made = desk.configuration(alloc, read(alloc, items)?);
-            Ok(asked(alloc, made)?)
+            asked(alloc, made)
         }
         Call::ApplyEdit(edit) => {
             let made = desk.apply_edit(alloc, read(alloc, edit)?);
-            Ok(asked(alloc, made)?)
+            asked(alloc, made)
         }
         Call::Hover(params) => {
             let made = desk.send_request::<HoverRequest>(alloc, read(alloc, params)?);
-            Ok(asked(alloc, made)?)
+            asked(alloc, made)
         }
         Call::NextId => {
             let drawn = desk.next_request_id();
@@ -128,7 +128,7 @@ impl Tried {
         }
     }
 
-    fn ask_folders(&mut self, alloc: Global) -> Result<String, NoMemory> {
+    fn ask_folders(&mut self, alloc: Global) -> Result<String, Misfit> {
         match self.desk.workspace_folders(alloc) {
             Ok(Asked::Ticket(ticket)) => {
                 self.folders = Some(ticket);
@@ -138,7 +138,7 @@ impl Tried {
         }
     }
 
-    fn poll_folders(&mut self, alloc: Global) -> Result<String, NoMemory> {
+    fn poll_folders(&mut self, alloc: Global) -> Result<String, Misfit> {
         match self.folders.take() {
             None => Ok(String::from_str(alloc, "no ticket")?),
             Some(ticket) => match self.desk.poll_answer(alloc, ticket) {
@@ -153,12 +153,12 @@ impl Tried {
 
     fn step(&mut self, alloc: Global, step: Step) -> Result<String, Misfit> {
         match step {
-            Step::Rise(life) => Ok(serve(alloc, &mut self.desk, ServerCall::Rise(life))?),
-            Step::Close => Ok(serve(alloc, &mut self.desk, ServerCall::Close)?),
-            Step::Next => Ok(serve(alloc, &mut self.desk, ServerCall::Next)?),
+            Step::Rise(life) => serve(alloc, &mut self.desk, ServerCall::Rise(life)),
+            Step::Close => serve(alloc, &mut self.desk, ServerCall::Close),
+            Step::Next => serve(alloc, &mut self.desk, ServerCall::Next),
             Step::Answer(text) => answer(alloc, &mut self.desk, text),
-            Step::Folders => Ok(self.ask_folders(alloc)?),
-            Step::PollFolders => Ok(self.poll_folders(alloc)?),
+            Step::Folders => self.ask_folders(alloc),
+            Step::PollFolders => self.poll_folders(alloc),
             Step::Call(call) => make(alloc, &mut self.desk, call),
         }
     }
