@@ -9,7 +9,7 @@ ghost use Rattle.lsp_shared.specs.Desks.{desk_id, rested_view};
 ghost use Rattle.lsp_shared.specs.Seats.{seat_meaning, seat_view, seat_desk, entries_seen};
 ghost use Rattle.lsp_shared.specs.Steps.{by_client, by_server, Answered, HasTurn, joined, learned, Begins, AddsClients, IsSoundView};
 ghost use Rattle.lsp_callers.specs.Counted.{delivered_in};
-ghost use Rattle.lsp_callers.specs.Given.{is_take as is_take_lem, messages_given};
+ghost use Rattle.lsp_callers.specs.Given.{is_take as is_take_def, messages_given};
 
 use lsp_desk::{Caller, ClientCall, ClientReply, Desk, DeskFault, ServerCall, ServerReply};
 use lsp_shared::{DeskOwner, Rested, SharedClient, SharedDesk};
@@ -160,7 +160,7 @@ impl<'a, R: Wait + Sync> Desk for Tallied<'a, R> {
 }
 
 fn is_take(call: &ServerCall) -> bool
-    ensures { result ≡ is_take_lem (show_server_call call.now) }
+    ensures { result ≡ is_take_def (show_server_call call.now) }
 {
     matches!(call, ServerCall::Take)
 }

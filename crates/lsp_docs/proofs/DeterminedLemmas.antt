@@ -7,6 +7,7 @@ use Rattle.lsp_desk.specs.Trace.{DeskEntry, Replays}
 use Rattle.lsp_frame.specs.Codec.{frames}
 use Rattle.lsp_server.specs.Course.{course}
 use Rattle.lsp_server.specs.Items.{stream_items}
+use Rattle.lsp_session.proofs.SameRunLemmas.{same_run}
 use Rattle.lsp_session.specs.declared.table.Entry.{Entry}
 use Rattle.lsp_session.specs.declared.table.Kind.{Kind}
 use Rattle.lsp_session.specs.Run.{Order, Step, Run, replied, served}
@@ -24,7 +25,6 @@ use Rattle.lsp_service.specs.Service.{service_semantics, kept_call, progress_of,
 use Rattle.lsp_docs.specs.declared.docs.DocsServer.{DocsServer}
 use Rattle.lsp_docs.specs.Determined.{PollsAreAFunction, SessionsAreAFunction}
 use Rattle.lsp_docs.specs.Docs.{DocsTurn, replies, tells, docs_turn, TurnsTo, is_refused, refused_call, LogsRefusal, DocsPoll, docs_semantics}
-use Rattle.lsp_docs.proofs.SameRunLemmas.{same_run}
 
 -- ---- a poll
 
@@ -103,7 +103,7 @@ sessions_are_a_function task kind m order setting alone call call2 view view2 pi
     let codec = (course semantics m order setting).codec in
     let items = served find (stream_items codec call.bytes) in
     let run = subst (λ bs. Run (Step semantics order setting.rounds) start (served find (stream_items codec bs)) k.ran.effect k.last) bytes k.ran.run in
-    let same = same_run semantics order seen_of same_find (same_ends task kind) setting.rounds items start h.ran.effect k.ran.effect h.last k.last h.ran.run run
+    let same = same_run semantics order seen_of (record { finds = same_find; ends = same_ends task kind }) setting.rounds items start h.ran.effect k.ran.effect h.last k.last h.ran.run run
     (h.ran.grows.all_own alone) (k.ran.grows.all_own alone) in (
       same_taken before (frames h.ran.effect.out) (frames k.ran.effect.out) call.taken call2.taken call.taken_after call2.taken_after taken taken2 h.ran.writes k.ran.writes (ap (λ (e : Effect). frames e.out) same.0),
       ap (λ (s : LspService DocsServer). s.server) k.service_is ∙ ap (λ (x : Seen). x.0) same.1 ∙ sym (ap (λ (s : LspService DocsServer). s.server) h.service_is),

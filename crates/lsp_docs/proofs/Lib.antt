@@ -3,6 +3,5 @@ pub mod DeterminedLemmas
 pub mod DocsLemmas
 pub mod NoticeLemmas
 pub mod ParamsLemmas
-pub mod SameRunLemmas
 pub mod ShownLemmas
 pub mod TurnLemmas

@@ -1,4 +1,3 @@
-pub mod Begun
 pub mod Determined
 pub mod Docs
 pub mod DocsLaws

@@ -8,7 +8,7 @@ ghost use Rattle.lsp_desk.specs.Meaning.{PollsOn};
 ghost use Rattle.lsp_session.specs.Fails.{PollFails};
 ghost use Rattle.lsp_service.specs.Replies.{initialize_data, show_life_reply, show_offer};
 ghost use Rattle.lsp_service.specs.Data.{noted};
-ghost use Rattle.lsp_docs.specs.Docs.{requested_uri as requested_uri_lem, text_answer, found_data, offered, replies, Heeded, LogsRefusal, TakesTurn};
+ghost use Rattle.lsp_docs.specs.Docs.{requested_uri as requested_uri_def, text_answer, found_data, offered, replies, Heeded, LogsRefusal, TakesTurn};
 ghost use Rattle.lsp_docs.specs.Typed.{opening_of, changes_of, closing_of, life_turn, sync_turn, reply_or_error};
 
 use lsp_client::Client;
@@ -161,7 +161,7 @@ impl DocsServer {
         params: Option<Value>,
     ) -> Result<Result<Value, Error>, NoMemory>
         ensures { IfOk result (λ body. show_body body
-            ≡ text_answer self.now.documents (requested_uri_lem (option_map view params))) }
+            ≡ text_answer self.now.documents (requested_uri_def (option_map view params))) }
     {
         let uri = match &params {
             Some(params) => requested_uri(params),
@@ -282,7 +282,7 @@ fn capabilities() -> ServerCapabilities
 
 // The params of `docs/text` are an object with a string `uri`.
 fn requested_uri(params: &Value) -> Option<&str>
-    ensures { option_map (λ uri. uri.now) result ≡ requested_uri_lem (Some (view params.now)) }
+    ensures { option_map (λ uri. uri.now) result ≡ requested_uri_def (Some (view params.now)) }
 {
     params.get("uri").and_then(Value::as_str)
 }

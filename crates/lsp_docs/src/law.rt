@@ -5,7 +5,7 @@ ghost use Rattle.lsp_service.specs.declared.server.NoTask.{NoTask};
 ghost use Rattle.lsp_service.specs.Service.{service_semantics};
 ghost use Rattle.lsp_docs.specs.Determined.{PollsAreAFunction, SessionsAreAFunction};
 ghost use Rattle.lsp_docs.specs.Docs.{docs_semantics};
-ghost use Rattle.lsp_docs.specs.Notices.{HoldsDocuments};
+ghost use Rattle.lsp_docs.specs.Notices.{AnswersTexts, HoldsDocuments};
 
 use lsp_desk::Caller;
 use lsp_session::Pick;
@@ -15,6 +15,14 @@ use lsp_session::Pick;
 /// tasks are kept in.
 pub fn documents_are_those_told<T, P: Pick>()
     ensures { (task : T → NoTask) → (kind : T → Kind) → HoldsDocuments
+        (service_semantics docs_semantics task kind) (λ c. c.call) (order_by P.gives P.later) }
+{}
+
+/// After a run a `docs/text` is answered in the step that begins it, as the documents give it that
+/// the notifications leave which were begun before it, in order of admission. The run is of the
+/// handlers that a service of this server is, whatever its tasks are kept in.
+pub fn texts_are_those_told<T, P: Pick>()
+    ensures { (task : T → NoTask) → (kind : T → Kind) → AnswersTexts
         (service_semantics docs_semantics task kind) (λ c. c.call) (order_by P.gives P.later) }
 {}
 

@@ -64,7 +64,7 @@ boundary bs p u =
 abbrev pub IsCut : List ℕ → ℕ → Type 0
 IsCut bs n = (n ≤ length bs) × (0 < n → n < length bs → 128 ≤ slice_index bs n → 192 ≤ slice_index bs n)
 
-pub place_is_cut : (bs : List ℕ) (p n : ℕ) → IsUtf8 bs → n ≡ bytes_to (chars bs) p → IsCut bs n
+place_is_cut : (bs : List ℕ) (p n : ℕ) → IsUtf8 bs → n ≡ bytes_to (chars bs) p → IsCut bs n
 place_is_cut bs p n u is = let b = boundary bs p u in subst (λ m. IsCut bs m) (sym is) (b.0, λ _. b.1)
 
 spliced : (bs s out : List ℕ) (p q : ℕ) → IsUtf8 bs → IsUtf8 s → IsUtf8 out → out ≡ (take (bytes_to (chars bs) p) bs ++ s) ++ drop (bytes_to (chars bs) q) bs
@@ -88,13 +88,13 @@ start_in cs r = place_of r.start.line r.start.character cs
 abbrev pub end_in : List ℕ → Range → ℕ
 end_in cs r = place_of r.end.line r.end.character cs
 
-pub range_behind : (bs s : List ℕ) (r : Range) (start end : ℕ) → start ≡ bytes_to (chars bs) (start_in (chars bs) r) → end ≡ bytes_to (chars bs) (end_in (chars bs) r) → end < start → changed_in (Some r) s (chars bs) ≡ None
+range_behind : (bs s : List ℕ) (r : Range) (start end : ℕ) → start ≡ bytes_to (chars bs) (start_in (chars bs) r) → end ≡ bytes_to (chars bs) (end_in (chars bs) r) → end < start → changed_in (Some r) s (chars bs) ≡ None
 range_behind bs s r start end is_start is_end behind =
     let cs = chars bs in
     let less : bytes_to cs (end_in cs r) < bytes_to cs (start_in cs r) = omega (arith, is_start, is_end) in
     ap (λ b. cond b (Some ((take (start_in cs r) cs ++ s) ++ drop (end_in cs r) cs)) None) (lt-leb _ _ (place_before cs (end_in cs r) (start_in cs r) less))
 
-pub range_changed : (bs s out : List ℕ) (r : Range) (start end : ℕ) → IsUtf8 bs → IsUtf8 s → IsUtf8 out → start ≡ bytes_to (chars bs) (start_in (chars bs) r) → end ≡ bytes_to (chars bs) (end_in (chars bs) r) → start ≤ end
+range_changed : (bs s out : List ℕ) (r : Range) (start end : ℕ) → IsUtf8 bs → IsUtf8 s → IsUtf8 out → start ≡ bytes_to (chars bs) (start_in (chars bs) r) → end ≡ bytes_to (chars bs) (end_in (chars bs) r) → start ≤ end
     → out ≡ (take start bs ++ s) ++ drop end bs → changed_in (Some r) (chars s) (chars bs) ≡ Some (chars out)
 range_changed bs s out r start end u v w is_start is_end le e =
     let cs = chars bs in
@@ -106,8 +106,35 @@ range_changed bs s out r start end u v w is_start is_end le e =
     ap (λ b. cond b (Some ((take p cs ++ chars s) ++ drop q cs)) None) (le-leb _ _ no_behind)
     ∙ ap Some (spliced bs s out p q u v w made)
 
-pub whole_replaced : (bs s out : List ℕ) (end : ℕ) → end ≡ length bs → out ≡ (take 0 bs ++ s) ++ drop end bs → out ≡ s
+whole_replaced : (bs s out : List ℕ) (end : ℕ) → end ≡ length bs → out ≡ (take 0 bs ++ s) ++ drop end bs → out ≡ s
 whole_replaced bs s out end all e = e ∙ ap (λ x. s ++ x) (drop_all end bs (omega (arith, all))) ∙ append-nil s
+
+-- ---- one change
+
+-- these bytes are those that a change replaces: those of the positions of its range, or all
+abbrev pub AreBytesOf : Option Range → List ℕ → ℕ → ℕ → Type 0
+AreBytesOf None bs start end = (start ≡ 0) × (end ≡ length bs)
+AreBytesOf (Some r) bs start end = (start ≡ bytes_to (chars bs) (start_in (chars bs) r)) × (end ≡ bytes_to (chars bs) (end_in (chars bs) r))
+
+pub all_bytes : (o : Option Range) (bs : List ℕ) (p : ℕ × ℕ) (len : ℕ) → o ≡ None → p ≡ (0, len) → len ≡ length bs → AreBytesOf o bs p.0 p.1
+all_bytes o bs p len none is all = subst (λ x. AreBytesOf x bs p.0 p.1) (sym none) (ap (λ (q : ℕ × ℕ). q.0) is, ap (λ (q : ℕ × ℕ). q.1) is ∙ all)
+
+pub range_bytes : (o : Option Range) (bs t : List ℕ) (p q : ℕ × ℕ) (r : Range) → o ≡ Some r → t ≡ bs → p ≡ q → q.0 ≡ bytes_to (chars t) (start_in (chars t) r) → q.1 ≡ bytes_to (chars t) (end_in (chars t) r) → AreBytesOf o bs p.0 p.1
+range_bytes o bs t p q r some same is start end =
+    subst (λ x. AreBytesOf x bs p.0 p.1) (sym some) (subst (λ x. AreBytesOf (Some r) x p.0 p.1) same (ap (λ (q : ℕ × ℕ). q.0) is ∙ start, ap (λ (q : ℕ × ℕ). q.1) is ∙ end))
+
+pub are_cuts : (o : Option Range) (bs : List ℕ) (start end : ℕ) → IsUtf8 bs → AreBytesOf o bs start end → IsCut bs start × IsCut bs end
+are_cuts None bs start end u is = ((omega (arith, is.0), λ less. absurd (omega (arith, less, is.0))), (omega (arith, is.1), λ _ less. absurd (omega (arith, less, is.1))))
+are_cuts (Some r) bs start end u is = (place_is_cut bs (start_in (chars bs) r) start u is.0, place_is_cut bs (end_in (chars bs) r) end u is.1)
+
+pub change_behind : (o : Option Range) (bs s : List ℕ) (start end : ℕ) → AreBytesOf o bs start end → end < start → changed_in o s (chars bs) ≡ None
+change_behind None bs s start end is less = absurd (omega (arith, less, is.0))
+change_behind (Some r) bs s start end is less = range_behind bs s r start end is.0 is.1 less
+
+pub change_made : (o : Option Range) (bs s out : List ℕ) (start end : ℕ) → IsUtf8 bs → IsUtf8 s → IsUtf8 out → AreBytesOf o bs start end → start ≤ end → out ≡ (take start bs ++ s) ++ drop end bs
+    → changed_in o (chars s) (chars bs) ≡ Some (chars out)
+change_made None bs s out start end u v w is le e = ap (λ x. Some (chars x)) (sym (whole_replaced bs s out end is.1 (e ∙ ap (λ n. (take n bs ++ s) ++ drop end bs) is.0)))
+change_made (Some r) bs s out start end u v w is le e = range_changed bs s out r start end u v w is.0 is.1 le e
 
 -- ---- changes in order
 

@@ -1,46 +1,13 @@
 // Changes of a text.
-ghost use Rattle.std.specs.Prelude.{◌≡◌, ◌≢◌, Some, None, Err, IfErr, OnOk, OnErr, map, string_bytes};
+ghost use Rattle.std.specs.Prelude.{◌≡◌, ◌≢◌, Some, None, Err, OnOk, OnErr, map, string_bytes};
 ghost use Rattle.std.specs.Str.{chars};
-ghost use Rattle.lsp_documents.specs.Documents.{change_of, changed, changed_in, all_changed};
+ghost use Rattle.lsp_documents.specs.Documents.{change_of, changed, all_changed};
 
 use crate::error::ChangeError;
 use crate::place::offsets;
-use lsp_base::{Range, TextDocumentContentChangeEvent};
+use lsp_base::TextDocumentContentChangeEvent;
 
-// Puts another text in place of the whole.
-fn replace_all(text: &mut String, new: &str) -> Result<(), ChangeError>
-    ensures ok { OnOk result (string_bytes text.new ≡ new.now) }
-    ensures causes { IfErr result (λ e. e ≡ ChangeError.NoMemory) }
-    ensures err { OnErr result (string_bytes text.new ≡ string_bytes text.old) }
-{
-    let end = text.len();
-    text.replace_range(0..end, new)?;
-    Ok(())
-}
-
-// Puts another text in place of what is between two positions.
-fn replace(text: &mut String, range: Range, new: &str) -> Result<(), ChangeError>
-    ensures ok { let before = chars (string_bytes text.old) in
-        OnOk result (changed_in (Some range) (chars new.now) before
-        ≡ Some (chars (string_bytes text.new))) }
-    ensures behind { result ≡ Err ChangeError.StartBehindEnd
-        → changed_in (Some range) (chars new.now) (chars (string_bytes text.old)) ≡ None }
-    ensures causes { result ≢ Err ChangeError.NotOpen }
-    ensures err { OnErr result (string_bytes text.new ≡ string_bytes text.old) }
-{
-    let (start, end) = offsets(
-        text.as_str(),
-        (range.start.line, range.start.character),
-        (range.end.line, range.end.character),
-    );
-    if end < start {
-        return Err(ChangeError::StartBehindEnd);
-    }
-    text.replace_range(start..end, new)?;
-    Ok(())
-}
-
-// Makes one change.
+// Makes one change: puts its text in place of its range, or of the whole.
 fn apply(text: &mut String, change: &TextDocumentContentChangeEvent) -> Result<(), ChangeError>
     ensures ok { OnOk result (changed (change_of change.now) (chars (string_bytes text.old))
         ≡ Some (chars (string_bytes text.new))) }
@@ -49,13 +16,22 @@ fn apply(text: &mut String, change: &TextDocumentContentChangeEvent) -> Result<(
     ensures causes { result ≢ Err ChangeError.NotOpen }
     ensures err { OnErr result (string_bytes text.new ≡ string_bytes text.old) }
 {
-    match change.range {
-        None => replace_all(text, change.text.as_str()),
-        Some(range) => replace(text, range, change.text.as_str()),
+    let (start, end) = match change.range {
+        None => (0, text.len()),
+        Some(range) => offsets(
+            text.as_str(),
+            (range.start.line, range.start.character),
+            (range.end.line, range.end.character),
+        ),
+    };
+    if end < start {
+        return Err(ChangeError::StartBehindEnd);
     }
+    text.replace_range(start..end, change.text.as_str())?;
+    Ok(())
 }
 
-// Makes changes in order, or none: several are made in a copy of the text.
+// Makes changes in order, or none: where one of several fails, a copy of the text is put back.
 pub(crate) fn apply_all(
     text: &mut String,
     changes: &[TextDocumentContentChangeEvent],
@@ -70,10 +46,12 @@ pub(crate) fn apply_all(
     if let [change] = changes {
         return apply(text, change);
     }
-    let mut draft = text.clone()?;
+    let before = text.clone()?;
     for change in changes {
-        apply(&mut draft, change)?;
+        if let Err(error) = apply(text, change) {
+            *text = before;
+            return Err(error);
+        }
     }
-    *text = draft;
     Ok(())
 }

@@ -1,9 +1,9 @@
 -- Sets that keep the order in which their members came.
-use Rattle.std.proofs.Common.{◌≡◌, ℕ, ◌+◌, ◌<◌, inl, inr, length, take, List, [], ◌∷◌, ◌++◌, Bool, true, false, cond, map, fold, get_or, sym, ◌∙◌, ap, subst, zero, suc, add-one, arith}
+use Rattle.std.proofs.Common.{◌≡◌, ℕ, ◌+◌, ◌<◌, inl, inr, length, take, List, [], ◌∷◌, ◌++◌, Bool, true, false, cond, map, fold, get_or, refl, sym, ◌∙◌, ap, subst, zero, suc, add-one, append_assoc, arith}
 use Rattle.std.specs.Prelude.{Option, Some, None, slice_get, option_map, option_and_then}
 use Rattle.std.specs.List.{list_any}
 use Rattle.std.proofs.Math.Nat.{suc-add}
-use Rattle.std.proofs.lemmas.List.{map-append}
+use Rattle.std.proofs.lemmas.List.{append-nil, map-append, take_all, take-append-le}
 use Rattle.std.proofs.lemmas.List.Sums.{fold_more}
 use Rattle.std.proofs.lemmas.List.Folds.{fold-map}
 use Rattle.std.proofs.lemmas.Option.{slice_get_cases, slice_get_past, slice_get-map}
@@ -16,7 +16,9 @@ use Rattle.lsp_base.specs.declared.position.Position.{Position}
 use Rattle.lsp_base.specs.declared.position.Range.{Range}
 use Rattle.lsp_index.specs.declared.graph.Node.{Node}
 use Rattle.lsp_index.specs.Graph.{Graph}
-use Rattle.lsp_index.specs.Queries.{with_new_id, with_results, with_results_of, results_after, AreResults, candidate_in, with_candidate, closest_of, range_holding, range_in}
+use Rattle.lsp_index.specs.declared.graph.Role.{Role}
+use Rattle.lsp_index.specs.declared.graph.Role.TheVariants as roles
+use Rattle.lsp_index.specs.Queries.{LocationData, with_new_id, with_linked, with_results, with_results_of, with_places, items_from, results_after, AreResults, candidate_in, with_candidate, closest_of, range_holding, range_in}
 use Rattle.lsp_index.specs.Shown.{show_node, show_vertex_of}
 use Rattle.lsp_index.specs.Kept.{same_key}
 use Rattle.lsp_index.proofs.TableLemmas.{any-shown}
@@ -52,6 +54,65 @@ results_more g r keys new i x so_far here is =
 -- none is left
 pub results_end : (g : Graph) (r : IdData) (keys : List Id) (i : ℕ) → results_after g r i ≡ map show_id keys → None ≡ slice_get keys i → AreResults g r (map show_id keys)
 results_end g r keys i so_far none = (i, so_far, slice_get-map show_id keys i ∙ ap (option_map show_id) (sym none))
+
+-- ---- the results only grow
+
+Extends : List IdData → List IdData → Type 0
+Extends rs ss = (more : List IdData) × (ss ≡ rs ++ more)
+
+extends_fold : {A : Type 0} (f : List IdData → A → List IdData) → ((rs : List IdData) (a : A) → Extends rs (f rs a)) → (rs : List IdData) (ys : List A) → Extends rs (fold f rs ys)
+unfolding Extends
+extends_fold f one rs [] = ([], sym (append-nil rs))
+extends_fold f one rs (a ∷ ys) = let p = one rs a in let q = extends_fold f one (f rs a) ys in (p.0 ++ q.0, q.1 ∙ ap (λ l. l ++ q.0) p.1 ∙ append_assoc rs p.0 q.0)
+
+extends_new : (rs : List IdData) (i : IdData) → Extends rs (with_new_id rs i)
+unfolding Extends
+extends_new rs i = at (list_any (same_id i) rs)
+  where
+    at : (t : Bool) → (more : List IdData) × (cond t rs (rs ++ i ∷ []) ≡ rs ++ more)
+    at true = ([], sym (append-nil rs))
+    at false = (i ∷ [], refl)
+
+extends_linked : (rs : List IdData) (role : Role) (ids : List IdData) → Extends rs (with_linked rs role ids)
+unfolding Extends
+extends_linked rs roles.Place ids = ([], sym (append-nil rs))
+extends_linked rs roles.Linked ids = extends_fold with_new_id extends_new rs ids
+extends_linked rs roles.Neither ids = ([], sym (append-nil rs))
+
+-- the places of one more member
+pub places_more : (g : Graph) (keys : List Id) (new : List IdData) (found later : List LocationData) (i : ℕ) (x : Id) → Some x ≡ slice_get keys i → new ≡ with_results g (map show_id keys) (show_id x)
+    → found ≡ fold (with_places g) [] (take i (map show_id keys)) → later ≡ with_places g found (show_id x) → later ≡ fold (with_places g) [] (take (i + 1) new)
+unfolding Extends
+places_more g keys new found later i x here is so_far put =
+    let ks = map show_id keys in
+    let shown : slice_get ks i ≡ Some (show_id x) = slice_get-map show_id keys i ∙ ap (option_map show_id) (sym here) in
+    let grown = extends_fold (λ rs e. with_linked rs e.role e.targets) (λ rs e. extends_linked rs e.role e.targets) ks (items_from g (show_id x)) in
+    elim (slice_get_cases ks i).1 [
+      | inl s ↦
+          let same : s.0 ≡ show_id x = some_same s.0 (show_id x) (sym s.2 ∙ shown) in
+          put ∙ ap (λ l. with_places g l (show_id x)) so_far
+          ∙ sym (ap (λ l. fold (with_places g) [] (take (i + 1) l)) (is ∙ grown.1)
+          ∙ ap (fold (with_places g) []) (take-append-le (i + 1) ks grown.0 (omega (arith, s.1)))
+          ∙ fold_more (with_places g) [] ks i s.0 s.1
+          ∙ ap (λ y. with_places g (fold (with_places g) [] (take i ks)) y) (s.3 ∙ same))
+      | inr past ↦ absurd (differ (show_id x) (sym shown ∙ past.1))
+    ]
+  where
+    some_same : (a b : IdData) → Some a ≡ Some b → a ≡ b
+    some_same a b e = cc
+
+    differ : (a : IdData) → Some a ≡ None → ⊥
+    differ a e = cc
+
+-- those of all of them
+pub places_end : (keys : List Id) (i : ℕ) → None ≡ slice_get keys i → take i (map show_id keys) ≡ map show_id keys
+places_end keys i none =
+    let ks = map show_id keys in
+    let past : slice_get ks i ≡ None = slice_get-map show_id keys i ∙ ap (option_map show_id) (sym none) in
+    elim (slice_get_cases ks i).1 [ inl s ↦ absurd (differ s.0 (sym s.2 ∙ past)) | inr p ↦ take_all i ks p.0 ]
+  where
+    differ : (a : IdData) → Some a ≡ None → ⊥
+    differ a e = cc
 
 none_later : {X : Type 0} (xs : List X) (i k : ℕ) → slice_get xs i ≡ None → slice_get xs (k + i) ≡ None
 none_later {X} xs i k none = elim (slice_get_cases xs i).1 [ inl s ↦ absurd (differ s.0 (sym s.2 ∙ none)) | inr p ↦ slice_get_past xs (k + i) (omega (arith, p.0)) ]

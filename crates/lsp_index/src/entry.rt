@@ -3,7 +3,7 @@ ghost use Rattle.std.specs.Prelude.{◌≡◌, IfOk, IfSome, is_some, if◌then�
 ghost use Rattle.std.specs.Str.{is_utf8};
 ghost use Rattle.lsp_rpc.specs.Shown.{show_id};
 ghost use Rattle.lsp_base.specs.Position.{id_of};
-ghost use Rattle.lsp_index.specs.Entries.{vertex_data, role_of as role_of_lem, hover_data};
+ghost use Rattle.lsp_index.specs.Entries.{vertex_data, role_of as role_of_def, hover_data};
 ghost use Rattle.lsp_index.specs.Graph.{other_vertex};
 ghost use Rattle.lsp_index.specs.Shown.{show_node};
 
@@ -53,7 +53,7 @@ fn hover_node(alloc: Global, is_asked: bool, hover: &Hover) -> Result<Node, NoMe
 
 /// What the vertices that an edge `item` of this property leads to are to the result.
 pub(crate) fn role_of(property: Option<ItemKind>) -> Role
-    ensures { result ≡ role_of_lem property }
+    ensures { result ≡ role_of_def property }
 {
     match property {
         Some(ItemKind::Declarations) => Role::Place,

@@ -187,7 +187,7 @@ impl Index {
             (with_entry g (vertex_entry (id_of id) (vertex_data request vertex))) self.new) }
     {
         let seen = node(self.alloc, request, &vertex);
-        drop(vertex);
+        vertex.let_go();
         match seen {
             Ok(node) => put_first(&mut self.vertices, Id::from(id), node),
             Err(error) => Err(error),
@@ -216,7 +216,7 @@ impl Index {
             Edge::Hover(edge) => self.keep_result(request.is_hover(), edge),
             Edge::Item(item) => self.keep_item(request.is_hover(), item),
             other => {
-                drop(other);
+                other.let_go();
                 Ok(())
             }
         }

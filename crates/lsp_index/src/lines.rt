@@ -20,9 +20,10 @@ use crate::Query;
 use crate::entry::text_of;
 use crate::graph::Index;
 use lsp_base::Position;
+use lsp_lsif::read_entry;
 use lsp_rpc::NoMemory;
-use lsp_server::{Consumer, Refused, ServeError, Sink, write_all};
-use lsp_shape::{TextMisfit, read_text};
+use lsp_server::{Consumer, ServeError, Sink, write_all};
+use lsp_shape::TextMisfit;
 use memchr::memchr;
 use std::alloc::Global;
 
@@ -66,7 +67,7 @@ impl Search {
         ensures { IfOk result (λ good. TookText self.old
             (option_and_then (read entry_row.shape) (json_text.read text.now)) good self.new) }
     {
-        match read_text(self.index.alloc, text) {
+        match read_entry(self.index.alloc, text) {
             Ok(entry) => {
                 self.index.keep(self.query.request, entry)?;
                 Ok(true)
@@ -164,11 +165,8 @@ fn send<O: Sink>(sink: &mut O, bytes: &[u8]) -> Result<(), ServeError>
     ensures sink { LeavesFaults O.faults O.beside sink.old sink.new (result_err result) }
     ensures others { IfErr result ComesOfSink }
 {
-    match write_all(sink, bytes) {
-        Ok(()) => Ok(()),
-        Err(Refused::Failed) => Err(ServeError::WriteFault),
-        Err(Refused::NoMemory) => Err(ServeError::NoMemory),
-    }
+    write_all(sink, bytes)?;
+    Ok(())
 }
 
 // Where the first line ends. Where it is empty there is nothing to search.

@@ -1,8 +1,7 @@
 // What a query answers of an index.
-ghost use Rattle.std.specs.Prelude.{◌≡◌, ◌++◌, ◌∷◌, [], true, map, slice_get, IfOk, OnOk, Some, None, option_map, option_and_then, unwrap_or, fold, string_bytes};
+ghost use Rattle.std.specs.Prelude.{◌≡◌, ◌++◌, ◌∷◌, [], true, map, slice_get, IfOk, OnOk, Some, None, option_map, option_and_then, fold, string_bytes};
 ghost use Rattle.std.specs.Bool.{MatchBool};
 ghost use Rattle.std.specs.List.{list_any};
-ghost use Rattle.serde_json.specs.Written.{comma_if, compact_text};
 ghost use Rattle.lsp_rpc.specs.Ids.{same_id};
 ghost use Rattle.lsp_rpc.specs.Shown.{show_id};
 ghost use Rattle.lsp_uri.specs.Uri.{uri_text};
@@ -11,7 +10,7 @@ ghost use Rattle.lsp_index.specs.Entries.{entry_ids};
 ghost use Rattle.lsp_index.specs.Graph.{Graph, at_id};
 ghost use Rattle.lsp_index.specs.Kept.{IsKept};
 ghost use Rattle.lsp_index.specs.Shown.{show_ids, show_item_edge, show_location, show_named, show_link, show_outgoing, show_vertex_of};
-ghost use Rattle.lsp_index.specs.Queries.{is_before, holds_position, is_closer, closest_of, range_holding, candidate_in, with_candidate, chosen_at, with_new_id, with_contained, named_in, document_at, hover_at, IsReached, IsReachedFrom, with_range, with_ranges, with_item_ranges, with_linked, with_place, with_places, AreResults, location_value, locations_text as locations_text_lem, null_text as null_text_lem, IsDefinition, IsReferences, IsAnswerFrom};
+ghost use Rattle.lsp_index.specs.Queries.{is_before, holds_position, is_closer, closest_of, range_holding, candidate_in, with_candidate, chosen_at, with_new_id, with_contained, named_in, document_at, IsReached, IsReachedFrom, with_range, with_ranges, with_item_ranges, with_linked, with_place, locations_text as locations_text_def, IsDefinition, IsReferences, IsHover, IsAnswerFrom};
 
 use crate::Request;
 use crate::entry::key_of;
@@ -108,34 +107,18 @@ fn add_all_linked(alloc: Global, items: &[Item], results: &mut IndexSet<Id>) -> 
     Ok(())
 }
 
-// Puts the text of a location behind what is there, after a comma if it is a later one.
-fn push_location(
-    alloc: Global,
-    text: &mut String,
-    later: bool,
-    location: &Location,
-) -> Result<(), NoMemory>
-    ensures { OnOk result (string_bytes text.new ≡ string_bytes text.old
-        ++ (comma_if later ++ compact_text (location_value (show_location location.now)))) }
-{
-    if later {
-        text.push_str(",")?;
-    }
-    text.push_str(write_text(alloc, location)?.as_str())?;
-    Ok(())
-}
-
 // The text of a list of locations. Each is written by itself: as one value they would take some 4 KB
 // each.
 fn locations_text(alloc: Global, found: &IndexSet<Location>) -> Result<String, NoMemory>
     ensures { IfOk result (λ text. string_bytes text
-        ≡ locations_text_lem (map show_location found.now.keys)) }
+        ≡ locations_text_def (map show_location found.now.keys)) }
 {
     let mut text = String::from_str(alloc, "[")?;
-    let mut later = false;
+    let mut comma = "";
     for location in found.as_slice() {
-        push_location(alloc, &mut text, later, location)?;
-        later = true;
+        text.push_str(comma)?;
+        text.push_str(write_text(alloc, location)?.as_str())?;
+        comma = ",";
     }
     text.push_str("]")?;
     Ok(text)
@@ -292,25 +275,6 @@ impl Index {
         }
     }
 
-    // A result, with all that it includes.
-    fn results_with(&self, first: Id) -> Result<IndexSet<Id>, NoMemory>
-        ensures { IfOk result (λ all. (g : Graph) → IsKept g self.now
-            → AreResults g (show_id first) (show_ids all.keys)) }
-    {
-        let mut results = IndexSet::new(self.alloc);
-        results.insert(first)?;
-        for i in 0..usize::MAX {
-            match results.get_index(i) {
-                Some(member) => {
-                    let items = self.items_of(member);
-                    add_all_linked(self.alloc, items, &mut results)?;
-                }
-                None => return Ok(results),
-            }
-        }
-        Err(NoMemory)
-    }
-
     // Puts the places of an item after those that were found, where they are new.
     fn add_place(&self, item: &Item, found: &mut IndexSet<Location>) -> Result<(), NoMemory>
         ensures { OnOk result ((g : Graph) → IsKept g self.now → map show_location found.new.keys
@@ -323,38 +287,65 @@ impl Index {
         }
     }
 
-    // Puts the places of a result after those that were found, where they are new.
-    fn add_places(&self, from: &Id, found: &mut IndexSet<Location>) -> Result<(), NoMemory>
+    // Puts the places of these items after those that were found, where they are new.
+    fn add_places(&self, items: &[Item], found: &mut IndexSet<Location>) -> Result<(), NoMemory>
         ensures { OnOk result ((g : Graph) → IsKept g self.now → map show_location found.new.keys
-            ≡ with_places g (map show_location found.old.keys) (show_id from.now)) }
+            ≡ fold (λ ls i. with_place g ls i.role i) (map show_location found.old.keys)
+            (map show_item_edge items.now)) }
     {
-        for item in self.items_of(from) {
+        for item in items {
             self.add_place(item, found)?;
         }
         Ok(())
     }
 
-    // The places of these results.
-    fn all_places(&self, results: &[Id]) -> Result<IndexSet<Location>, NoMemory>
-        ensures { IfOk result (λ found. (g : Graph) → IsKept g self.now → map show_location found.keys
-            ≡ fold (with_places g) [] (show_ids results.now)) }
+    // Puts the locations of the items of a result into an empty set.
+    fn add_definitions(
+        &self,
+        reached: Option<&Id>,
+        found: &mut IndexSet<Location>,
+    ) -> Result<(), NoMemory>
+        requires { found.old.keys ≡ [] }
+        ensures { OnOk result ((g : Graph) → IsKept g self.now → IsDefinition g
+            (option_map (λ id. show_id id.now) reached.entry)
+            (locations_text_def (map show_location found.new.keys))) }
     {
-        let mut found = IndexSet::new(self.alloc);
-        for member in results {
-            self.add_places(member, &mut found)?;
+        let Some(from) = reached else {
+            return Ok(());
+        };
+        for item in self.items_of(from) {
+            self.add_item(item, found)?;
         }
-        Ok(found)
+        Ok(())
     }
 
-    // The text of the hover of a result.
-    fn hover_text(&self, from: &Id) -> Result<String, NoMemory>
-        ensures { IfOk result (λ text. (g : Graph) → IsKept g self.now
-            → string_bytes text ≡ unwrap_or (hover_at g (show_id from.now)) null_text_lem) }
+    // Puts the places of a result, and of all that it includes, into an empty set.
+    fn add_references(
+        &self,
+        reached: Option<&Id>,
+        found: &mut IndexSet<Location>,
+    ) -> Result<(), NoMemory>
+        requires { found.old.keys ≡ [] }
+        ensures { OnOk result ((g : Graph) → IsKept g self.now → IsReferences g
+            (option_map (λ id. show_id id.now) reached.entry)
+            (locations_text_def (map show_location found.new.keys))) }
     {
-        match self.hover(from) {
-            Some(text) => Ok(text.clone()?),
-            None => null_text(self.alloc),
+        let Some(from) = reached else {
+            return Ok(());
+        };
+        let mut results = IndexSet::new(self.alloc);
+        results.insert(from.clone(self.alloc)?)?;
+        for i in 0..usize::MAX {
+            match results.get_index(i) {
+                Some(member) => {
+                    let items = self.items_of(member);
+                    self.add_places(items, found)?;
+                    add_all_linked(self.alloc, items, &mut results)?;
+                }
+                None => return Ok(()),
+            }
         }
+        Err(NoMemory)
     }
 
     /// What is reached from the range at the position.
@@ -373,73 +364,51 @@ impl Index {
     }
 
     // The text of the locations of the items of a result.
-    fn definition_text(&self, from: &Id) -> Result<String, NoMemory>
-        ensures { IfOk result (λ text. (g : Graph) → IsKept g self.now
-            → IsDefinition g (Some (show_id from.now)) (string_bytes text)) }
+    fn definition_text(&self, reached: Option<&Id>) -> Result<String, NoMemory>
+        ensures { IfOk result (λ text. (g : Graph) → IsKept g self.now → IsDefinition g
+            (option_map (λ id. show_id id.now) reached.entry) (string_bytes text)) }
     {
         let mut found = IndexSet::new(self.alloc);
-        for item in self.items_of(from) {
-            self.add_item(item, &mut found)?;
-        }
+        self.add_definitions(reached, &mut found)?;
         locations_text(self.alloc, &found)
     }
 
     // The text of the places of a result and of all that it includes.
-    fn references_text(&self, from: &Id) -> Result<String, NoMemory>
-        ensures { IfOk result (λ text. (g : Graph) → IsKept g self.now
-            → IsReferences g (Some (show_id from.now)) (string_bytes text)) }
+    fn references_text(&self, reached: Option<&Id>) -> Result<String, NoMemory>
+        ensures { IfOk result (λ text. (g : Graph) → IsKept g self.now → IsReferences g
+            (option_map (λ id. show_id id.now) reached.entry) (string_bytes text)) }
     {
-        let results = self.results_with(from.clone(self.alloc)?)?;
-        let found = self.all_places(results.as_slice())?;
+        let mut found = IndexSet::new(self.alloc);
+        self.add_references(reached, &mut found)?;
         locations_text(self.alloc, &found)
     }
 
-    // The text of the answer from a result.
-    fn text_from(&self, request: Request, from: &Id) -> Result<String, NoMemory>
-        ensures { IfOk result (λ text. (g : Graph) → IsKept g self.now
-            → IsAnswerFrom request g (Some (show_id from.now)) (string_bytes text)) }
+    // The text of the hover of a result.
+    fn hover_text(&self, reached: Option<&Id>) -> Result<String, NoMemory>
+        ensures { IfOk result (λ text. (g : Graph) → IsKept g self.now → IsHover g
+            (option_map (λ id. show_id id.now) reached.entry) (string_bytes text)) }
     {
-        match request {
-            Request::Definition => self.definition_text(from),
-            Request::References => self.references_text(from),
-            Request::Hover => self.hover_text(from),
+        let Some(from) = reached else {
+            return Ok(String::from_str(self.alloc, "null")?);
+        };
+        match self.hover(from) {
+            Some(text) => Ok(text.clone()?),
+            None => Ok(String::from_str(self.alloc, "null")?),
         }
     }
 
     /// The text of the answer from what is reached.
-    pub(crate) fn text(&self, request: Request, from: Option<&Id>) -> Result<String, NoMemory>
+    pub(crate) fn text(&self, request: Request, reached: Option<&Id>) -> Result<String, NoMemory>
         ensures { IfOk result (λ text. (g : Graph) → IsKept g self.now
-            → IsAnswerFrom request g (option_map (λ id. show_id id.now) from.entry)
+            → IsAnswerFrom request g (option_map (λ id. show_id id.now) reached.entry)
             (string_bytes text)) }
     {
-        match from {
-            Some(from) => self.text_from(request, from),
-            None => no_text(self.alloc, request),
+        match request {
+            Request::Definition => self.definition_text(reached),
+            Request::References => self.references_text(reached),
+            Request::Hover => self.hover_text(reached),
         }
     }
-}
-
-// The text of the answer where nothing is reached.
-fn no_text(alloc: Global, request: Request) -> Result<String, NoMemory>
-    ensures { IfOk result (λ text. (g : Graph) → IsAnswerFrom request g None (string_bytes text)) }
-{
-    match request {
-        Request::Definition => no_locations(alloc),
-        Request::References => no_locations(alloc),
-        Request::Hover => null_text(alloc),
-    }
-}
-
-fn no_locations(alloc: Global) -> Result<String, NoMemory>
-    ensures { IfOk result (λ text. string_bytes text ≡ locations_text_lem []) }
-{
-    Ok(String::from_str(alloc, "[]")?)
-}
-
-fn null_text(alloc: Global) -> Result<String, NoMemory>
-    ensures { IfOk result (λ text. string_bytes text ≡ null_text_lem) }
-{
-    Ok(String::from_str(alloc, "null")?)
 }
 
 // A range with its id, if it holds the position.

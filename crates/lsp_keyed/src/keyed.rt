@@ -3,7 +3,7 @@ ghost use Rattle.std.specs.Prelude.{◌≡◌, ◌↔◌, ◌^◌, ◌-◌, ◌+
 ghost use Rattle.std.specs.List.{find, list_any, before_first, after_first};
 ghost use Rattle.std.specs.HashMap.{get};
 ghost use Rattle.std.specs.Vec.{vec_len, vec_capacity};
-ghost use Rattle.lsp_keyed.specs.Items.{has_key, has_number as has_number_lem, without, IsAbove, next_number};
+ghost use Rattle.lsp_keyed.specs.Items.{has_key, has_number as has_number_def, without, IsAbove, next_number};
 ghost use Rattle.lsp_keyed.specs.Index.{listed, first, rest, without_number, AreLess, IsIndexed};
 
 use no_memory::NoMemory;
@@ -85,14 +85,14 @@ impl<K: Eq + Hash + Drop, V: Drop> Keyed<K, V> {
     /// The key and the value of the entry of the number.
     pub fn get(&self, number: u64) -> Option<&(K, V)>
         ensures { option_map (λ e. e.now) result
-            ≡ option_map (λ e. e.1) (find (has_number_lem number) self.now) }
+            ≡ option_map (λ e. e.1) (find (has_number_def number) self.now) }
     {
         self.entries.get(&number)
     }
 
     /// Whether an entry has the number.
     pub fn has_number(&self, number: u64) -> bool
-        ensures { result ≡ list_any (has_number_lem number) self.now }
+        ensures { result ≡ list_any (has_number_def number) self.now }
     {
         self.entries.contains_key(&number)
     }
@@ -112,7 +112,7 @@ impl<K: Eq + Hash + Drop, V: Drop> Keyed<K, V> {
     pub fn next(&self) -> Option<u64>
         ensures follows { SomeIff result (next_number self.now < 2 ^ 64) (next_number self.now) }
         ensures above { IfSome result (λ n. IsAbove n self.now) }
-        ensures none { result ≡ None → list_any (has_number_lem (2 ^ 64 - 1)) self.now ≡ true }
+        ensures none { result ≡ None → list_any (has_number_def (2 ^ 64 - 1)) self.now ≡ true }
     {
         match self.entries.last_key_value() {
             Some((last, _)) => last.checked_add(1),
@@ -149,7 +149,7 @@ impl<K: Eq + Hash + Drop, V: Drop> Keyed<K, V> {
 
     /// Takes the entry of the number out. It takes no memory.
     pub fn remove(&mut self, number: u64) -> Option<(K, V)>
-        ensures entry { result ≡ option_map (λ e. e.1) (find (has_number_lem number) self.old) }
+        ensures entry { result ≡ option_map (λ e. e.1) (find (has_number_def number) self.old) }
         ensures rest { self.new ≡ without number self.old }
     {
         remove_entry(&mut self.entries, &mut self.numbers, number)
@@ -292,7 +292,7 @@ fn remove_entry<K: Eq + Hash + Drop, V: Drop>(
 ) -> Option<(K, V)>
     requires { IsIndexed K.eq entries.old.entries numbers.old }
     ensures indexed { IsIndexed K.eq entries.new.entries numbers.new }
-    ensures entry { result ≡ option_map (λ e. e.1) (find (has_number_lem number) entries.old.entries) }
+    ensures entry { result ≡ option_map (λ e. e.1) (find (has_number_def number) entries.old.entries) }
     ensures rest { entries.new.entries ≡ without number entries.old.entries }
 {
     let Some(entry) = entries.remove(&number) else {

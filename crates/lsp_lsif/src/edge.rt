@@ -136,6 +136,13 @@ impl Wire for Edge {
     }
 }
 
+impl Edge {
+    /// Lets the edge go, as `drop` does: a crate that calls this has no drop of it to prove.
+    pub fn let_go(self) {
+        drop(self);
+    }
+}
+
 /// The edge of that label, with its ends.
 #[tactic(auto, unfolding(crate::specs::Edge::edge_row))]
 fn single(label: SingleLabel, ends: EdgeData) -> Edge

@@ -1,10 +1,16 @@
 // An entry of a dump.
+ghost use Rattle.std.specs.Prelude.{◌≡◌, IfOk, IsErrOf, Some, None};
+ghost use Rattle.serde_json.specs.Data.{Data};
+ghost use Rattle.serde_json.specs.Read as json_text;
+ghost use Rattle.lsp_shape.specs.Read.{read};
 ghost use Rattle.lsp_lsif.specs.Entry.{entry_row, element_row};
 
 use crate::edge::Edge;
 use crate::vertex::Vertex;
 use lsp_base::NumberOrString;
-use lsp_shape::{Misfit, NoMemory, Reader, Wanted, Wire, Writer, flat, form, put_tag, tag};
+use lsp_shape::{
+    Misfit, NoMemory, Reader, TextMisfit, Wanted, Wire, Writer, flat, form, put_tag, read_text, tag,
+};
 use serde_json::Value;
 use std::alloc::Global;
 
@@ -42,6 +48,21 @@ impl Wire for Entry {
         object.flat(&self.payload);
         object.end()
     }
+}
+
+/// The entry that the text is read as. `Json` comes only where the text is no JSON value that is
+/// read, and `Unfit` only where it is one that does not fit.
+///
+/// It is `read_text`, proved once for this type: a crate that calls it has no drop of it to prove.
+pub fn read_entry(alloc: Global, text: &str) -> Result<Entry, TextMisfit>
+    ensures read { IfOk result
+        (λ entry. (d : Data) × (json_text.read text.now ≡ Some d)
+        × (read entry_row.shape d ≡ Some (entry_row.shown entry))) }
+    ensures json { IsErrOf result TextMisfit.Json → json_text.read text.now ≡ None }
+    ensures unfit { IsErrOf result TextMisfit.Unfit
+        → ((d : Data) × (json_text.read text.now ≡ Some d) × (read entry_row.shape d ≡ None)) }
+{
+    read_text(alloc, text)
 }
 
 /// A vertex or an edge of the graph that a dump describes. In JSON, the member `type` distinguishes

@@ -11,7 +11,7 @@ mod vertex;
 pub use edge::{
     DefinitionResultType, Edge, EdgeData, EdgeDataMultiIn, Item, ItemKind, LocationOrRangeId,
 };
-pub use entry::{Element, Entry, Id};
+pub use entry::{Element, Entry, Id, read_entry};
 pub use symbols::RangeBasedDocumentSymbol;
 pub use tags::{DeclarationTag, DefinitionTag, RangeTag, ReferenceTag, UnknownTag};
 pub use vertex::{

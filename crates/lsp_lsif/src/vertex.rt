@@ -187,6 +187,13 @@ impl Wire for Vertex {
     }
 }
 
+impl Vertex {
+    /// Lets the vertex go, as `drop` does: a crate that calls this has no drop of it to prove.
+    pub fn let_go(self) {
+        drop(self);
+    }
+}
+
 /// The member `result`, which is all that some vertices have.
 fn result_of<T: Wire>(alloc: Global, value: &Value) -> Result<T, Misfit>
     ensures read { IfOk result (λ x. read (result_alone T.shape) (view value.now)

@@ -1,6 +1,6 @@
 // How a program ends.
 ghost use Rattle.std.specs.Prelude.{◌≡◌};
-ghost use Rattle.lsp_program.specs.Status.{status_of as status_of_lem};
+ghost use Rattle.lsp_program.specs.Status.{status_of as status_of_def};
 
 use lsp_server::ServeError;
 
@@ -29,7 +29,7 @@ pub enum Status {
 
 /// The exit status of a program whose serving or relaying ended with this error.
 pub fn status_of(error: ServeError) -> u8
-    ensures { result ≡ status_of_lem error }
+    ensures { result ≡ status_of_def error }
 {
     match error {
         ServeError::ReadFault => Status::ReadFault as u8,

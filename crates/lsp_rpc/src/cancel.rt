@@ -2,7 +2,7 @@
 ghost use Rattle.std.specs.Prelude.{◌≡◌, codes, option_map};
 ghost use Rattle.serde_json.specs.Find.{get_member};
 ghost use Rattle.serde_json.specs.View.{view};
-ghost use Rattle.lsp_rpc.specs.Cancel.{cancelled_id as cancelled_id_lem, cancel_target as cancel_target_lem, small_number as small_number_lem};
+ghost use Rattle.lsp_rpc.specs.Cancel.{cancelled_id as cancelled_id_def, cancel_target as cancel_target_def, small_number as small_number_def};
 ghost use Rattle.lsp_rpc.specs.Pieces.{members_shown};
 ghost use Rattle.lsp_rpc.specs.Shown.{show_id};
 
@@ -12,7 +12,7 @@ use serde_json::{Map, Value};
 /// The id that the params of a `$/cancelRequest` name, if they name one: an integer of 32 bits or a
 /// string (LSP 3.17, "Cancellation Support").
 pub fn cancelled_id(params: Option<Value>) -> Option<Id>
-    ensures { option_map show_id result ≡ cancelled_id_lem (option_map view params) }
+    ensures { option_map show_id result ≡ cancelled_id_def (option_map view params) }
 {
     match params {
         Some(Value::Object(mut members)) => match take_id(&mut members) {
@@ -31,7 +31,7 @@ fn take_id(members: &mut Map<String, Value>) -> Option<Value>
 
 // An id that a cancel may name.
 fn cancel_target(value: Value) -> Option<Id>
-    ensures { option_map show_id result ≡ cancel_target_lem (view value) }
+    ensures { option_map show_id result ≡ cancel_target_def (view value) }
 {
     match value {
         Value::Number(number) => small_number(number.as_i64()),
@@ -42,7 +42,7 @@ fn cancel_target(value: Value) -> Option<Id>
 
 // An id that is a number is an i32 where a cancel names it.
 fn small_number(number: Option<i64>) -> Option<Id>
-    ensures { option_map show_id result ≡ small_number_lem number }
+    ensures { option_map show_id result ≡ small_number_def number }
 {
     match number {
         Some(n) if -2147483648 <= n && n < 2147483648 => Some(Id::Number(n)),

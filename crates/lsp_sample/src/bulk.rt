@@ -5,7 +5,7 @@ ghost use Rattle.lsp_sample.specs.Tally.{IsCounted};
 ghost use Rattle.lsp_frame.specs.Codec.{shown, message as message_item};
 ghost use Rattle.lsp_frame.specs.Frames.{framed};
 ghost use Rattle.lsp_server.specs.SourceSink.{CountRose, IsFlushed};
-ghost use Rattle.lsp_sample.specs.Bulk.{next_drawn, body_of, bodies, echo_text, wait_text, unknown_text as unknown_text_lem, unknown_command as unknown_command_lem, shutdown as shutdown_lem, generated, read_of, is_reply, is_error, is_own, summary as summary_lem, IsSummary, WroteSummary, WroteSome};
+ghost use Rattle.lsp_sample.specs.Bulk.{next_drawn, body_of, bodies, echo_text, wait_text, unknown_text as unknown_text_def, unknown_command as unknown_command_def, shutdown as shutdown_def, generated, read_of, is_reply, is_error, is_own, summary as summary_def, IsSummary, WroteSummary, WroteSome};
 
 use crate::Sample;
 use crate::arguments::{DEFAULT, MadeUp};
@@ -148,13 +148,13 @@ fn wait(alloc: Global, k: u64, polls: u64) -> Result<String, NoMemory>
 }
 
 fn unknown_method(alloc: Global, k: u64) -> Result<String, NoMemory>
-    ensures { IfOk result (λ body. string_bytes body ≡ unknown_text_lem k) }
+    ensures { IfOk result (λ body. string_bytes body ≡ unknown_text_def k) }
 {
     Ok(format!(in alloc; "{{\"jsonrpc\":\"2.0\",\"method\":\"bulk/none\",\"id\":{k}}}")?)
 }
 
 fn unknown_command(alloc: Global, k: u64) -> Result<String, NoMemory>
-    ensures { IfOk result (λ body. string_bytes body ≡ unknown_command_lem k) }
+    ensures { IfOk result (λ body. string_bytes body ≡ unknown_command_def k) }
 {
     Ok(format!(in alloc;
         "{{\"jsonrpc\":\"2.0\",\"method\":\"workspace/executeCommand\",\"params\":{{\"command\":\"none\"}},\"id\":{k}}}"
@@ -162,7 +162,7 @@ fn unknown_command(alloc: Global, k: u64) -> Result<String, NoMemory>
 }
 
 fn shutdown(alloc: Global, k: u64) -> Result<String, NoMemory>
-    ensures { IfOk result (λ body. string_bytes body ≡ shutdown_lem k) }
+    ensures { IfOk result (λ body. string_bytes body ≡ shutdown_def k) }
 {
     Ok(format!(in alloc; "{{\"jsonrpc\":\"2.0\",\"method\":\"shutdown\",\"id\":{k}}}")?)
 }
@@ -177,7 +177,7 @@ struct Tally {
 
 // The summary of what a server wrote.
 fn summary(alloc: Global, written: &[u8]) -> Result<String, NoMemory>
-    ensures { IfOk result (λ line. string_bytes line ≡ summary_lem written.now) }
+    ensures { IfOk result (λ line. string_bytes line ≡ summary_def written.now) }
 {
     let Tally {
         replies,

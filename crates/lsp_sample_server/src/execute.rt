@@ -9,7 +9,7 @@ ghost use Rattle.lsp_session.specs.Fails.{PollFails};
 ghost use Rattle.lsp_client.specs.Methods.{written_by_row};
 ghost use Rattle.lsp_client.specs.Shown.{ticket_number};
 ghost use Rattle.lsp_sample_server.specs.Command.{command_in};
-ghost use Rattle.lsp_sample_server.specs.Execute.{Asks, Executes, ResumesCommand, PollsAnswer, waits as waits_lem};
+ghost use Rattle.lsp_sample_server.specs.Execute.{Asks, Executes, ResumesCommand, PollsAnswer, waits as waits_def};
 ghost use Rattle.lsp_sample_server.specs.Shown.{show_outcome, show_task};
 
 use crate::command::{Command, echoed, read_command};
@@ -71,7 +71,7 @@ pub(crate) fn go_on<D: Caller>(
 fn waits(params: ExecuteCommandParams, left: u64, polls: u64) -> Outcome
     requires { command_in (execute_command_params_row.shown params) ≡ Command.Wait polls }
     ensures { show_outcome result
-        ≡ waits_lem (execute_command_params_row.shown params) left polls }
+        ≡ waits_def (execute_command_params_row.shown params) left polls }
 {
     if left == 0 {
         return Outcome::Ended(Ok(Some(Value::from(polls))));

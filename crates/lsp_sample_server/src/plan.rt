@@ -4,7 +4,7 @@ ghost use Rattle.lsp_initialize.specs.Server.{server_capabilities_row};
 ghost use Rattle.lsp_service.specs.Calls.{show_call, target_of};
 ghost use Rattle.lsp_service.specs.Replies.{show_offer, show_reply};
 ghost use Rattle.lsp_sample_server.specs.Plan.{show_plan};
-ghost use Rattle.lsp_sample_server.specs.Sample.{bare_data, no_capabilities_shown, sample_turn, other_reply as other_reply_lem};
+ghost use Rattle.lsp_sample_server.specs.Sample.{bare_data, no_capabilities_shown, sample_turn, other_reply as other_reply_def};
 
 use lsp_initialize::ServerCapabilities;
 use lsp_rpc::NoMemory;
@@ -67,7 +67,7 @@ fn no_capabilities() -> ServerCapabilities
 // A request of another method isn't known, and another notification is taken note of.
 fn other_reply(alloc: Global, call: Call) -> Result<Reply, NoMemory>
     ensures { IfOk result (λ r. show_reply r
-        ≡ other_reply_lem (target_of (show_call call) Kind.Request)) }
+        ≡ other_reply_def (target_of (show_call call) Kind.Request)) }
 {
     let kind = match call.target(Kind::Request) {
         Target::Typed(method) => method.kind(),

@@ -1,10 +1,15 @@
 -- Which errors a server may stop with.
 use Rattle.std.proofs.Common.{◌≡◌, inl, inr, ℕ, ◌+◌, ◌<◌, ◌≤◌, List, length, refl, sym, ◌∙◌, subst, arith, Bool, true, false, true≢false}
-use Rattle.std.specs.Prelude.{◌⊎◌, Option, Some, None, IfSome}
+use Rattle.std.specs.Prelude.{◌⊎◌, Option, Some, None, IfSome, Result, Ok, Err, OnErr}
 use Rattle.lsp_desk.specs.Meaning.{Meaning, IsLawfulDesk, Grown}
 use Rattle.lsp_server.specs.declared.step.ServeError.{ServeError}
 use Rattle.lsp_server.specs.declared.step.ServeError.TheVariants.{ReadFault, WriteFault, ReadsSpent, DeskSpent, NoMemory}
 use Rattle.lsp_server.specs.Errors.{IsInStep, SaysSpent, ComesUnfailed, ComesOfSink}
+
+-- what holds anyway holds at an error
+pub at_error : {A E X : Type 0} (r : Result A E) → X → OnErr r X
+at_error (Ok x) holds = tt
+at_error (Err e) holds = holds
 
 -- a desk that others don't use is never spent
 pub unspent_alone : {D : Type 0} (m : Meaning D) → IsLawfulDesk m → (old new : D) → Grown m old new → m.alone old ≡ true → m.spent new ≡ false

@@ -17,3 +17,4 @@ pub mod ErrorLemmas
 pub mod HandedLemmas
 pub mod ServesSessionLemmas
 pub mod HistoryLemmas
+pub mod PartLemmas

@@ -1,8 +1,15 @@
 -- Which errors of a server come when.
 use Rattle.std.specs.Prelude.{◌≡◌, ◌^◌, ◌-◌, ⊤, Bool, true, false, Result, Ok, Err}
 use Rattle.lsp_desk.specs.Meaning.{Meaning}
+use Rattle.lsp_server.specs.declared.sink.Refused.{Refused}
+use Rattle.lsp_server.specs.declared.sink.Refused.TheVariants as refusals
 use Rattle.lsp_server.specs.declared.step.ServeError.{ServeError}
 use Rattle.lsp_server.specs.declared.step.ServeError.TheVariants.{ReadFault, WriteFault, ReadsSpent, DeskSpent, NoMemory}
+
+-- what a server stops with where its sink refuses
+abbrev pub refused_error : Refused → ServeError
+refused_error refusals.Failed = WriteFault
+refused_error refusals.NoMemory = NoMemory
 
 -- these errors come between the steps of one piece and the next read
 abbrev pub IsBetweenReads : ServeError → Type 0

@@ -21,3 +21,4 @@ pub mod Steps
 pub mod ServedView
 pub mod ServesSession
 pub mod History
+pub mod PartBegins

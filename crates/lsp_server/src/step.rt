@@ -8,7 +8,7 @@ ghost use Rattle.lsp_session.specs.SessionView.{session_view, life_of};
 ghost use Rattle.lsp_server.specs.SourceSink.{CountRose, Flushes};
 ghost use Rattle.lsp_server.specs.Steps.{MayStep, MadeSteps};
 ghost use Rattle.lsp_server.specs.Leaves.{LeavesFaults, OnlyWrites};
-ghost use Rattle.lsp_server.specs.Errors.{IsFlushedAt, ComesOfSink, LeavesSink};
+ghost use Rattle.lsp_server.specs.Errors.{IsFlushedAt, ComesOfSink, LeavesSink, refused_error};
 ghost use Rattle.lsp_server.specs.declared.step.ServeError.TheVariants.{NoMemory as no_memory};
 
 use crate::write::put;
@@ -49,6 +49,17 @@ impl From<NoMemory> for ServeError {
     }
 }
 
+impl From<Refused> for ServeError {
+    ghost from_gives = { λ refused e. e ≡ refused_error refused };
+
+    fn from(refused: Refused) -> ServeError {
+        match refused {
+            Refused::Failed => ServeError::WriteFault,
+            Refused::NoMemory => ServeError::NoMemory,
+        }
+    }
+}
+
 /// Makes the step of one item: it is admitted, so many rounds are made, and the frames of what was
 /// put out are written by way of the room.
 pub(crate) fn write_step<O: Sink, D: Desk + Drop, H: Handlers<D>, P: Pick>(
@@ -78,11 +89,8 @@ pub(crate) fn write_step<O: Sink, D: Desk + Drop, H: Handlers<D>, P: Pick>(
         Err(SessionFault::Exited(_)) => unreachable!(),
     }
     let out = session.take_out();
-    match put(alloc, room, sink, &out) {
-        Ok(()) => Ok(()),
-        Err(Refused::Failed) => Err(ServeError::WriteFault),
-        Err(Refused::NoMemory) => Err(ServeError::NoMemory),
-    }
+    put(alloc, room, sink, &out)?;
+    Ok(())
 }
 
 /// Sends what the sink took on its way.
@@ -93,11 +101,8 @@ pub(crate) fn flush<O: Sink>(sink: &mut O) -> Result<(), ServeError>
     ensures sink { LeavesFaults O.faults O.beside sink.old sink.new (result_err result) }
     ensures others { IfErr result ComesOfSink }
 {
-    match sink.flush() {
-        Ok(()) => Ok(()),
-        Err(Refused::Failed) => Err(ServeError::WriteFault),
-        Err(Refused::NoMemory) => Err(ServeError::NoMemory),
-    }
+    sink.flush()?;
+    Ok(())
 }
 
 /// Sends what the sink took before an error on its way. The error stands, unless the flush fails

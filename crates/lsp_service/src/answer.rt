@@ -2,7 +2,7 @@
 ghost use Rattle.std.specs.Prelude.{◌≡◌, IfOk};
 ghost use Rattle.lsp_rpc.specs.Shown.{show_body};
 ghost use Rattle.lsp_methods.specs.Shapes.{result_shape};
-ghost use Rattle.lsp_service.specs.Data.{answer, written as written_lem, custom_answer as custom_answer_of, noted as noted_lem, outcome_by, result_shown, write_body, mismatch as mismatch_lem, unless_float as unless_float_lem};
+ghost use Rattle.lsp_service.specs.Data.{answer, written as written_def, custom_answer as custom_answer_of, noted as noted_def, outcome_by, result_shown, write_body, mismatch as mismatch_def, unless_float as unless_float_def};
 ghost use Rattle.lsp_service.specs.Replies.{show_offered};
 
 use crate::call::Target;
@@ -16,7 +16,7 @@ use std::alloc::Global;
 
 // The reply is none of the call's.
 fn mismatch(alloc: Global) -> Result<Result<Value, Error>, NoMemory>
-    ensures { IfOk result (λ body. show_body body ≡ mismatch_lem) }
+    ensures { IfOk result (λ body. show_body body ≡ mismatch_def) }
 {
     Ok(Err(Error::internal_error(alloc)?))
 }
@@ -64,7 +64,7 @@ fn written_answered(
     body: Result<Value, Error>,
 ) -> Result<Result<Value, Error>, NoMemory>
     ensures { IfOk result (λ sent. show_body sent
-        ≡ outcome_by target (written_lem method (show_body body))) }
+        ≡ outcome_by target (written_def method (show_body body))) }
 {
     match target {
         Target::Typed(called) if called.place() == method.place() => unless_float(alloc, body),
@@ -79,7 +79,7 @@ pub(crate) fn initialize_answered(
     body: Result<InitializeReply, Error>,
 ) -> Result<Result<Value, Error>, NoMemory>
     ensures { IfOk result (λ sent. show_body sent
-        ≡ outcome_by target (written_lem (Method.Life LifeMethod.Initialize) (show_offered body))) }
+        ≡ outcome_by target (written_def (Method.Life LifeMethod.Initialize) (show_offered body))) }
 {
     let method = Method::Life(LifeMethod::Initialize);
     match body {
@@ -105,7 +105,7 @@ pub(crate) fn custom_answered(
 
 /// No answer: what a notification is owed.
 pub(crate) fn noted(alloc: Global, target: Target) -> Result<Result<Value, Error>, NoMemory>
-    ensures { IfOk result (λ sent. show_body sent ≡ outcome_by target noted_lem) }
+    ensures { IfOk result (λ sent. show_body sent ≡ outcome_by target noted_def) }
 {
     let kind = match target {
         Target::Typed(method) => method.kind(),
@@ -122,7 +122,7 @@ pub(crate) fn unless_float(
     alloc: Global,
     body: Result<Value, Error>,
 ) -> Result<Result<Value, Error>, NoMemory>
-    ensures { IfOk result (λ sent. show_body sent ≡ unless_float_lem (show_body body)) }
+    ensures { IfOk result (λ sent. show_body sent ≡ unless_float_def (show_body body)) }
 {
     let clean = match &body {
         Ok(value) => is_float_free(value),

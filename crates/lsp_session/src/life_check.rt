@@ -1,6 +1,6 @@
 //! What a life lets a layer do, and how a life changes.
 ghost use Rattle.std.specs.Prelude.{◌≡◌};
-ghost use Rattle.lsp_session.specs.Admission.{check_life as check_lem};
+ghost use Rattle.lsp_session.specs.Admission.{check_life as check_def};
 ghost use Rattle.lsp_session.specs.Polled.{shown_change};
 
 use crate::{Layer, Life, Progress};
@@ -29,7 +29,7 @@ pub enum LifeCheck {
 
 /// What the life lets the layer do. A `shutdown` that passes raises the life.
 pub(crate) fn check_life(life: Life, layer: Layer) -> LifeCheck
-    ensures { result ≡ check_lem life layer }
+    ensures { result ≡ check_def life layer }
 {
     match (life, layer) {
         (_, Layer::Exit | Layer::Cancel) => LifeCheck::Passes(LifeChange::Stays),

@@ -11,7 +11,7 @@ ghost use Rattle.lsp_server.specs.Written.{IsPrefixOf};
 ghost use Rattle.lsp_callers.specs.Callers.{AreIdleFrom, AreHeardOn, ComesOf, heard_shares, messages_of};
 ghost use Rattle.lsp_callers.specs.Tallies.{tallied_view, tallied_desk, tallied_spent, tally_view, tally_desk, tally_spent};
 ghost use Rattle.lsp_talk.specs.Hello.{hello_bytes, IsUnseen, EndsHello};
-ghost use Rattle.lsp_talk.specs.Talk.{HasTalked, WroteLine, WroteLinePart, EndsTalk, status_of_fault, talk_line as talk_line_lem};
+ghost use Rattle.lsp_talk.specs.Talk.{HasTalked, WroteLine, WroteLinePart, EndsTalk, status_of_fault, talk_line as talk_line_def};
 
 use crate::line::write_line;
 use crate::session::{hello, session_at};
@@ -158,9 +158,9 @@ fn end<R: Wait + Sync>(
 fn write_sums<O: Sink>(alloc: Global, sent: u64, delivered: u64, sink: &mut O) -> u8
     ensures known { (result ≡ 0) ⊎ (result ≡ 4) ⊎ (result ≡ 6) }
     ensures wrote { result ≡ 0
-        → Appends (O.taken sink.old) (O.taken sink.new) (talk_line_lem sent delivered) }
+        → Appends (O.taken sink.old) (O.taken sink.new) (talk_line_def sent delivered) }
     ensures part { 3 ≤ result → (written : List ℕ)
-        × IsPrefixOf written (talk_line_lem sent delivered)
+        × IsPrefixOf written (talk_line_def sent delivered)
         × Appends (O.taken sink.old) (O.taken sink.new) written }
     ensures flushed { result ≡ 0 → IsFlushed (O.taken sink.old) (O.flushed sink.old)
         → IsFlushed (O.taken sink.new) (O.flushed sink.new) }
@@ -174,7 +174,7 @@ fn write_sums<O: Sink>(alloc: Global, sent: u64, delivered: u64, sink: &mut O) -
 }
 
 fn talk_line(alloc: Global, sent: u64, delivered: u64) -> Result<String, NoMemory>
-    ensures { IfOk result (λ line. string_bytes line ≡ talk_line_lem sent delivered) }
+    ensures { IfOk result (λ line. string_bytes line ≡ talk_line_def sent delivered) }
 {
     Ok(format!(in alloc; "sent {sent} delivered {delivered}\n")?)
 }

@@ -4,7 +4,7 @@ ghost use Rattle.fast_float.specs.Text.{scan};
 ghost use Rattle.serde_json.specs.Read.{number_from, number_of, float_of};
 ghost use Rattle.serde_json.specs.View.{view};
 ghost use Rattle.serde_json.specs.Written.{has_float};
-ghost use Rattle.lsp_text.specs.Floats.{integer_or_null as integer_or_null_lem, number_by};
+ghost use Rattle.lsp_text.specs.Floats.{integer_or_null as integer_or_null_def, number_by};
 
 use crate::floats::Floats;
 use fast_float::Numeral;
@@ -15,7 +15,7 @@ use std::num::{
 
 // The integer that the float is equal to, or null.
 fn integer_or_null(x: f64) -> Value
-    ensures value { view result ≡ integer_or_null_lem x }
+    ensures value { view result ≡ integer_or_null_def x }
     ensures clean { has_float (view result) ≡ false }
 {
     let n = saturating_f64_to_u64(x);

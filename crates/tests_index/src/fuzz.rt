@@ -65,14 +65,14 @@ const MIDDLING: &[Size] = &[Size {
     positions: 4,
 }];
 
-// 100 queries one by one, and 20,000 in rounds.
+// 50 queries one by one, and 10,000 in rounds.
 const LARGE: &[Size] = &[Size {
     entries: 10_000,
     ids: 250,
     lines: 60,
     dumps: 1,
-    queries: 100,
-    rounds: 40,
+    queries: 50,
+    rounds: 20,
     positions: 500,
 }];
 
@@ -468,13 +468,14 @@ fn try_dump(
     Ok(())
 }
 
-// All dumps of these sizes, of whose queries at least so many have to find something.
-fn walks(alloc: Global, sizes: &[Size], least: u32) -> Result<(), RowError> {
+// All dumps of these sizes, by the random numbers of a stream. At least so many of the queries have to
+// find something.
+fn walks(alloc: Global, stream: u64, sizes: &[Size], least: u32) -> Result<(), RowError> {
     let mut tried = Tried {
         trial: Trial::new(alloc),
         found: 0,
     };
-    let mut random = Pcg32::new(20261129, 54);
+    let mut random = Pcg32::new(20261129, stream);
     for size in sizes {
         for _ in 0..size.dumps {
             try_dump(alloc, &mut random, size, &mut tried)?;
@@ -487,11 +488,16 @@ fn walks(alloc: Global, sizes: &[Size], least: u32) -> Result<(), RowError> {
 
 #[test]
 fn plain_walks_over_small_dumps(rt: HostRuntime) -> Result<(), RowError> {
-    walks(rt.alloc(), SMALL, 1_200)?;
-    walks(rt.alloc(), MIDDLING, 2_800)
+    walks(rt.alloc(), 54, SMALL, 1_200)?;
+    walks(rt.alloc(), 54, MIDDLING, 2_800)
 }
 
 #[test]
 fn plain_walks_over_a_large_dump(rt: HostRuntime) -> Result<(), RowError> {
-    walks(rt.alloc(), LARGE, 5_000)
+    walks(rt.alloc(), 54, LARGE, 2_500)
+}
+
+#[test]
+fn plain_walks_over_another_large_dump(rt: HostRuntime) -> Result<(), RowError> {
+    walks(rt.alloc(), 55, LARGE, 2_500)
 }

@@ -1,20 +1,13 @@
 -- A change alone is made in the text, and each of several in what the ones before left.
-use Rattle.std.proofs.Common.{◌≡◌, Some, None, sym, ap, ◌∙◌, arith}
+use Rattle.std.proofs.Common.{Some, None, sym, ◌∙◌, arith}
 use Rattle.std.specs.Prelude.{Result, Ok, Err, OnOk, string_bytes}
-use Rattle.std.specs.Result.{IsErrAnd}
 use Rattle.std.specs.Str.{chars}
-use Rattle.lsp_documents.specs.declared.error.ChangeError.{ChangeError}
-use Rattle.lsp_documents.specs.declared.error.ChangeError.TheVariants as change_errors
 use Rattle.lsp_documents.proofs.ChangeLemmas.{only_changed, one_changed, none_changed, all_made}
 use Rattle.lsp_documents.proofs.change.apply_all.Goals as goal
 
 on_ok : {A E : Type 0} (r : Result A E) {P Q : Type 0} → (P → Q) → OnOk r P → OnOk r Q
 on_ok (Ok x) f p = f p
 on_ok (Err e) f p = p
-
-on_behind : {A : Type 0} (r : Result A ChangeError) (e : ChangeError) (P : Type 0) → IsErrAnd r (λ x. x ≡ e) → ((let x : Result A ChangeError = Err e in x) ≡ Err change_errors.StartBehindEnd → P) → r ≡ Err change_errors.StartBehindEnd → P
-on_behind (Ok x) e P is f q = absurd is
-on_behind (Err x) e P is f q = f (ap Err (sym is) ∙ q)
 
 pub returns-in-len1-clause-ok : goal.returns-in-len1-clause-ok
 returns-in-len1-clause-ok c =
@@ -26,13 +19,13 @@ returns-in-len1-clause-behind c = λ q.
 
 pub loop-change-preserved : goal.loop-change-preserved
 loop-change-preserved c =
-    one_changed c.args.changes.now c.loop-change.change-index c.change-item-in-loop-change.result (omega arith) c.change-item-in-loop-change.is (chars (string_bytes c.loop-change.draft)) _ c.in_ok-apply.ensures.ok
+    one_changed c.args.changes.now c.loop-change.change-index c.change-item-in-loop-change.result (omega arith) c.change-item-in-loop-change.is (chars (string_bytes c.loop-change.text)) _ c.in_default-apply.ensures.ok
     ∙ c.loop-change.invariant
 
-pub returns-in_err-apply-clause-behind : goal.returns-in_err-apply-clause-behind
-returns-in_err-apply-clause-behind c =
-    on_behind c.from_residual-in_err-apply.result _ _ c.from_residual-in_err-apply.ensures.1 (λ q. sym c.loop-change.invariant
-    ∙ none_changed c.args.changes.now c.loop-change.change-index c.change-item-in-loop-change.result (omega arith) c.change-item-in-loop-change.is (chars (string_bytes c.loop-change.draft)) (c.in_err-apply.ensures.behind q))
+pub returns-in-Err-clause-behind : goal.returns-in-Err-clause-behind
+returns-in-Err-clause-behind c = λ q.
+    sym c.loop-change.invariant
+    ∙ none_changed c.args.changes.now c.loop-change.change-index c.change-item-in-loop-change.result (omega arith) c.change-item-in-loop-change.is (chars (string_bytes c.loop-change.text)) (c.in-Err.ensures.behind q)
 
 pub returns-clause-ok : goal.returns-clause-ok
-returns-clause-ok c = sym c.loop-change.invariant ∙ all_made c.args.changes.now c.loop-change.change-index (chars (string_bytes c.loop-change.draft)) (omega arith)
+returns-clause-ok c = sym c.loop-change.invariant ∙ all_made c.args.changes.now c.loop-change.change-index (chars (string_bytes c.loop-change.text)) (omega arith)

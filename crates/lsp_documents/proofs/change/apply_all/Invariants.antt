@@ -6,4 +6,4 @@ use Rattle.lsp_documents.proofs.change.apply_all.Given as goal
 
 abbrev pub invariant-loop-change : goal.invariant-loop-change
 invariant-loop-change l =
-    all_changed (map change_of (drop l.change-index l.changes)) (chars (string_bytes l.draft)) ≡ all_changed (map change_of l.changes) (chars (string_bytes l.text))
+    all_changed (map change_of (drop l.change-index l.changes)) (chars (string_bytes l.text)) ≡ all_changed (map change_of l.changes) (chars (string_bytes l.fn.text))

@@ -45,7 +45,7 @@ returns-in-Some-clause-end c =
     let within : c.in-Some.begin ≤ length bs = rw c.as_bytes.ensures.value at c.in-Some.ensures.some in
     let at = text_place bs c.args.start.0 c.in-Some.begin c.args.below.0 c.args.below.1 c.utf8.text within begins in
     let here = rw c.range_from-rest.ensures.value at c.offset.ensures in
-    ap (λ n. c.in-Some.begin + n) here ∙ at
+    omega (arith, here, at)
 
 pub returns-in-None-clause-start : goal.returns-in-None-clause-start
 returns-in-None-clause-start c =

@@ -1,6 +1,5 @@
--- One more item, and all of them.
-use Rattle.std.proofs.Common.{◌∙◌, sym, ap, map, fold, arith}
-use Rattle.std.proofs.lemmas.List.{take_all}
+-- One more item.
+use Rattle.std.proofs.Common.{◌∙◌, sym, ap, map, arith}
 use Rattle.lsp_index.specs.Shown.{show_item_edge, show_location}
 use Rattle.lsp_index.specs.Queries.{with_place}
 use Rattle.lsp_index.proofs.SetLemmas.{fold_shown_more}
@@ -9,10 +8,4 @@ use Rattle.lsp_index.proofs.graph.Index.add_places.Goals as goal
 pub loop-item-preserved : goal.loop-item-preserved
 loop-item-preserved c = λ g kept.
     c.in_ok-add_place.ensures g kept ∙ ap (λ l. with_place g l c.item-item.result.role (show_item_edge c.item-item.result)) (c.loop-item.invariant g kept)
-    ∙ sym (fold_shown_more (λ ls i. with_place g ls i.role i) show_item_edge (map show_location c.args.found.now.keys) c.items_of-item-items.result.now c.loop-item.item-index c.item-item.result (omega arith) c.item-item.is)
-
-pub returns : goal.returns
-returns c = λ g kept.
-    c.loop-item.invariant g kept
-    ∙ ap (fold (λ ls i. with_place g ls i.role i) (map show_location c.args.found.now.keys))
-    (ap (map show_item_edge) (take_all c.loop-item.item-index c.items_of-item-items.result.now c.loop-item-test.false) ∙ c.items_of-item-items.ensures g kept)
+    ∙ sym (fold_shown_more (λ ls i. with_place g ls i.role i) show_item_edge (map show_location c.args.found.now.keys) c.args.items.now c.loop-item.item-index c.item-item.result (omega arith) c.item-item.is)

@@ -12,6 +12,7 @@ use Rattle.lsp_desk.specs.Trace as traces
 use Rattle.lsp_desk.proofs.TraceLemmas.{all_owns}
 use Rattle.lsp_session.proofs.RoundLemmas.{dues-append, dues-cons}
 use Rattle.lsp_session.specs.declared.life_check.LifeChange.{LifeChange}
+use Rattle.lsp_session.specs.Determined.{IsDetermined}
 use Rattle.lsp_session.specs.Admission.{Verdict, Silence, Refuses, Answers, Cancels, Exits, Starts, Admission, admission, reads_by}
 use Rattle.lsp_session.specs.Item.{ItemData}
 use Rattle.lsp_session.specs.Run.{Order, Picked, Step, Run, Rounds, Round, PollsAt, Poll, Applies, Admits, Changes, GivesAnswer, Quits, Drains, after_poll, admission_of, occasion, replied, changing, poll_change, answers_for, cancelled}
@@ -23,6 +24,10 @@ use Rattle.lsp_session.specs.State.{State, Work, Effect, marked, dues, entered, 
 all_both : (a b : List TraceEntry) → AllOwn (a ++ b) → AllOwn a × AllOwn b
 all_both [] b h = (tt, h)
 all_both (t ∷ a) b h = let rest = all_both a b h.1 in ((h.0, rest.0), rest.1)
+
+pub both_all : (a b : List TraceEntry) → AllOwn a → AllOwn b → AllOwn (a ++ b)
+both_all [] b p q = q
+both_all (t ∷ a) b p q = (p.0, both_all a b p.1 q)
 
 all_mine : (a : List TraceEntry) → AllOwn a → a ≡ map mine (owns a)
 all_mine [] h = refl
@@ -65,7 +70,7 @@ effect trace out = record { trace = trace; out = out }
 own_in : (e e2 : Effect) → e ≡ e2 → AllOwn e.trace → AllOwn e2.trace
 own_in e e2 is all = subst (λ (x : Effect). AllOwn x.trace) is all
 
-own_in_both : (e a b : Effect) → e ≡ both a b → AllOwn e.trace → AllOwn a.trace × AllOwn b.trace
+pub own_in_both : (e a b : Effect) → e ≡ both a b → AllOwn e.trace → AllOwn a.trace × AllOwn b.trace
 own_in_both e a b is all = all_both a.trace b.trace (own_in e (both a b) is all)
 
 both_same : (e e2 a a2 b b2 : Effect) → e ≡ both a b → e2 ≡ both a2 b2 → a2 ≡ a → b2 ≡ b → e2 ≡ e
@@ -108,12 +113,8 @@ module _ {C T : Type 0} where
 
 -- ---- runs
 
--- a poll is told by what is seen of the handlers: of two with the same, whose calls the desk replied to, both make the same calls and come to the same end
-module _ {H C T P X : Type 0} (semantics : Semantics H C T) (order : Order P) (show : H → X)
-    (finds : (s t : H) → show t ≡ show s → semantics.find t ≡ semantics.find s)
-    (ends : (d d2 d3 : DeskState) (s t : H) (phase : Phase semantics.Call semantics.Task) (asked asked2 : List DeskEntry) (s2 t2 : H) (progress progress2 : Progress semantics.Task) → show t ≡ show s
-    → Polls semantics s phase asked s2 progress → Polls semantics t phase asked2 t2 progress2 → Replays d asked d2 → Replays d asked2 d3 → (asked2 ≡ asked) × (show t2 ≡ show s2) × (progress2 ≡ progress)
-    ) where
+-- where what is seen of the handlers determines each poll
+module _ {H C T P X : Type 0} (semantics : Semantics H C T) (order : Order P) (show : H → X) (determined : IsDetermined semantics show) where
   abbrev S : Type 0
   S = State H semantics.Call semantics.Task
 
@@ -174,7 +175,7 @@ module _ {H C T P X : Type 0} (semantics : Semantics H C T) (order : Order P) (s
   same_admission : (s t : S) (item : ItemData) → seen t ≡ seen s → admission_of semantics t item ≡ admission_of semantics s item
   same_admission s t item q =
       ap (λ (x : V). admission (occasion x) (semantics.find t.service) (reads_by x.empty_params semantics.reads) item) q
-      ∙ ap (λ find. admission (occasion s) find (reads_by s.empty_params semantics.reads) item) (finds s.service t.service (ap (λ (x : V). x.service) q))
+      ∙ ap (λ find. admission (occasion s) find (reads_by s.empty_params semantics.reads) item) (determined.finds s.service t.service (ap (λ (x : V). x.service) q))
 
   same_admits : (s t : S) (a a2 : Admission semantics.Call) (e e2 : Effect) (s2 t2 : S) → seen t ≡ seen s → a2 ≡ a → Admits semantics s a e s2 → Admits semantics t a2 e2 t2 → AllOwn e.trace → AllOwn e2.trace → (e2 ≡ e) × (seen t2 ≡ seen s2)
   same_admits s t a a2 e e2 s2 t2 q same h k all all2 =
@@ -213,7 +214,7 @@ module _ {H C T P X : Type 0} (semantics : Semantics H C T) (order : Order P) (s
       let last = all_both h.taken h.changed own.1 in
       let last2 = all_both k.taken k.changed own2.1 in
       let desk = desks s t q in
-      let ended = ends s.desk h.polled_desk k.polled_desk s.service t.service h.work.phase h.asked k.asked h.service k.service h.progress k.progress (ap (λ (x : V). x.service) q) h.polls
+      let ended = determined.ends s.desk h.polled_desk k.polled_desk s.service t.service h.work.phase h.asked k.asked h.service k.service h.progress k.progress (ap (λ (x : V). x.service) q) h.polls
       (subst (λ phase. Polls semantics t.service phase k.asked k.service k.progress) (ap (λ (w : W). w.phase) work) k.polls)
       (own_replays s.desk h.polled_desk h.asked h.polled h.asks own.0)
       (subst (λ d. Replays d k.asked k.polled_desk) desk (own_replays t.desk k.polled_desk k.asked k.polled k.asks own2.0)) in
