@@ -16,6 +16,10 @@ pub returns-in_err-optional-2-clause-unfit : goal.returns-in_err-optional-2-clau
 unfolding document_symbol_client_capabilities_row
 returns-in_err-optional-2-clause-unfit c = passed_in c.from_residual-in_err-optional-2.result c.in_err-optional-2.field-0.0 document_symbol_client_capabilities_row.shape c.in_ok-object.ensures.ok c.from_residual-in_err-optional-2.ensures.1 (λ why is. c.in_err-optional-2.ensures.unfit why (ap Err is) document_symbol_client_capabilities_row.shape refl)
 
+pub returns-in_err-optional-3-clause-unfit : goal.returns-in_err-optional-3-clause-unfit
+unfolding document_symbol_client_capabilities_row
+returns-in_err-optional-3-clause-unfit c = passed_in c.from_residual-in_err-optional-3.result c.in_err-optional-3.field-0.0 document_symbol_client_capabilities_row.shape c.in_ok-object.ensures.ok c.from_residual-in_err-optional-3.ensures.1 (λ why is. c.in_err-optional-3.ensures.unfit why (ap Err is) document_symbol_client_capabilities_row.shape refl)
+
 pub returns-in_err-supported-clause-unfit : goal.returns-in_err-supported-clause-unfit
 unfolding document_symbol_client_capabilities_row
 returns-in_err-supported-clause-unfit c = passed_in c.from_residual-in_err-supported.result c.in_err-supported.field-0.0 document_symbol_client_capabilities_row.shape c.in_ok-object.ensures.ok c.from_residual-in_err-supported.ensures.1 (λ why is. c.in_err-supported.ensures.unfit why (ap Err is) document_symbol_client_capabilities_row.shape refl)

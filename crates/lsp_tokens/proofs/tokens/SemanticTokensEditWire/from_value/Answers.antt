@@ -20,3 +20,7 @@ returns-in_err-field-2-clause-unfit c = passed_in c.from_residual-in_err-field-2
 pub returns-in_err-optional-clause-unfit : goal.returns-in_err-optional-clause-unfit
 unfolding semantic_tokens_edit_row token_list
 returns-in_err-optional-clause-unfit c = passed_in c.from_residual-in_err-optional.result c.in_err-optional.field-0.0 semantic_tokens_edit_row.shape c.in_ok-object.ensures.ok c.from_residual-in_err-optional.ensures.1 (λ why is. c.in_err-optional.ensures.unfit why (ap Err is) semantic_tokens_edit_row.shape refl)
+
+pub returns-in_err-read_inserted-clause-unfit : goal.returns-in_err-read_inserted-clause-unfit
+unfolding semantic_tokens_edit_row token_list
+returns-in_err-read_inserted-clause-unfit c = passed_in c.from_residual-in_err-read_inserted.result c.in_err-read_inserted.field-0.0 semantic_tokens_edit_row.shape c.in_ok-object.ensures.ok c.from_residual-in_err-read_inserted.ensures.1 (λ why is. absurd (c.in_err-read_inserted.ensures.fits why (ap Err is)))

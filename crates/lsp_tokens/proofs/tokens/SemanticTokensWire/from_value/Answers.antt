@@ -16,3 +16,7 @@ returns-in_err-optional-clause-unfit c = passed_in c.from_residual-in_err-option
 pub returns-in_err-field-clause-unfit : goal.returns-in_err-field-clause-unfit
 unfolding semantic_tokens_row token_list
 returns-in_err-field-clause-unfit c = passed_in c.from_residual-in_err-field.result c.in_err-field.field-0.0 semantic_tokens_row.shape c.in_ok-object.ensures.ok c.from_residual-in_err-field.ensures.1 (λ why is. c.in_err-field.ensures.unfit why (ap Err is) semantic_tokens_row.shape refl)
+
+pub returns-in_err-read_tokens-clause-unfit : goal.returns-in_err-read_tokens-clause-unfit
+unfolding semantic_tokens_row token_list
+returns-in_err-read_tokens-clause-unfit c = passed_in c.from_residual-in_err-read_tokens.result c.in_err-read_tokens.field-0.0 semantic_tokens_row.shape c.in_ok-object.ensures.ok c.from_residual-in_err-read_tokens.ensures.1 (λ why is. absurd (c.in_err-read_tokens.ensures.fits why (ap Err is)))
