@@ -64,16 +64,28 @@ impl Wire for DocumentSymbol {
 
 // By the row of one level.
 #[cycle(reading)]
-#[tactic(auto, unfolding(crate::specs::Tree::document_symbol_level, crate::specs::Tree::show_document_symbol))]
 fn read_symbol(alloc: Global, value: &Value) -> Result<DocumentSymbol, Misfit>
     ensures read { IfOk result
         (λ x. read document_symbol_level.shape (view value.now) ≡ Some (show_document_symbol x)) }
     ensures unfit { IfUnfit result
         (λ why. Refuses document_symbol_level.shape (view value.now) why) }
 {
-    let Value::Object(object) = value else {
-        return Err(Misfit::wanted(Wanted::Object));
-    };
+    match value.as_object() {
+        Some(object) => read_members(alloc, object),
+        None => Err(Misfit::wanted(Wanted::Object)),
+    }
+}
+
+#[cycle(reading)]
+#[tactic(auto, unfolding(crate::specs::Tree::document_symbol_level, crate::specs::Tree::show_document_symbol))]
+fn read_members(alloc: Global, object: &Map<String, Value>) -> Result<DocumentSymbol, Misfit>
+    ensures read { IfOk result
+        (λ x. read document_symbol_level.shape (object_of (members_view object.now.entries))
+        ≡ Some (show_document_symbol x)) }
+    ensures unfit { IfUnfit result
+        (λ why. Refuses document_symbol_level.shape
+        (object_of (members_view object.now.entries)) why) }
+{
     Ok(DocumentSymbol {
         name: field(alloc, object, "name")?,
         detail: optional(alloc, object, "detail")?,
@@ -102,24 +114,41 @@ fn read_children(
         → Refuses t (object_of (members_view object.now.entries)) why) }
 {
     match find(object, "children") {
-        Some(value) => told_member(object, "children", read_list(alloc, value)),
+        Some(value) => told_member(object, "children", read_list_or_null(alloc, value)),
         None => Ok(None),
     }
 }
 
 #[cycle(reading)]
 #[tactic(auto, using(crate::proofs::Unrolled::reading_lemmas))]
-fn read_list(alloc: Global, value: &Value) -> Result<Option<Vec<DocumentSymbol>>, Misfit>
+fn read_list_or_null(
+    alloc: Global,
+    value: &Value,
+) -> Result<Option<Vec<DocumentSymbol>>, Misfit>
     ensures read { IfOk result
         (λ o. read_maybe (read (list document_symbol_shape)) (view value.now)
         ≡ Some (show_option (show_list show_document_symbol) o)) }
     ensures unfit { IfUnfit result
         (λ why. Refuses (maybe (list document_symbol_shape)) (view value.now) why) }
 {
-    match value {
-        Value::Null => Ok(None),
-        Value::Array(items) => Ok(Some(read_all(alloc, items)?)),
-        _ => Err(Misfit::wanted(Wanted::List)),
+    if value.is_null() {
+        Ok(None)
+    } else {
+        Ok(Some(read_list(alloc, value)?))
+    }
+}
+
+#[cycle(reading)]
+fn read_list(alloc: Global, value: &Value) -> Result<Vec<DocumentSymbol>, Misfit>
+    ensures read { IfOk result
+        (λ v. read (list document_symbol_shape) (view value.now)
+        ≡ Some (show_list show_document_symbol v)) }
+    ensures unfit { IfUnfit result
+        (λ why. Refuses (list document_symbol_shape) (view value.now) why) }
+{
+    match value.as_array() {
+        Some(items) => read_all(alloc, items),
+        None => Err(Misfit::wanted(Wanted::List)),
     }
 }
 

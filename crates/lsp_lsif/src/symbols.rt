@@ -46,7 +46,6 @@ impl Wire for RangeBasedDocumentSymbol {
 
 // By the row of one level.
 #[cycle(reading)]
-#[tactic(auto, unfolding(crate::specs::Symbols::range_based_document_symbol_level, crate::specs::Symbols::show_range_based_document_symbol))]
 fn read_symbol(alloc: Global, value: &Value) -> Result<RangeBasedDocumentSymbol, Misfit>
     ensures read { IfOk result
         (λ x. read range_based_document_symbol_level.shape (view value.now)
@@ -54,9 +53,26 @@ fn read_symbol(alloc: Global, value: &Value) -> Result<RangeBasedDocumentSymbol,
     ensures unfit { IfUnfit result
         (λ why. Refuses range_based_document_symbol_level.shape (view value.now) why) }
 {
-    let Value::Object(object) = value else {
-        return Err(Misfit::wanted(Wanted::Object));
-    };
+    match value.as_object() {
+        Some(object) => read_members(alloc, object),
+        None => Err(Misfit::wanted(Wanted::Object)),
+    }
+}
+
+#[cycle(reading)]
+#[tactic(auto, unfolding(crate::specs::Symbols::range_based_document_symbol_level, crate::specs::Symbols::show_range_based_document_symbol))]
+fn read_members(
+    alloc: Global,
+    object: &Map<String, Value>,
+) -> Result<RangeBasedDocumentSymbol, Misfit>
+    ensures read { IfOk result
+        (λ x. read range_based_document_symbol_level.shape
+        (object_of (members_view object.now.entries))
+        ≡ Some (show_range_based_document_symbol x)) }
+    ensures unfit { IfUnfit result
+        (λ why. Refuses range_based_document_symbol_level.shape
+        (object_of (members_view object.now.entries)) why) }
+{
     Ok(RangeBasedDocumentSymbol {
         id: field(alloc, object, "id")?,
         children: read_children(alloc, object)?,
@@ -93,9 +109,9 @@ fn read_list(alloc: Global, value: &Value) -> Result<Vec<RangeBasedDocumentSymbo
     ensures unfit { IfUnfit result
         (λ why. Refuses (list range_based_document_symbol_shape) (view value.now) why) }
 {
-    match value {
-        Value::Array(items) => read_all(alloc, items),
-        _ => Err(Misfit::wanted(Wanted::List)),
+    match value.as_array() {
+        Some(items) => read_all(alloc, items),
+        None => Err(Misfit::wanted(Wanted::List)),
     }
 }
 

@@ -59,16 +59,28 @@ impl Wire for SelectionRange {
 
 // By the row of one level.
 #[cycle(reading)]
-#[tactic(auto, unfolding(crate::specs::SelectionRange::selection_range_level, crate::specs::SelectionRange::show_selection_range))]
 fn read_selection(alloc: Global, value: &Value) -> Result<SelectionRange, Misfit>
     ensures read { IfOk result
         (λ x. read selection_range_level.shape (view value.now) ≡ Some (show_selection_range x)) }
     ensures unfit { IfUnfit result
         (λ why. Refuses selection_range_level.shape (view value.now) why) }
 {
-    let Value::Object(object) = value else {
-        return Err(Misfit::wanted(Wanted::Object));
-    };
+    match value.as_object() {
+        Some(object) => read_members(alloc, object),
+        None => Err(Misfit::wanted(Wanted::Object)),
+    }
+}
+
+#[cycle(reading)]
+#[tactic(auto, unfolding(crate::specs::SelectionRange::selection_range_level, crate::specs::SelectionRange::show_selection_range))]
+fn read_members(alloc: Global, object: &Map<String, Value>) -> Result<SelectionRange, Misfit>
+    ensures read { IfOk result
+        (λ x. read selection_range_level.shape (object_of (members_view object.now.entries))
+        ≡ Some (show_selection_range x)) }
+    ensures unfit { IfUnfit result
+        (λ why. Refuses selection_range_level.shape
+        (object_of (members_view object.now.entries)) why) }
+{
     Ok(SelectionRange {
         range: field(alloc, object, "range")?,
         parent: read_parent(alloc, object)?,
