@@ -132,7 +132,38 @@ def names(it):
     return text + other(it, "in_default", "Name")
 
 
-KINDS = record, renamed, union, names
+def tagged(it):
+    """A type that a member tells: an arm for each text, and one for the rest."""
+    if not re.match(r"\s*match tag\(value, \"\w+\"\) \{\n", it.body) or "_ => Err(Misfit::wanted(Wanted::Form))" not in it.body:
+        return None
+    arms = re.findall(r"Some\(\"(\w+)\"\) => .*?form\(\s*alloc, value,?\s*\)(\?|\.map\()", it.body, re.S)
+    if len(arms) != it.body.count('Some("'):
+        return None
+    asks = any(call == "?" for text, call in arms)
+    text = f"use Rattle.std.proofs.Common.{{refl, {'ap, ' if asks else ''}rules}}\n" + ("use Rattle.std.specs.Prelude.{Err}\n" if asks else "")
+    text += "use Rattle.serde_json.specs.View.{view}\nuse Rattle.lsp_shape.specs.declared.why.Wanted.TheVariants as wants\n"
+    words = (["form_told"] if asks else []) + (["form_mapped"] if any(call != "?" for name, call in arms) else []) + ["wants_other"]
+    text += f"use Rattle.lsp_shape.proofs.Told.{{{', '.join(words)}}}\n" + it.uses() + it.goals()
+    for number, (name, call) in enumerate(arms):
+        arm = f"-in-Some-{name}"
+        if call == "?":
+            was, given = f"c.in_err-form{arm}", "c.from_residual" if number == 0 else f"c.from_residual-in_err-form{arm}"
+            text += it.answer(
+                f"returns-in_err-form{arm}-clause-unfit",
+                f"\n    form_told {given}.result {was}.field-0.0 {it.shape} {it.place()} refl {given}.ensures.1 (λ why is. {was}.ensures.refuses why (ap Err is))\n"
+                f"    (λ why is. let none = {was}.ensures.unfit why (ap Err is) in search rules)",
+            )
+        else:
+            of, out = ("c.form", "c.map") if number == 0 else (f"c.form{arm}", f"c.map{arm}")
+            text += it.answer(
+                f"returns{arm}-clause-unfit",
+                f"\n    form_mapped {of}.result {out}.result {it.shape} {it.place()} refl {out}.ensures.cases {of}.ensures.refuses\n"
+                f"    (λ why is. let none = {of}.ensures.unfit why is in search rules)",
+            )
+    return text + other(it, "in_default", "Form")
+
+
+KINDS = record, renamed, union, names, tagged
 
 
 def main():
