@@ -163,7 +163,40 @@ def tagged(it):
     return text + other(it, "in_default", "Form")
 
 
-KINDS = record, renamed, union, names, tagged
+def labelled(it):
+    """A type that a label tells: an arm for each label, but none for one with a reader. The names of its goals are by the rules, and not seen."""
+    if not re.match(r"\s*let Some\(label\) = \w+Label::of\(value\) else \{\n", it.body):
+        return None
+    text = "use Rattle.std.proofs.Common.{refl, ap, rules}\nuse Rattle.std.specs.Prelude.{Err}\nuse Rattle.serde_json.specs.View.{view}\n"
+    text += "use Rattle.lsp_shape.specs.declared.why.Wanted.TheVariants as wants\nuse Rattle.lsp_shape.proofs.Told.{form_told, form_mapped, wants_other}\n" + it.uses() + it.goals()
+    text += other(it, "in_default", "Form")
+    asked, mapped = 0, 0
+    for name, arm in re.findall(r"\n            \w+Label::(\w+)(?:\(label\))? => (.*?)(?=\n            \w+Label::|\n        \}$)", it.body, re.S):
+        if "as_form(" in arm:
+            asked += arm.count("?")
+            continue
+        for call in re.findall(r"(?:let (\w+) = )?\b(form|result_of)\(.*?\)(\?|\.map\()", arm, re.S):
+            step, word = call[0] or call[1], f"-in-{name}"
+            if call[2] == "?":
+                was, given = f"c.in_err-{step}{word}", "c.from_residual" if asked == 0 else f"c.from_residual-in_err-{step}{word}"
+                asked += 1
+                text += it.answer(
+                    f"returns-in_err-{step}{word}-clause-unfit",
+                    f"\n    form_told {given}.result {was}.field-0.0 {it.shape} {it.place()} refl {given}.ensures.1 (λ why is. {was}.ensures.refuses why (ap Err is))\n"
+                    f"    (λ why is. let none = {was}.ensures.unfit why (ap Err is) in search rules)",
+                )
+            else:
+                of, out = ("c.form", "c.map") if mapped == 0 else (f"c.form{word}", f"c.map{word}")
+                mapped += 1
+                text += it.answer(
+                    f"returns{word}-clause-unfit",
+                    f"\n    form_mapped {of}.result {out}.result {it.shape} {it.place()} refl {out}.ensures.cases {of}.ensures.refuses\n"
+                    f"    (λ why is. let none = {of}.ensures.unfit why is in search rules)",
+                )
+    return text
+
+
+KINDS = record, renamed, union, names, tagged, labelled
 
 
 def main():
