@@ -132,6 +132,9 @@ def names(it):
     return text + other(it, "in_default", "Name")
 
 
+MAPPED = "use Rattle.lsp_lsif.proofs.Mapped.{form_mapped}\n"
+
+
 def tagged(it):
     """A type that a member tells: an arm for each text, and one for the rest."""
     if not re.match(r"\s*match tag\(value, \"\w+\"\) \{\n", it.body) or "_ => Err(Misfit::wanted(Wanted::Form))" not in it.body:
@@ -142,8 +145,8 @@ def tagged(it):
     asks = any(call == "?" for text, call in arms)
     text = f"use Rattle.std.proofs.Common.{{refl, {'ap, ' if asks else ''}rules}}\n" + ("use Rattle.std.specs.Prelude.{Err}\n" if asks else "")
     text += "use Rattle.serde_json.specs.View.{view}\nuse Rattle.lsp_shape.specs.declared.why.Wanted.TheVariants as wants\n"
-    words = (["form_told"] if asks else []) + (["form_mapped"] if any(call != "?" for name, call in arms) else []) + ["wants_other"]
-    text += f"use Rattle.lsp_shape.proofs.Told.{{{', '.join(words)}}}\n" + it.uses() + it.goals()
+    text += MAPPED if any(call != "?" for name, call in arms) else ""
+    text += f"use Rattle.lsp_shape.proofs.Told.{{{'form_told, ' if asks else ''}wants_other}}\n" + it.uses() + it.goals()
     for number, (name, call) in enumerate(arms):
         arm = f"-in-Some-{name}"
         if call == "?":
@@ -157,7 +160,7 @@ def tagged(it):
             of, out = ("c.form", "c.map") if number == 0 else (f"c.form{arm}", f"c.map{arm}")
             text += it.answer(
                 f"returns{arm}-clause-unfit",
-                f"\n    form_mapped {of}.result {out}.result {it.shape} {it.place()} refl {out}.ensures.cases {of}.ensures.refuses\n"
+                f"\n    form_mapped _ {of}.result {out}.result {it.shape} {it.place()} refl {out}.ensures.cases {of}.ensures.refuses\n"
                 f"    (λ why is. let none = {of}.ensures.unfit why is in search rules)",
             )
     return text + other(it, "in_default", "Form")
@@ -168,7 +171,7 @@ def labelled(it):
     if not re.match(r"\s*let Some\(label\) = \w+Label::of\(value\) else \{\n", it.body):
         return None
     text = "use Rattle.std.proofs.Common.{refl, ap, rules}\nuse Rattle.std.specs.Prelude.{Err}\nuse Rattle.serde_json.specs.View.{view}\n"
-    text += "use Rattle.lsp_shape.specs.declared.why.Wanted.TheVariants as wants\nuse Rattle.lsp_shape.proofs.Told.{form_told, form_mapped, wants_other}\n" + it.uses() + it.goals()
+    text += "use Rattle.lsp_shape.specs.declared.why.Wanted.TheVariants as wants\n" + MAPPED + "use Rattle.lsp_shape.proofs.Told.{form_told, wants_other}\n" + it.uses() + it.goals()
     text += other(it, "in_default", "Form")
     asked, mapped = 0, 0
     for name, arm in re.findall(r"\n            \w+Label::(\w+)(?:\(label\))? => (.*?)(?=\n            \w+Label::|\n        \}$)", it.body, re.S):
@@ -190,7 +193,7 @@ def labelled(it):
                 mapped += 1
                 text += it.answer(
                     f"returns{word}-clause-unfit",
-                    f"\n    form_mapped {of}.result {out}.result {it.shape} {it.place()} refl {out}.ensures.cases {of}.ensures.refuses\n"
+                    f"\n    form_mapped _ {of}.result {out}.result {it.shape} {it.place()} refl {out}.ensures.cases {of}.ensures.refuses\n"
                     f"    (λ why is. let none = {of}.ensures.unfit why is in search rules)",
                 )
     return text

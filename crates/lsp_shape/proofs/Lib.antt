@@ -20,3 +20,4 @@ pub mod Tables
 pub mod NotNull
 pub mod ReadClear
 pub mod Tested
+pub mod Maybe

@@ -1,6 +1,6 @@
 -- What a reader says where it wants something else of the value as a whole.
 use Rattle.std.proofs.Common.{◌≡◌, ℕ, List, Bool, true, false, refl, ap, sym, subst, ◌∙◌, Option, Some, None, option_map, is_some}
-use Rattle.std.specs.Prelude.{Result, Ok, Err, IfOk, IsErrAnd, IsOkAnd, MatchResult}
+use Rattle.std.specs.Prelude.{Result, Ok, Err, IfOk, IsErrAnd}
 use Rattle.std.proofs.lemmas.Bool.{false≢true}
 use Rattle.std.proofs.lemmas.Option.{none-some, same_Some}
 use Rattle.serde_json.specs.Data.{Data, null, boolean, number, string, array, object, Items, Members}
@@ -28,16 +28,6 @@ module _ {A : Type 0} (w : Wanted) (s : Shape) (d : Data) (m : Misfit) (told : (
 pub form_told : {A : Type 0} (r : Result A Misfit) (m : Misfit) (s : Shape) (d : Data) → suits s wants.Form ≡ true → IsErrAnd r (λ x. x ≡ m)
     → ((why : Why) → m ≡ misfits.Unfit why → (t : Shape) (e : Data) → Lacks t e wants.Form → Refuses t e why) → ((why : Why) → m ≡ misfits.Unfit why → read s d ≡ None) → IfUnfit r (λ why. Refuses s d why)
 form_told r m s d suited a told none = passed r m (λ why. Refuses s d why) a (λ why is. told why is s d (suited, λ e. absurd (false≢true e), none why is))
-
--- what `map` passes on
-pub mapped_err : {A B : Type 0} {Q : A → B → Type 0} {m : Misfit} (r : Result A Misfit) (out : Result B Misfit) → MatchResult r (λ x. IsOkAnd out (Q x)) (λ e. out ≡ Err e) → out ≡ Err m → r ≡ Err m
-mapped_err {A} {B} {Q} {m} (Ok x) out cases is = absurd (subst (λ (o : Result B Misfit). IsOkAnd o (Q x)) is cases)
-mapped_err {A} {B} {Q} {m} (Err e) out cases is = let same : e ≡ m = cc in ap Err same
-
--- one of several forms, where `map` passes it on
-pub form_mapped : {A B : Type 0} {Q : A → B → Type 0} (r : Result A Misfit) (out : Result B Misfit) (s : Shape) (d : Data) → suits s wants.Form ≡ true → MatchResult r (λ x. IsOkAnd out (Q x)) (λ e. out ≡ Err e)
-    → ((why : Why) → r ≡ Err (misfits.Unfit why) → (t : Shape) (e : Data) → Lacks t e wants.Form → Refuses t e why) → ((why : Why) → r ≡ Err (misfits.Unfit why) → read s d ≡ None) → IfUnfit out (λ why. Refuses s d why)
-form_mapped r out s d suited cases told none = λ why is. let was = mapped_err r out cases is in told why was s d (suited, λ e. absurd (false≢true e), none why was)
 
 -- what a question mark passes on is not read
 pub passed_none : {A : Type 0} (r : Result A Misfit) (m : Misfit) {s : Shape} {d : Data} → IsErrAnd r (λ x. x ≡ m) → ((why : Why) → m ≡ misfits.Unfit why → Refuses s d why) → IsUnfit r → read s d ≡ None

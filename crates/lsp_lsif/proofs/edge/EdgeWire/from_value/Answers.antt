@@ -2,7 +2,8 @@ use Rattle.std.proofs.Common.{refl, ap, rules}
 use Rattle.std.specs.Prelude.{Err}
 use Rattle.serde_json.specs.View.{view}
 use Rattle.lsp_shape.specs.declared.why.Wanted.TheVariants as wants
-use Rattle.lsp_shape.proofs.Told.{form_told, form_mapped, wants_other}
+use Rattle.lsp_lsif.proofs.Mapped.{form_mapped}
+use Rattle.lsp_shape.proofs.Told.{form_told, wants_other}
 use Rattle.lsp_lsif.specs.Edge.{edge_row}
 use Rattle.lsp_lsif.specs.Edge.{edge_data_multi_in_row}
 use Rattle.lsp_lsif.specs.Edge.{edge_data_row}
