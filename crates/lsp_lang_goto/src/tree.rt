@@ -121,10 +121,7 @@ fn read_children(
 
 #[cycle(reading)]
 #[tactic(auto, using(crate::proofs::Unrolled::reading_lemmas))]
-fn read_list_or_null(
-    alloc: Global,
-    value: &Value,
-) -> Result<Option<Vec<DocumentSymbol>>, Misfit>
+fn read_list_or_null(alloc: Global, value: &Value) -> Result<Option<Vec<DocumentSymbol>>, Misfit>
     ensures read { IfOk result
         (λ o. read_maybe (read (list document_symbol_shape)) (view value.now)
         ≡ Some (show_option (show_list show_document_symbol) o)) }
