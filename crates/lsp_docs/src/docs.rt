@@ -20,7 +20,7 @@ use lsp_offer_text::TextDocumentSyncOptions;
 use lsp_rpc::{Error, ErrorCode};
 use lsp_service::{
     Call, InitializeReply, LanguageServer, LifeCall, LifeReply, NoMemory, NoTask, Reply, Started,
-    SyncCall, let_go,
+    SyncCall, not_found_for,
 };
 use lsp_work::{
     DidChangeTextDocumentParams, DidCloseTextDocumentParams, DidOpenTextDocumentParams,
@@ -68,12 +68,12 @@ impl DocsServer {
         ensures failed { IfErr result (λ fault. PollFails D.meaning client.old client.new fault) }
         ensures err { OnErr result (self.new ≡ self.old) }
     {
-        let document = params.text_document;
-        let text = document.text;
-        match self
-            .documents
-            .open(document.uri.as_str(), document.version, text)
-        {
+        let opened = {
+            let document = params.text_document;
+            self.documents
+                .open(document.uri.as_str(), document.version, document.text)
+        };
+        match opened {
             Ok(()) => Ok(()),
             Err(OpenError::AlreadyOpen) => refuse(alloc, client),
             Err(OpenError::NoMemory) => Err(DeskFault::NoMemory),
@@ -92,11 +92,13 @@ impl DocsServer {
         ensures err { OnErr result (self.new ≡ self.old) }
     {
         let document = &params.text_document;
-        match self.documents.change(
+        let changed = self.documents.change(
             document.uri.as_str(),
             document.version,
             params.content_changes.as_slice(),
-        ) {
+        );
+        drop(params);
+        match changed {
             Ok(()) => Ok(()),
             Err(ChangeError::NotOpen | ChangeError::StartBehindEnd) => refuse(alloc, client),
             Err(ChangeError::NoMemory) => Err(DeskFault::NoMemory),
@@ -113,7 +115,9 @@ impl DocsServer {
             (Heeded (closing_of params) self.old.documents self.new.documents)) }
         ensures failed { IfErr result (λ fault. PollFails D.meaning client.old client.new fault) }
     {
-        match self.documents.close(params.text_document.uri.as_str()) {
+        let closed = self.documents.close(params.text_document.uri.as_str());
+        drop(params);
+        match closed {
             Some(_) => Ok(()),
             None => refuse(alloc, client),
         }
@@ -205,13 +209,10 @@ impl<D: Caller> LanguageServer<D> for DocsServer {
                 Ok(body) => Ok(Started::Now(Reply::Custom(body))),
                 Err(NoMemory) => Err(DeskFault::NoMemory),
             },
-            other => {
-                let_go(other);
-                match Error::method_not_found(alloc) {
-                    Ok(error) => Ok(Started::Now(Reply::Error(error))),
-                    Err(NoMemory) => Err(DeskFault::NoMemory),
-                }
-            }
+            other => match not_found_for(alloc, other) {
+                Ok(reply) => Ok(Started::Now(reply)),
+                Err(NoMemory) => Err(DeskFault::NoMemory),
+            },
         }
     }
 
@@ -255,18 +256,12 @@ fn life_reply(alloc: Global, call: LifeCall) -> Result<Result<LifeReply, Error>,
     }
 }
 
-fn initialize(alloc: Global) -> Result<InitializeReply, NoMemory>
-    ensures { IfOk result (λ reply. show_offer reply ≡ initialize_data
-        (record { capabilities = offered; server_info = None })) }
-{
-    InitializeReply::offering(alloc, capabilities())
-}
-
 // Documents are to be told when they are opened, changed and closed, and changes in ranges. Nothing
 // else is offered.
 #[tactic(auto, unfolding(crate::specs::Docs::offered))]
-fn capabilities() -> ServerCapabilities
-    ensures { result ≡ offered }
+fn initialize(alloc: Global) -> Result<InitializeReply, NoMemory>
+    ensures { IfOk result (λ reply. show_offer reply ≡ initialize_data
+        (record { capabilities = offered; server_info = None })) }
 {
     let mut capabilities = ServerCapabilities::default();
     let wanted = TextDocumentSyncOptions {
@@ -277,7 +272,7 @@ fn capabilities() -> ServerCapabilities
         save: None,
     };
     capabilities.text_document_sync = Some(wanted.into());
-    capabilities
+    InitializeReply::offering(alloc, capabilities)
 }
 
 // The params of `docs/text` are an object with a string `uri`.

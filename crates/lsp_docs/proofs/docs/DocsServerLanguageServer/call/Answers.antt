@@ -36,11 +36,11 @@ returns-in-Ok-clause-called g c =
     polls_turn g.D.Caller.meaning c.args.client.now c.args.client.now s s c.args.call _ _ (ap (call_turn s.documents) c.in-Custom.is)
     (takes_reply g.D.Caller.meaning c.args.client.now _ s.documents s.documents _ (ap (λ b. replies (custom_answer b)) (sym c.in-Ok.ensures)) refl)
 
-pub returns-in-Ok-method_not_found : goal.returns-in-Ok-method_not_found
-returns-in-Ok-method_not_found g c =
+pub returns-in-Ok-not_found_for : goal.returns-in-Ok-not_found_for
+returns-in-Ok-not_found_for g c =
     let s = c.args.self.now in
     record {
       called = polls_turn g.D.Caller.meaning c.args.client.now c.args.client.now s s c.args.call _ _ (unknown_group s.documents c.args.call c.in_default.not-Life c.in_default.not-Sync c.in_default.not-Custom)
-          (takes_reply g.D.Caller.meaning c.args.client.now _ s.documents s.documents _ (ap (λ e. replies (refusal e)) (sym c.in-Ok-method_not_found.ensures)) refl);
+          (takes_reply g.D.Caller.meaning c.args.client.now _ s.documents s.documents _ (ap replies (sym c.in-Ok-not_found_for.ensures)) refl);
       failed = tt;
     }
