@@ -1,5 +1,5 @@
 -- Faults and reads of a reading, and of what is served after it.
-use Rattle.std.proofs.Common.{◌≡◌, ◌≢◌, inl, inr, ◌≤◌, ◌<◌, ◌+◌, ◌-◌, ◌*◌, ℕ, List, length, refl, sym, ◌∙◌, ap, subst, arith, Bool, true}
+use Rattle.std.proofs.Common.{◌≡◌, ◌≢◌, inl, inr, ◌≤◌, ◌<◌, ◌+◌, ◌-◌, ◌*◌, ℕ, List, [], length, refl, sym, ◌∙◌, ap, subst, arith, Bool, true}
 use Rattle.std.specs.Prelude.{◌⊎◌, Option, Some, None, IfSome, IfNone}
 use Rattle.std.specs.Io.KnownBytes.{Consumes}
 use Rattle.std.proofs.lemmas.List.{length-append}
@@ -9,7 +9,7 @@ use Rattle.lsp_server.specs.Errors.{IsInStep, LeavesSink}
 use Rattle.lsp_server.specs.Leaves.{LeavesFaults, TellsFaults, WithinReads}
 use Rattle.lsp_server.specs.SourceSink.{CountRose}
 use Rattle.lsp_pump.specs.declared.job.Ended.{Ended}
-use Rattle.lsp_pump.specs.declared.job.Ended.TheVariants.{Exit, End, Failed, Spent, NoMemory, Full}
+use Rattle.lsp_pump.specs.declared.job.Ended.TheVariants.{Open, End, Failed, NoMemory}
 use Rattle.lsp_pump.specs.Reading.{LeavesReads}
 use Rattle.lsp_pump.specs.Pumped.{TellsPumpFaults}
 
@@ -43,11 +43,9 @@ module _ (r0 r1 r2 w0 w1 w2 : ℕ) (exits : Bool) (e : Option ServeError) (kept 
   pub pump_faults : (ended : Ended) → (ended ≡ Failed → CountRose r0 r1) → (ended ≢ Failed → r1 ≡ r0) → r0 ≤ r1 → (ended ≢ Failed → TellsFaults r1 r2 w1 w2 e)
       → (ended ≡ Failed → (e ≡ Some ReadFault) × (r2 ≡ r1) × (w2 ≡ w1)) → TellsPumpFaults r0 r2 w0 w2 exits e
   pump_faults Failed rose same counts others p = failed (rose refl) counts (p refl)
-  pump_faults Exit rose same counts others p = unfailed (same (λ is. cc)) (others (λ is. cc))
+  pump_faults Open rose same counts others p = unfailed (same (λ is. cc)) (others (λ is. cc))
   pump_faults End rose same counts others p = unfailed (same (λ is. cc)) (others (λ is. cc))
-  pump_faults Spent rose same counts others p = unfailed (same (λ is. cc)) (others (λ is. cc))
   pump_faults NoMemory rose same counts others p = unfailed (same (λ is. cc)) (others (λ is. cc))
-  pump_faults Full rose same counts others p = unfailed (same (λ is. cc)) (others (λ is. cc))
 
 -- an error of a step tells a write that failed
 write_told : (w0 w1 : ℕ) (e : ServeError) → IsInStep e → (LeavesSink e → w1 ≡ w0) → w0 < w1 → Some e ≡ Some WriteFault
@@ -57,22 +55,32 @@ write_told w0 w1 ReadsSpent at left rose = absurd at
 write_told w0 w1 (DeskSpent n) at left rose = absurd (omega (arith, left tt, rose))
 write_told w0 w1 OutOfMemory at left rose = absurd (omega (arith, left tt, rose))
 
--- where nothing was read, and steps failed or not
-pub unread_faults : {X B : Type 0} (faults_of : X → ℕ) (beside_of : X → B) (old new : X) (r : ℕ) (e : Option ServeError) → IfSome e IsInStep → LeavesFaults faults_of beside_of old new e → TellsFaults r r (faults_of old) (faults_of new) e
-unread_faults faults_of beside_of old new r None at p = record {
-  read = tt;
-  write = tt;
-  counts = (omega arith, p.count);
-  read_told = λ rose. absurd (omega (arith, rose));
-  write_told = λ rose. absurd (omega (arith, p.unfailed, rose));
-}
-unread_faults faults_of beside_of old new r (Some e) at p = record {
-  read = λ is. absurd (subst IsInStep is at);
+-- a source that gives nothing doesn't fail
+not_rose : CountRose 0 0 → ⊥
+not_rose (inl less) = omega (arith, less)
+not_rose (inr most) = omega (arith, most)
+
+-- where the end of input was served
+pub end_faults : (r w0 w1 : ℕ) (e : Option ServeError) → TellsFaults 0 0 w0 w1 e → TellsFaults r r w0 w1 e
+end_faults r w0 w1 e p = record {
+  read = unread e p.read;
   write = p.write;
-  counts = (omega arith, p.count);
+  counts = (omega arith, p.counts.1);
   read_told = λ rose. absurd (omega (arith, rose));
-  write_told = write_told (faults_of old) (faults_of new) e at p.left;
+  write_told = p.write_told;
 }
+  where
+    unread : (k : Option ServeError) → IfSome k (λ x. x ≡ ReadFault → CountRose 0 0) → IfSome k (λ x. x ≡ ReadFault → CountRose r r)
+    unread None h = tt
+    unread (Some x) h = λ is. absurd (not_rose (h is))
+
+pub end_in_step : (w0 w1 : ℕ) (e : Option ServeError) → TellsFaults 0 0 w0 w1 e → WithinReads 1 4096 (Some []) (Some []) None None e → IfSome e IsInStep
+end_in_step w0 w1 None p q = tt
+end_in_step w0 w1 (Some ReadFault) p q = absurd (not_rose (p.read refl))
+end_in_step w0 w1 (Some WriteFault) p q = tt
+end_in_step w0 w1 (Some ReadsSpent) p q = absurd (omega (arith, q.reads_spent refl))
+end_in_step w0 w1 (Some (DeskSpent n)) p q = tt
+end_in_step w0 w1 (Some OutOfMemory) p q = tt
 
 -- where nothing was done, for another error
 pub idle_faults : (r w : ℕ) (e : ServeError) → e ≢ ReadFault → e ≢ WriteFault → TellsFaults r r w w (Some e)

@@ -1,4 +1,4 @@
--- What a reading takes along and hands back may go to another thread, as a set for `search`.
+-- A reading may go to another thread, as a set for `search`.
 use denote.RattleType.{RattleType}
 use denote.Param.Send.{IsSend, sendable}
 use Rattle.std.proofs.Crossing as std
@@ -16,8 +16,8 @@ use Rattle.lsp_frame.specs.contracts.codec.LanguageServerCodec as Codec
 use Rattle.bytes.proofs.unique.BytesMut.TheSendSync as bytes
 use Rattle.rtrb.proofs.end.End.TheSendSync as end
 use Rattle.lsp_pump.specs.contracts.job.Reading as Reading
-use Rattle.lsp_pump.specs.contracts.job.ReadEnd as ReadEnd
 use Rattle.lsp_pump.proofs.job.Ended.TheSendSync as ended
+use Rattle.lsp_pump.proofs.signal.Signal.TheSendSync as signal
 
 value_send : IsSend Value.the_row
 value_send = search (sendable, std.crosses, maps.crosses, value.send-Value, number.the_field_send) depth 60
@@ -43,10 +43,7 @@ item_send = search (sendable, item_field_send)
 pub codec_send : IsSend Codec.the_row
 codec_send = search (sendable, std.crosses, bytes.the_send) depth 60 fits 20000
 
-pub read_end_send : (I : RattleType) → IsSend I → IsSend (ReadEnd.the_row I)
-read_end_send I is = search (sendable, std.crosses, item_send, codec_send, end.the_send, ended.the_field_send) depth 60
-
 pub reading_send : (I : RattleType) → IsSend I → IsSend (Reading.the_row I)
-reading_send I is = search (sendable, std.crosses, item_send, codec_send, end.the_send) depth 60
+reading_send I is = search (sendable, std.crosses, item_send, codec_send, end.the_send, signal.the_send, signal.the_sync, ended.the_field_send) depth 60
 
-pub ruleset crosses = (item_field_send, item_send, codec_send, read_end_send, reading_send)
+pub ruleset crosses = (item_field_send, item_send, codec_send, reading_send)

@@ -1,7 +1,6 @@
 -- What a reading, the steps beside it and what is served after it come to.
 use Rattle.std.proofs.Common.{◌≡◌, inl, inr, ℕ, List, [], ◌∷◌, ◌++◌, refl, sym, ◌∙◌, ap, subst, append_assoc, true, false}
-use Rattle.std.specs.Prelude.{◌⊎◌, ◌||◌, Option, Some, None, IfSome, IfNone, Result, Ok, Err, IfErr, OnOk, OnErr}
-use Rattle.std.specs.Result.{result_err}
+use Rattle.std.specs.Prelude.{◌⊎◌, ◌||◌, Option, Some, None, IfSome, IfNone}
 use Rattle.std.specs.Io.KnownBytes.{Consumes}
 use Rattle.std.proofs.lemmas.List.{append-nil, map-append}
 use Rattle.lsp_frame.specs.declared.settings.CodecSettings.{CodecSettings}
@@ -24,7 +23,6 @@ use Rattle.lsp_server.proofs.RanLemmas.{ran_none, ran_more, part_after, part_non
 use Rattle.lsp_pump.specs.Spaced.{unticked, EndsInTick, through_exit}
 use Rattle.lsp_pump.specs.Steps.{StepsMade, StepsBegun}
 use Rattle.lsp_pump.specs.declared.job.Ended.{Ended}
-use Rattle.lsp_pump.specs.declared.job.Ended.TheVariants.{Exit, End, Failed, Spent, Full, NoMemory as Short}
 use Rattle.lsp_pump.specs.Reading.{KeepsAllBytes, TellsAll, HasRead}
 use Rattle.lsp_pump.specs.Pumped.{IsPumpedList, RanPumped, PumpedEnough, PumpedTold, PumpedPart, PumpsOver}
 use Rattle.lsp_pump.proofs.SpacedLemmas.{unticked-append, unticked_admitted, through-open, through-none, through-more, through_admitted, through_same, served_through, served_ends}
@@ -189,37 +187,6 @@ module _ {S D : Type 0} (course : Course S D) (codec : At) (taken : Option (List
         part = part_none from_here course.desk (served course.find (coming codec bytes)) (grown_none course.meaning course.desk);
       }
 
-  -- the end of input is
-  module _ (taken1 : Option (List ℕ)) (last : S) (desk : D) where
-    abbrev at_end_items : List ItemData
-    at_end_items = served course.find (all_admitted (items_at codec))
-
-    end_items : at_end_items ≡ served course.find (coming codec [])
-    end_items = ap (λ k. served course.find (all_admitted (items_at k))) (sym (more_nothing codec))
-
-    pub ends_on : {A : Type 0} (r : Result A ServeError) → OnOk r (RanFrom course (call_bytes [] (Some []) taken taken1) at_end_items last desk)
-        → OnErr r (RanPart course.step course.meaning from_here at_end_items desk taken1) → IfErr r IsInStep → ServesOn course codec (call_bytes [] (Some []) taken taken1) last desk (result_err r)
-    ends_on (Ok x) ran part others =
-        let all = subst (λ l. RanFrom course (call_bytes [] (Some []) taken taken1) l last desk) end_items ran in
-        record {
-          read = [];
-          gives = consumes_none (Some []);
-          ok = all;
-          enough = inl refl;
-          unexited = tt;
-          exact = tt;
-          part = part_whole from_here (record { state = last; desk = desk; taken = taken1 }) (served course.find (coming codec [])) all;
-        }
-    ends_on (Err e) ran part others = record {
-      read = [];
-      gives = consumes_none (Some []);
-      ok = tt;
-      enough = tt;
-      unexited = λ between. absurd (never_both e others between);
-      exact = λ between. absurd (never_both e others between);
-      part = subst (λ l. RanPart course.step course.meaning from_here l desk taken1) end_items part;
-    }
-
 -- ---- a reading, the steps beside it, and what is served after it
 
 module _ {S D : Type 0} (course : Course S D) (taken : Option (List ℕ)) (codec : At) (bytes : List ℕ) (left0 left1 : Option (List ℕ)) (is : left0 ≡ Some bytes) (made : ℕ) (given : List ItemData) (codec1 : At) (ended : Ended)
@@ -252,21 +219,3 @@ module _ {S D : Type 0} (course : Course S D) (taken : Option (List ℕ)) (codec
       (some_at left1 (λ c. ServesOn (record { step = course.step; meaning = course.meaning; find = find2; codec = settings; start = d.state; desk = d.desk }) codec1 (call_bytes c left2 d.taken taken2) last desk e) rest.0 rest.1 on) in
       went_on course taken codec has.there has.read given has.tells bytes rest.0 rest.2 d p settings find2 same left2 taken2 last desk
       (λ xs more. consumes_more (Some bytes) left1 left2 has.read xs gives (subst (λ l. Consumes l left2 xs) (sym rest.1) more)) e serves
-
-  -- memory was short, and bytes that were read are lost
-  pub pumped_lost : (d : Place S D) → StepsMade course.step course.meaning course.find at_start given false d → (left2 taken2 : Option (List ℕ)) (last : S) (desk : D) (e : Option ServeError) → e ≡ Some NoMemory → desk ≡ d.desk → taken2 ≡ d.taken
-      → PumpsOver course codec (call_bytes bytes left2 taken taken2) last desk e
-  pumped_lost d p left2 taken2 last desk e e_is desk_is taken_is =
-      let rest = what_is_left bytes left1 (has.read ++ has.lost) has_given in
-      let part = begun_part course taken codec has.there has.read given has.tells bytes (has.lost ++ rest.0) (rest.2 ∙ append_assoc has.read has.lost rest.0) left2 d.desk d.taken (made_begun course.find at_start d given false p) in
-      let here = subst (λ t. PumpedPart course (coming codec bytes) (call_bytes bytes left2 taken t) desk) (sym taken_is) (subst (λ k. PumpedPart course (coming codec bytes) (call_bytes bytes left2 taken d.taken) k) (sym desk_is) part) in
-      subst (λ k. PumpsOver course codec (call_bytes bytes left2 taken taken2) last desk k) (sym e_is) (record { ok = tt; enough = tt; exact = λ between. absurd between; part = here })
-
--- either all bytes were kept, or memory was short
-pub keeps_or_not : (ended : Ended) → KeepsAllBytes ended ⊎ (ended ≡ Short)
-keeps_or_not Exit = inl tt
-keeps_or_not End = inl tt
-keeps_or_not Failed = inl tt
-keeps_or_not Spent = inl tt
-keeps_or_not Short = inr refl
-keeps_or_not Full = inl tt

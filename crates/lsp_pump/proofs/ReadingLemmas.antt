@@ -3,15 +3,18 @@ use Rattle.std.proofs.Common.{◌≡◌, ◌≢◌, ◌≤◌, ◌<◌, ◌+◌,
 use Rattle.std.specs.Prelude.{Option, Some, None, IfSome}
 use Rattle.std.specs.Io.KnownBytes.{Consumes}
 use Rattle.std.proofs.lemmas.List.{append-nil, map-append, length-append}
+use Rattle.rtrb.specs.Ring.{sent}
 use Rattle.lsp_frame.specs.Codec.{At, more, told_at}
 use Rattle.lsp_session.specs.Item.{ItemData}
 use Rattle.lsp_server.specs.Items.{admitted, all_admitted, Decodes}
 use Rattle.lsp_server.proofs.CodecLemmas.{decodes_nothing, decodes_more, decodes_fed, more_nothing, more_more}
-use Rattle.lsp_server.proofs.KnownLemmas.{consumes_more}
+use Rattle.lsp_server.proofs.KnownLemmas.{consumes_none, consumes_more}
 use Rattle.lsp_server.specs.SourceSink.{CountRose}
 use Rattle.lsp_pump.specs.declared.job.Ended.{Ended}
-use Rattle.lsp_pump.specs.declared.job.Ended.TheVariants.{End, Failed, Spent, Full}
-use Rattle.lsp_pump.specs.Reading.{TellsAll, ReadOnce, ReadEnds, LeavesReads, CountsReads, EndsBy, HasRead}
+use Rattle.lsp_pump.specs.declared.job.Ended.TheVariants.{Open, End, Failed}
+use Rattle.lsp_pump.specs.declared.job.Reading.{Reading}
+use Rattle.lsp_pump.specs.Pieces.{all_items, back_items, some_float}
+use Rattle.lsp_pump.specs.Reading.{TellsAll, ReadOnce, ReadEnds, CountsReads, EndsBy, HasRead, IsFresh, HasBegun, IsReadingOf}
 
 -- ---- what is told
 
@@ -82,20 +85,15 @@ module _ (codec : At) (left0 left1 : Option (List ℕ)) (read : List ℕ) (given
 
 -- ---- the causes of ends
 
--- nothing failed, and reading ended for another cause
-pub ends_so : (left0 left1 : Option (List ℕ)) (faults0 faults1 reads made : ℕ) (ended : Ended) → faults1 ≡ faults0 → made ≤ reads → ended ≢ End → ended ≢ Failed → (ended ≡ Spent → made ≡ reads)
-    → EndsBy left0 left1 faults0 faults1 reads made ended
-ends_so left0 left1 faults0 faults1 reads made ended same most not_end not_failed spent = record {
-  at_end = λ is. absurd (not_end is);
-  failed = λ is. absurd (not_failed is);
+-- nothing failed, and there may be more to read
+pub ends_open : (left0 left1 : Option (List ℕ)) (faults0 faults1 reads made : ℕ) → faults1 ≡ faults0 → made ≤ reads → EndsBy left0 left1 faults0 faults1 reads made Open
+ends_open left0 left1 faults0 faults1 reads made same most = record {
+  at_end = λ is. absurd (let bad : Open ≡ End = is in cc);
+  failed = λ is. absurd (let bad : Open ≡ Failed = is in cc);
   unfailed = λ _. same;
   counts = omega (arith, same);
   most = most;
-  spent = spent;
 }
-
-pub ends_full : (left0 left1 : Option (List ℕ)) (faults reads : ℕ) → EndsBy left0 left1 faults faults reads 0 Full
-ends_full left0 left1 faults reads = ends_so left0 left1 faults faults reads 0 Full refl (omega arith) (λ is. cc) (λ is. cc) (λ is. cc)
 
 -- a read ended the reading
 pub ends_by_read : (codec later : At) (left0 left1 left2 : Option (List ℕ)) (read : List ℕ) (faults0 faults1 faults2 reads made : ℕ) (ended : Ended) → Consumes left0 left1 read → ReadEnds codec left1 left2 ended later → faults1 ≡ faults0
@@ -106,10 +104,40 @@ ends_by_read codec later left0 left1 left2 read faults0 faults1 faults2 reads ma
   unfailed = λ not_failed. unfailed not_failed ∙ same;
   counts = omega (arith, same, counts);
   most = most;
-  spent = λ is. absurd (e.stops (subst LeavesReads (sym is) tt));
 }
   where
     told_end : (l0 l1 l2 : Option (List ℕ)) (xs : List ℕ) → Consumes l0 l1 xs → IfSome l1 (λ _. l2 ≡ Some []) → IfSome l0 (λ _. l2 ≡ Some [])
     told_end None l1 l2 xs g p = tt
     told_end (Some bytes) None l2 xs g p = absurd g
     told_end (Some bytes) (Some rest) l2 xs g p = p
+
+-- ---- a reading
+
+module _ {I : Type 0} (left_of : I → Option (List ℕ)) (faults_of : I → ℕ) where
+  -- one that is to begin has told nothing
+  pub fresh_begun : (r : Reading I) → IsFresh r → HasBegun left_of faults_of r r
+  fresh_begun r fresh = record {
+    ring = ((refl, refl, refl, refl), refl);
+    read = [];
+    gives = consumes_none (left_of r.source);
+    tells = subst (λ (l : List ItemData). TellsAll (more r.codec []) l r.codec) (sym (ap all_items fresh.sent)) (tells_none r.codec fresh.told);
+    reads = subst (λ n. CountsReads [] n) (sym fresh.made) counts_none;
+    unfailed = refl;
+    none = fresh.back;
+  }
+
+  -- one that went on stops where it is
+  pub stops_open : (start end : Reading I) (reads : ℕ) → HasBegun left_of faults_of start end → end.made ≤ reads → IsReadingOf left_of faults_of start reads end Open
+  stops_open start end reads p most =
+      let told = all_items (sent end.sender) in
+      let all : told ≡ told ++ back_items end.back = sym (append-nil told) ∙ ap (λ b. told ++ back_items b) (sym p.none) in
+      record {
+        ring = p.ring;
+        has = subst (λ (l : List ItemData). HasRead start.codec (left_of start.source) (left_of end.source) end.made l end.codec Open) all
+            (ended_now start.codec (left_of start.source) (left_of end.source) p.read told end.codec end.made p.gives p.tells p.reads Open);
+        ends = ends_open (left_of start.source) (left_of end.source) (faults_of start.source) (faults_of end.source) reads end.made p.unfailed most;
+        float_free = ap (λ b. some_float (back_items b)) p.none;
+      }
+
+  pub fresh_open : (r : Reading I) (reads : ℕ) → IsFresh r → IsReadingOf left_of faults_of r reads r r.ended
+  fresh_open r reads fresh = subst (IsReadingOf left_of faults_of r reads r) (sym fresh.ended) (stops_open r r reads (fresh_begun r fresh) (omega (arith, fresh.made)))

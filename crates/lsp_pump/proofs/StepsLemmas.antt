@@ -17,7 +17,7 @@ use Rattle.lsp_server.proofs.ItemsLemmas.{has_exit-append, has_exit_same}
 use Rattle.lsp_server.proofs.RanLemmas.{grown_none, ran_none, ran_more, part_more, part_after, part_whole, grown_after}
 use Rattle.lsp_server.proofs.TakingLemmas.{flushed_then}
 use Rattle.lsp_pump.specs.Spaced.{unticked, through_exit}
-use Rattle.lsp_pump.specs.Steps.{StepsMade, StepsBegun, StepsAnswered, Way, MayGoOn, StandsAfter, LeavesSteps, MakesSteps}
+use Rattle.lsp_pump.specs.Steps.{StepsMade, StepsBegun, StepsAnswered, Way, MayGoOn, StandsAfter, MakesSteps}
 use Rattle.lsp_pump.proofs.SpacedLemmas.{unticked-append, through-open, through-none, through-more, through_one, through_tick, through_same}
 
 or_false : (k : Bool) → (k || false) ≡ k
@@ -158,19 +158,14 @@ module _ {X S D B : Type 0} (way : Way X S D B) (rounds : ℕ) where
   pub makes_untick : (a b : X) (items : List ItemData) (r : Result Bool ServeError) → MakesSteps way rounds a (items ++ tick ∷ []) r b → MakesSteps way rounds a items r b
   makes_untick a b items r p = with_answer a b (items ++ tick ∷ []) items r p (untick (way.step rounds) way.meaning (find_of a) (way.place a) (way.place b) items r p.answered)
 
-  -- ---- what steps leave
-
-  pub leaves_of : (a b : X) (items : List ItemData) (r : Result Bool ServeError) → MakesSteps way rounds a items r b → LeavesSteps way a (result_err r) b
-  leaves_of a b items (Ok true) p = record { ready = p.stands.0; fails = tt; grown = p.grown; flushed = p.flushed; sink = p.sink }
-  leaves_of a b items (Ok false) p = record { ready = p.stands.ready; fails = tt; grown = p.grown; flushed = p.flushed; sink = p.sink }
-  leaves_of a b items (Err e) p = record { ready = tt; fails = p.fails; grown = p.grown; flushed = p.flushed; sink = p.sink }
-
-  -- where memory was short before any step
-  pub leaves_none : (a : X) → LeavesSteps way a (Some NoMemory) a
-  leaves_none a = record {
-    ready = tt;
+  -- memory was short after steps
+  pub makes_short : (a b : X) (items : List ItemData) → MakesSteps way rounds a items (Ok false) b → MakesSteps way rounds a items (Err NoMemory) b
+  makes_short a b items p = record {
+    answered = made_begun (find_of a) (way.place a) (way.place b) items false p.answered;
+    same = tt;
+    stands = tt;
     fails = record { in_step = tt; spent = tt };
-    grown = grown_none way.meaning (way.place a).desk;
+    grown = p.grown;
     flushed = record { flushed = tt; flushed_at = λ bad. absurd bad };
-    sink = record { beside = refl; count = omega arith; write = λ is. absurd (cc); unfailed = tt; left = λ _. refl };
+    sink = record { beside = p.sink.beside; count = p.sink.count; write = λ is. absurd (cc); unfailed = tt; left = λ _. p.sink.unfailed };
   }

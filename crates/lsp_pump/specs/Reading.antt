@@ -7,28 +7,23 @@ use Rattle.lsp_session.specs.Item.{ItemData}
 use Rattle.lsp_server.specs.Items.{all_admitted, Decodes}
 use Rattle.lsp_server.specs.SourceSink.{CountRose}
 use Rattle.lsp_pump.specs.declared.job.Ended.{Ended}
-use Rattle.lsp_pump.specs.declared.job.Ended.TheVariants.{Exit, End, Failed, Spent, NoMemory, Full}
+use Rattle.lsp_pump.specs.declared.job.Ended.TheVariants.{Open, End, Failed, NoMemory}
 use Rattle.lsp_pump.specs.declared.job.Reading.{Reading}
-use Rattle.lsp_pump.specs.declared.job.ReadEnd.{ReadEnd}
 use Rattle.lsp_pump.specs.Pieces.{all_items, back_items, ItemsAreFloatFree}
 
 -- no bytes were lost at such an end
 abbrev pub KeepsAllBytes : Ended → Type 0
-KeepsAllBytes Exit = ⊤
+KeepsAllBytes Open = ⊤
 KeepsAllBytes End = ⊤
 KeepsAllBytes Failed = ⊤
-KeepsAllBytes Spent = ⊤
 KeepsAllBytes NoMemory = ⊥
-KeepsAllBytes Full = ⊤
 
 -- reads may be left at such an end, and each that was made gave bytes
 abbrev pub LeavesReads : Ended → Type 0
-LeavesReads Exit = ⊤
+LeavesReads Open = ⊤
 LeavesReads End = ⊥
 LeavesReads Failed = ⊥
-LeavesReads Spent = ⊤
 LeavesReads NoMemory = ⊥
-LeavesReads Full = ⊤
 
 -- a codec told these items, all that it tells
 pub record TellsAll (codec : At) (items : List ItemData) (there : At) : Type 0 where
@@ -66,7 +61,6 @@ pub record EndsBy (left left_after : Option (List ℕ)) (faults faults_after : �
   pub unfailed : ended ≢ Failed → faults_after ≡ faults
   pub counts : faults ≤ faults_after
   pub most : made ≤ reads
-  pub spent : ended ≡ Spent → made ≡ reads
 
 -- what a reading comes to from a codec on: the items given, and how it ended
 pub record HasRead (codec : At) (left left_after : Option (List ℕ)) (made : ℕ) (given : List ItemData) (codec_after : At) (ended : Ended) : Type 0 where
@@ -79,19 +73,17 @@ pub record HasRead (codec : At) (left left_after : Option (List ℕ)) (made : �
   pub few : length (read ++ lost) ≤ made * 4096
   pub each : LeavesReads ended → made ≤ length (read ++ lost)
 
--- the items that a reading gave were served so
-pub record ReadAndServed (codec : At) (left left_after : Option (List ℕ)) (made : ℕ) (codec_after : At) (ended : Ended) (Served : List ItemData → Type 0) : Type 0 where
-  pub given : List ItemData
-  pub has : HasRead codec left left_after made given codec_after ended
-  pub served : Served given
+-- a reading that is to begin
+pub record IsFresh {I : Type 0} (reading : Reading I) : Type 0 where
+  pub told : told_at reading.codec ≡ []
+  pub sent : sent reading.sender ≡ []
+  pub back : reading.back ≡ None
+  pub made : reading.made ≡ 0
+  pub ended : reading.ended ≡ Open
 
 module _ {I : Type 0} (left_of : I → Option (List ℕ)) (faults_of : I → ℕ) where
-  -- what a reading hands over and hands back
-  abbrev pub handed_over : ReadEnd I → List ItemData
-  handed_over end = all_items (sent end.sender) ++ back_items end.back
-
   -- a reading goes on: so many reads told all these items, and all of them are on the ring
-  pub record HasBegun (start : Reading I) (end : ReadEnd I) : Type 0 where
+  pub record HasBegun (start end : Reading I) : Type 0 where
     pub ring : SameProducer start.sender end.sender
     pub read : List ℕ
     pub gives : Consumes (left_of start.source) (left_of end.source) read
@@ -100,9 +92,9 @@ module _ {I : Type 0} (left_of : I → Option (List ℕ)) (faults_of : I → ℕ
     pub unfailed : faults_of end.source ≡ faults_of start.source
     pub none : end.back ≡ None
 
-  -- the promise of a reading thread
-  pub record IsReadingOf (start : Reading I) (reads : ℕ) (end : ReadEnd I) : Type 0 where
+  -- what a reading came to that ended so
+  pub record IsReadingOf (start : Reading I) (reads : ℕ) (end : Reading I) (ended : Ended) : Type 0 where
     pub ring : SameProducer start.sender end.sender
-    pub has : HasRead start.codec (left_of start.source) (left_of end.source) end.made (handed_over end) end.codec end.ended
-    pub ends : EndsBy (left_of start.source) (left_of end.source) (faults_of start.source) (faults_of end.source) reads end.made end.ended
+    pub has : HasRead start.codec (left_of start.source) (left_of end.source) end.made (all_items (sent end.sender) ++ back_items end.back) end.codec ended
+    pub ends : EndsBy (left_of start.source) (left_of end.source) (faults_of start.source) (faults_of end.source) reads end.made ended
     pub float_free : ItemsAreFloatFree (back_items end.back)

@@ -1,5 +1,5 @@
 -- The steps of items, with ticks between them.
-use Rattle.std.specs.Prelude.{◌≡◌, ◌≢◌, Bool, true, false, ℕ, List, [], ◌∷◌, Option, None, Result, Ok, Err, IfOk, IfErr, OnOk, OnErr, IfSome, IfNone}
+use Rattle.std.specs.Prelude.{◌≡◌, ◌≢◌, Bool, true, false, ℕ, List, Option, None, Result, Ok, Err, IfOk, IfErr}
 use Rattle.std.specs.Result.{result_err}
 use Rattle.lsp_desk.specs.declared.desk.Caller.{Ghosts as CallerGhosts}
 use Rattle.lsp_desk.specs.declared.life.Life.TheVariants.{Exited}
@@ -57,6 +57,7 @@ pub record Way (X S D B : Type 0) : Type 1 where
   pub place : X → Place S D
   pub flushed : X → Option ℕ
   pub faults : X → ℕ
+  -- what no step changes
   pub beside : X → B
   -- it stands between two steps
   pub is_ready : X → Type 0
@@ -75,14 +76,6 @@ module _ {X S D B : Type 0} (way : Way X S D B) where
   StandsAfter x true = way.is_ready x × (way.has_exited x ≡ true)
   StandsAfter x false = MayGoOn x
 
-  -- what steps leave, by the error that they answer, if any
-  pub record LeavesSteps (old : X) (error : Option ServeError) (new : X) : Type 0 where
-    pub ready : IfNone error (way.is_ready new)
-    pub fails : IfSome error (FailsInStep way.meaning (way.place new).desk)
-    pub grown : Grown way.meaning (way.place old).desk (way.place new).desk
-    pub flushed : StaysFlushed (way.place old).taken (way.flushed old) (way.place new).taken (way.flushed new) error
-    pub sink : LeavesFaults way.faults way.beside old new error
-
 module _ {X S D B : Type 0} (way : Way X S D B) (rounds : ℕ) where
   -- the steps of these items were made, and this was answered
   pub record MakesSteps (old : X) (items : List ItemData) (result : Result Bool ServeError) (new : X) : Type 0 where
@@ -93,9 +86,3 @@ module _ {X S D B : Type 0} (way : Way X S D B) (rounds : ℕ) where
     pub grown : Grown way.meaning (way.place old).desk (way.place new).desk
     pub flushed : StaysFlushed (way.place old).taken (way.flushed old) (way.place new).taken (way.flushed new) (result_err result)
     pub sink : LeavesFaults way.faults way.beside old new (result_err result)
-
-  -- the step of this item was made, or what was written begins its frames
-  pub record MakesStep (old : X) (item : ItemData) (result : Result Bool ServeError) (new : X) : Type 0 where
-    pub ran : OnOk result (Ran (way.step rounds) way.meaning (way.place old) (item ∷ []) (way.place new))
-    pub part : OnErr result (RanPart (way.step rounds) way.meaning (way.place old) (item ∷ []) (way.place new).desk (way.place new).taken)
-    pub makes : MakesSteps old (item ∷ []) result new

@@ -1,10 +1,10 @@
 // The reading job: what a thread of its own does with a source.
-ghost use Rattle.std.specs.Prelude.{◌≡◌, ◌≢◌, ◌≤◌, ◌++◌, [], ℕ, Err, IfOk, IfErr};
+ghost use Rattle.std.specs.Prelude.{◌≡◌, ◌≢◌, ◌≤◌, ◌++◌, ℕ, Err, IfOk, IfErr};
 ghost use Rattle.rtrb.specs.Ring.{sent, SameProducer};
-ghost use Rattle.lsp_frame.specs.Codec.{more, told_at};
+ghost use Rattle.lsp_frame.specs.Codec.{more};
 ghost use Rattle.lsp_server.specs.SourceSink.{CountRose};
 ghost use Rattle.lsp_pump.specs.Pieces.{piece_items, all_items, back_items, ItemsAreFloatFree};
-ghost use Rattle.lsp_pump.specs.Reading.{TellsAll, ReadOnce, ReadEnds, HasBegun, IsReadingOf};
+ghost use Rattle.lsp_pump.specs.Reading.{TellsAll, ReadOnce, ReadEnds, IsFresh, IsReadingOf};
 
 use crate::pieces::Sender;
 use crate::signal::Signal;
@@ -14,6 +14,7 @@ use lsp_server::{Failed, Source, next_item};
 use lsp_session::Item;
 use rtrb::PushError;
 use std::alloc::Global;
+use std::sync::Arc;
 use std::thread;
 
 // How many bytes are read at most at a time.
@@ -22,37 +23,13 @@ const READ_SIZE: usize = 4096;
 // How often a full ring is tried for a piece.
 const TRIES: u64 = 10_000_000;
 
-/// What a reading begins with.
+/// A reading: what it reads with, and what it came to.
 #[derive(Drop)]
 pub(crate) struct Reading<I> {
     pub(crate) source: I,
     pub(crate) codec: LanguageServerCodec,
     pub(crate) sender: Sender,
-}
-
-/// How a reading ended.
-#[derive(Clone, Copy)]
-pub(crate) enum Ended {
-    /// A request was told whose method has the name `exit`. It may be no exit.
-    Exit,
-    /// At the end of input.
-    End,
-    /// A read failed.
-    Failed,
-    /// All reads that were granted were made.
-    Spent,
-    /// Out of memory.
-    NoMemory,
-    /// The full ring did not take a piece, or nothing was read at all.
-    Full,
-}
-
-/// What a reading hands back.
-#[derive(Drop)]
-pub(crate) struct ReadEnd<I> {
-    pub(crate) source: I,
-    pub(crate) codec: LanguageServerCodec,
-    pub(crate) sender: Sender,
+    pub(crate) signal: Arc<Signal, Global>,
     /// The piece that the full ring did not take.
     pub(crate) back: Option<Vec<Item>>,
     /// How many reads were made.
@@ -60,83 +37,54 @@ pub(crate) struct ReadEnd<I> {
     pub(crate) ended: Ended,
 }
 
+/// How a reading ended.
+#[derive(Clone, Copy)]
+pub(crate) enum Ended {
+    /// There may be more to read: a request was told whose method has the name `exit`, which may be
+    /// no exit; all reads that were granted were made; the full ring did not take a piece; or
+    /// nothing was read at all.
+    Open,
+    /// At the end of input.
+    End,
+    /// A read failed.
+    Failed,
+    /// Out of memory.
+    NoMemory,
+}
+
 /// Reads the source, at most `reads` times, and puts the items that each read tells onto the ring,
-/// as one piece; unless it was called off before it began.
-pub(crate) fn read_job<I: Source>(
-    alloc: Global,
-    reading: Reading<I>,
-    reads: u64,
-    signal: &Signal,
-) -> ReadEnd<I>
-    requires fresh { sent reading.sender ≡ [] }
-    requires told { told_at reading.codec ≡ [] }
-    ensures { IsReadingOf I.left I.faults reading reads result }
+/// as one piece; unless reading was over before it began.
+pub(crate) fn read_job<I: Source>(alloc: Global, reading: Reading<I>, reads: u64) -> Reading<I>
+    requires fresh { IsFresh reading }
+    ensures { IsReadingOf I.left I.faults reading reads result result.ended }
 {
-    if signal.is_off() {
-        return begun(reading);
+    let mut reading = reading;
+    if reading.signal.has_ended() {
+        return reading;
     }
-    let end = read_all(alloc, reading, reads, signal);
-    signal.end();
-    end
+    reading.ended = read_all(alloc, &mut reading, reads);
+    reading.signal.end();
+    reading
 }
 
-// What is handed back where nothing was read.
-fn begun<I: Source>(reading: Reading<I>) -> ReadEnd<I>
-    requires fresh { sent reading.sender ≡ [] }
-    requires told { told_at reading.codec ≡ [] }
-    ensures begun { HasBegun I.left I.faults reading result }
-    ensures none { result.made ≡ 0 }
-    ensures reading { (reads : ℕ) → IsReadingOf I.left I.faults reading reads result }
+fn read_all<I: Source>(alloc: Global, reading: &mut Reading<I>, reads: u64) -> Ended
+    requires fresh { IsFresh reading.old }
+    ensures { IsReadingOf I.left I.faults reading.old reads reading.new result }
 {
-    let Reading {
-        source,
-        codec,
-        sender,
-    } = reading;
-    ReadEnd {
-        source,
-        codec,
-        sender,
-        back: None,
-        made: 0,
-        ended: Ended::Full,
-    }
-}
-
-fn read_all<I: Source>(
-    alloc: Global,
-    reading: Reading<I>,
-    reads: u64,
-    signal: &Signal,
-) -> ReadEnd<I>
-    requires fresh { sent reading.sender ≡ [] }
-    requires told { told_at reading.codec ≡ [] }
-    ensures { IsReadingOf I.left I.faults reading reads result }
-{
-    let mut end = begun(reading);
     for _ in 0..reads {
-        end.made += 1;
-        match read_piece(alloc, &mut end.source, &mut end.codec) {
+        reading.made += 1;
+        match read_piece(alloc, &mut reading.source, &mut reading.codec) {
             Ok(piece) => {
                 let exits = names_exit(&piece);
-                end.back = send(&mut end.sender, piece, signal);
-                if end.back.is_some() {
-                    end.ended = Ended::Full;
-                    return end;
-                }
-                if exits {
-                    end.ended = Ended::Exit;
-                    return end;
+                reading.back = send(&mut reading.sender, piece, &reading.signal);
+                if exits || reading.back.is_some() {
+                    return Ended::Open;
                 }
             }
-            Err(ended) => {
-                end.ended = ended;
-                return end;
-            }
+            Err(ended) => return ended,
         }
     }
-    end.ended = Ended::Spent;
-    end
+    Ended::Open
 }
 
 // Reads once, and gives all items that are told by then, or how reading ended.
@@ -211,8 +159,11 @@ fn send(sender: &mut Sender, piece: Vec<Item>, signal: &Signal) -> Option<Vec<It
 // Whether a request with the method name `exit` is among the items: a hint, since only the session
 // knows its exits.
 fn names_exit(piece: &Vec<Item>) -> bool {
-    piece.iter().any(|item| match item {
-        Item::Message(Message::Request(request)) => request.method() == "exit",
-        _ => false,
-    })
+    for item in piece.iter() {
+        match item {
+            Item::Message(Message::Request(request)) if request.method() == "exit" => return true,
+            _ => {}
+        }
+    }
+    false
 }

@@ -1,5 +1,5 @@
 //! A session that is served while a thread of its own reads.
-ghost use Rattle.std.specs.Prelude.{◌≡◌, ◌≤◌, [], false, IfOk, IfErr, OnOk};
+ghost use Rattle.std.specs.Prelude.{◌≡◌, ◌≤◌, [], false, IfOk, OnOk};
 ghost use Rattle.std.specs.Result.{result_err};
 ghost use Rattle.rtrb.specs.Ring.{sent, received, IsPair, SameConsumer};
 ghost use Rattle.lsp_desk.specs.Meaning.{IsOpening};
@@ -12,14 +12,14 @@ ghost use Rattle.lsp_server.specs.ServerView.{server_desk, server_limits, server
 ghost use Rattle.lsp_pump.specs.Pieces.{all_items};
 ghost use Rattle.lsp_pump.specs.Steps.{MakesSteps, MayGoOn, IsUnexited};
 ghost use Rattle.lsp_pump.specs.SeatWay.{seat_way};
-ghost use Rattle.lsp_pump.specs.Reading.{EndsBy, ReadAndServed, IsReadingOf};
+ghost use Rattle.lsp_pump.specs.Reading.{IsFresh, IsReadingOf};
 ghost use Rattle.lsp_pump.specs.Onward.{PumpsOn};
 ghost use Rattle.lsp_pump.specs.PumpsSession.{PumpsSession};
 
-use crate::job::{Ended, ReadEnd, Reading, read_job};
+use crate::job::{Ended, Reading, read_job};
 use crate::pieces::{FloatFree, Pieces, Sender};
 use crate::signal::Signal;
-use crate::steps::{Held, Seat, Steps, finish, serve_rest, serve_waiting};
+use crate::steps::{Held, Seat, Steps, serve_after, serve_waiting};
 use bytes::BytesMut;
 use lsp_desk::{Desk, Loopback};
 use lsp_frame::{CodecSettings, LanguageServerCodec};
@@ -29,7 +29,7 @@ use rtrb::RingBuffer;
 use std::alloc::{AllocError, Global};
 use std::snapshot::Snapshot;
 use std::sync::{Arc, Wait};
-use std::thread::{self, Promise, PromisedHandle, Threads};
+use std::thread::{self, Promise, Threads};
 
 // How many pieces wait on the ring at most.
 const PLACES: usize = 16;
@@ -41,47 +41,52 @@ struct Promised<I> {
     reads: u64,
 }
 
-impl<I: Source> Promise<ReadEnd<I>> for Promised<I> {
-    ghost kept_by = { λ p end. IsReadingOf I.left I.faults p.start.value p.reads end };
+impl<I: Source> Promise<Reading<I>> for Promised<I> {
+    ghost kept_by = { λ p end. IsReadingOf I.left I.faults p.start.value p.reads end end.ended };
 }
 
-// The session's end of the ring, and the signal twice: for the reader and for the session.
-#[derive(Drop)]
+// Both ends of the ring, and the signal twice: for the reader and for the session.
 struct Lines {
+    sender: Sender,
     pieces: Pieces,
     theirs: Arc<Signal, Global>,
     ours: Arc<Signal, Global>,
 }
 
-fn make_lines(alloc: Global) -> Result<(Sender, Lines), AllocError>
-    ensures fresh { IfOk result (λ r. sent r.0 ≡ []) }
-    ensures pair { IfOk result (λ r. (received r.1.pieces ≡ []) × IsPair r.0 r.1.pieces) }
+fn make_lines(alloc: Global) -> Result<Lines, AllocError>
+    ensures fresh { IfOk result (λ l. (sent l.sender ≡ []) × (received l.pieces ≡ [])) }
+    ensures pair { IfOk result (λ l. IsPair l.sender l.pieces) }
 {
-    let (sender, pieces) = RingBuffer::with_protocol::<Global, FloatFree>(alloc, PLACES)?;
     let ours = Arc::new(alloc, Signal::new())?;
     let theirs = Arc::try_clone(&ours)?;
-    let lines = Lines {
+    let (sender, pieces) = RingBuffer::with_protocol::<Global, FloatFree>(alloc, PLACES)?;
+    Ok(Lines {
+        sender,
         pieces,
         theirs,
         ours,
-    };
-    Ok((sender, lines))
+    })
 }
 
-// Starts the reading on a thread of its own. Where none can be started nothing is read.
-fn start<R: Threads, I: Source + Send + Drop + 'static>(
+// Starts the reading on a thread of its own, serves what comes of it until it ends, a step fails or
+// there was an exit, and waits for it. Where no thread can be started nothing is read.
+fn serve_beside<R: Threads + Wait, I: Source + Send + Drop + 'static, S: Steps>(
     rt: &R,
     alloc: Global,
     reading: Reading<I>,
+    pieces: &mut Pieces,
+    signal: &Signal,
+    steps: &mut S,
     reads: u64,
-    theirs: Arc<Signal, Global>,
-    ours: &Signal,
-) -> Result<PromisedHandle<ReadEnd<I>, Promised<I>>, ReadEnd<I>>
-    requires fresh { sent reading.sender ≡ [] }
-    requires told { told_at reading.codec ≡ [] }
-    ensures started { IfOk result (λ handle. (handle.promise.start.value ≡ reading)
-        × (handle.promise.reads ≡ reads)) }
-    ensures refused { IfErr result (λ end. IsReadingOf I.left I.faults reading reads end) }
+    rounds: u64,
+) -> (Reading<I>, Result<bool, ServeError>)
+    requires going { MayGoOn S.way steps.old }
+    requires fresh { IsFresh reading }
+    requires none { received pieces.old ≡ [] }
+    ensures reading { IsReadingOf I.left I.faults reading reads result.0 result.0.ended }
+    ensures makes { MakesSteps S.way rounds steps.old (all_items (received pieces.new)) result.1
+        steps.new }
+    ensures ring { SameConsumer pieces.old pieces.new }
 {
     let promise = Promised {
         start: Snapshot::of(&reading),
@@ -90,120 +95,20 @@ fn start<R: Threads, I: Source + Send + Drop + 'static>(
     let started = thread::spawn_with(
         rt,
         promise,
-        move || -> ReadEnd<I>
-            requires { (sent reading.sender ≡ []) × (told_at reading.codec ≡ []) }
-            ensures { IsReadingOf I.left I.faults reading reads result }
-        { read_job(alloc, reading, reads, &theirs) },
+        move || -> Reading<I>
+            requires { IsFresh reading }
+            ensures { IsReadingOf I.left I.faults reading reads result result.ended }
+        { read_job(alloc, reading, reads) },
     );
     match started {
-        Ok(handle) => Ok(handle),
-        Err(refused) => {
-            ours.call_off();
-            Err((refused.value)())
-        }
-    }
-}
-
-// What is left of a reading whose items were served.
-#[derive(Drop)]
-struct Rest<I> {
-    source: I,
-    codec: LanguageServerCodec,
-    made: u64,
-    ended: Ended,
-}
-
-// Serves all that a reading gives, which goes on beside it, through the first exit. It says whether
-// there was one.
-fn serve_beside<R: Threads + Wait, I: Source + Send + Drop + 'static, S: Steps>(
-    rt: &R,
-    alloc: Global,
-    reading: Reading<I>,
-    lines: Lines,
-    steps: &mut S,
-    reads: u64,
-    rounds: u64,
-) -> (Rest<I>, Result<bool, ServeError>)
-    requires going { MayGoOn S.way steps.old }
-    requires told { told_at reading.codec ≡ [] }
-    requires fresh { sent reading.sender ≡ [] }
-    requires pair { (received lines.pieces ≡ []) × IsPair reading.sender lines.pieces }
-    ensures serves { ReadAndServed reading.codec (I.left reading.source) (I.left result.0.source)
-        result.0.made result.0.codec result.0.ended
-        (λ given. MakesSteps S.way rounds steps.old given result.1 steps.new) }
-    ensures ends { EndsBy (I.left reading.source) (I.left result.0.source)
-        (I.faults reading.source) (I.faults result.0.source) reads result.0.made result.0.ended }
-    ensures tied { S.tied steps.new ≡ S.tied steps.old }
-{
-    let Lines {
-        mut pieces,
-        theirs,
-        ours,
-    } = lines;
-    let (end, served) = serve_started(
-        rt,
-        alloc,
-        reading,
-        theirs,
-        &ours,
-        &mut pieces,
-        steps,
-        reads,
-        rounds,
-    );
-    let ReadEnd {
-        source,
-        codec,
-        mut sender,
-        back,
-        made,
-        ended,
-    } = end;
-    pieces.slots_beside(&mut sender);
-    let rest = Rest {
-        source,
-        codec,
-        made,
-        ended,
-    };
-    match served {
-        Ok(false) => {
-            let served = serve_rest(steps, &mut pieces, back, rounds);
-            (rest, served)
-        }
-        Ok(true) => (rest, Ok(true)),
-        Err(error) => (rest, Err(error)),
-    }
-}
-
-// Starts the reading, and serves what comes of it until it ends, a step fails or there was an exit.
-// Then the reading is waited for.
-fn serve_started<R: Threads + Wait, I: Source + Send + Drop + 'static, S: Steps>(
-    rt: &R,
-    alloc: Global,
-    reading: Reading<I>,
-    theirs: Arc<Signal, Global>,
-    ours: &Signal,
-    pieces: &mut Pieces,
-    steps: &mut S,
-    reads: u64,
-    rounds: u64,
-) -> (ReadEnd<I>, Result<bool, ServeError>)
-    requires going { MayGoOn S.way steps.old }
-    requires told { told_at reading.codec ≡ [] }
-    requires fresh { (sent reading.sender ≡ []) × (received pieces.old ≡ []) }
-    ensures reading { IsReadingOf I.left I.faults reading reads result.0 }
-    ensures makes { MakesSteps S.way rounds steps.old (all_items (received pieces.new)) result.1
-        steps.new }
-    ensures ring { SameConsumer pieces.old pieces.new }
-    ensures tied { S.tied steps.new ≡ S.tied steps.old }
-{
-    match start(rt, alloc, reading, reads, theirs, ours) {
         Ok(handle) => {
-            let served = serve_waiting(rt, steps, pieces, ours, rounds);
+            let served = serve_waiting(rt, steps, pieces, signal, rounds);
             (handle.join(rt), served)
         }
-        Err(end) => (end, Ok(false)),
+        Err(refused) => {
+            signal.end();
+            ((refused.value)(), Ok(false))
+        }
     }
 }
 
@@ -219,34 +124,39 @@ fn pump_steps<R: Threads + Wait, I: Source + Send + Drop + 'static, S: Steps>(
 ) -> (I, Result<(), ServeError>)
     requires going { MayGoOn S.way steps.old }
     requires told { told_at codec ≡ [] }
-    ensures comes { PumpsOn S.way I.left I.faults rounds reads codec source steps.old
-        (result_err result.1) result.0 steps.new }
-    ensures tied { S.tied steps.new ≡ S.tied steps.old }
+    ensures { PumpsOn S.way rounds reads codec (I.left source) (I.left result.0)
+        (I.faults source) (I.faults result.0) steps.old (result_err result.1) steps.new }
 {
-    let Ok((sender, lines)) = make_lines(alloc) else {
+    let Ok(lines) = make_lines(alloc) else {
         return (source, Err(ServeError::NoMemory));
     };
+    let Lines {
+        sender,
+        mut pieces,
+        theirs,
+        ours,
+    } = lines;
     let reading = Reading {
         source,
         codec,
         sender,
+        signal: theirs,
+        back: None,
+        made: 0,
+        ended: Ended::Open,
     };
-    let (rest, served) = serve_beside(rt, alloc, reading, lines, steps, reads, rounds);
-    let Rest {
-        mut source,
-        mut codec,
-        made,
-        ended,
-    } = rest;
-    match served {
-        Ok(false) => {
-            let left = reads - made;
-            let finished = finish(steps, &mut source, &mut codec, ended, left, rounds);
-            (source, finished)
-        }
-        Ok(true) => (source, Ok(())),
-        Err(error) => (source, Err(error)),
-    }
+    let (mut reading, served) = serve_beside(
+        rt,
+        alloc,
+        reading,
+        &mut pieces,
+        &ours,
+        steps,
+        reads,
+        rounds,
+    );
+    let pumped = serve_after(steps, &mut reading, &mut pieces, served, reads, rounds);
+    (reading.source, pumped)
 }
 
 // Serves a session from where it stands, while a thread of its own reads on from a codec.
@@ -272,8 +182,8 @@ fn pump_session<
     requires unexited { IsUnexited H.semantics D.meaning seat.old.held.now.session }
     requires told { told_at codec ≡ [] }
     ensures comes { PumpsOn (seat_way H.semantics D.meaning (order_by P.gives P.later) P.state
-        O.taken O.flushed O.faults O.beside) I.left I.faults rounds reads codec source seat.old
-        (result_err result.1) result.0 seat.new }
+        O.taken O.flushed O.faults) rounds reads codec (I.left source) (I.left result.0)
+        (I.faults source) (I.faults result.0) seat.old (result_err result.1) seat.new }
     ensures ready { OnOk result.1 (IsReady H.semantics D.meaning seat.new.held.now.session) }
     ensures same_sink { seat.new.sink.ghost_name ≡ seat.old.sink.ghost_name }
     ensures same_held { seat.new.held.ghost_name ≡ seat.old.held.ghost_name }

@@ -7,11 +7,10 @@ use std::time::Duration;
 // How long the session waits for a piece before it looks at the desk again.
 const LOOK_AFTER_MILLIS: u64 = 2;
 
-/// Whether reading is over, or was called off before it began, and where the session waits for a piece.
+/// Whether reading is over, and where the session waits for a piece.
 #[derive(Drop)]
 pub(crate) struct Signal {
     over: AtomicBool,
-    off: AtomicBool,
     parker: Parker,
 }
 
@@ -19,12 +18,11 @@ impl Signal {
     pub(crate) fn new() -> Signal {
         Signal {
             over: AtomicBool::new(false),
-            off: AtomicBool::new(false),
             parker: Parker::new(),
         }
     }
 
-    /// The reader says that it reads no more.
+    /// The reader says that it reads no more, or the session that reading isn't to begin.
     pub(crate) fn end(&self) {
         self.over.store(true, Ordering::SeqCst);
         self.parker.unpark();
@@ -32,15 +30,6 @@ impl Signal {
 
     pub(crate) fn has_ended(&self) -> bool {
         self.over.load(Ordering::SeqCst)
-    }
-
-    /// The session says that the reader is not to begin.
-    pub(crate) fn call_off(&self) {
-        self.off.store(true, Ordering::SeqCst);
-    }
-
-    pub(crate) fn is_off(&self) -> bool {
-        self.off.load(Ordering::SeqCst)
     }
 
     /// The reader has put a piece onto the ring.

@@ -1,24 +1,24 @@
 // The steps of a session beside a reading thread.
-ghost use Rattle.std.specs.Prelude.{◌≡◌, ◌++◌, [], ◌∷◌, ℕ, List, false};
+ghost use Rattle.std.specs.Prelude.{◌≡◌, ◌≤◌, ◌-◌, ◌++◌, [], ◌∷◌, ℕ, List, false, IfOk};
 ghost use Rattle.std.specs.Result.{result_err};
-ghost use Rattle.rtrb.specs.Ring.{received, known_items, SameConsumer};
+ghost use Rattle.rtrb.specs.Ring.{received, known_items, SameConsumer, IsPair};
 ghost use Rattle.lsp_frame.specs.Codec.{told_at};
 ghost use Rattle.lsp_session.specs.Item.{ItemData, show_item, item_has_float};
 ghost use Rattle.lsp_session.specs.Run.{Picked, order_by};
 ghost use Rattle.lsp_session.specs.State.{State};
 ghost use Rattle.lsp_pump.specs.Pieces.{piece_items, all_items, back_items, ItemsAreFloatFree};
-ghost use Rattle.lsp_pump.specs.Steps.{Way, MakesStep, MakesSteps, MayGoOn};
-ghost use Rattle.lsp_pump.specs.SeatWay.{seat_way};
+ghost use Rattle.lsp_pump.specs.Steps.{Way, MakesSteps, MayGoOn, StandsAfter};
+ghost use Rattle.lsp_pump.specs.SeatWay.{seat_way, Names};
 ghost use Rattle.lsp_pump.specs.Reading.{KeepsAllBytes};
-ghost use Rattle.lsp_pump.specs.Onward.{ServedFrom, Finishes, StepsEnd};
+ghost use Rattle.lsp_pump.specs.Onward.{ServedFrom, Finishes, PumpsAfter};
 
-use crate::job::Ended;
+use crate::job::{Ended, Reading};
 use crate::pieces::Pieces;
 use crate::signal::Signal;
 use bytes::BytesMut;
 use lsp_desk::Desk;
 use lsp_frame::LanguageServerCodec;
-use lsp_server::{Ends, ServeError, Sink, Source, serve_from, serve_item};
+use lsp_server::{Ends, Failed, ServeError, Sink, Source, serve_from, serve_item};
 use lsp_session::{Handlers, Item, Pick, Session};
 use rtrb::PopError;
 use std::alloc::Global;
@@ -32,22 +32,16 @@ pub(crate) trait Steps {
 
     ghost Desks: { Type 0 };
 
-    /// What no step changes of its sink.
-    ghost Beside: { Type 0 };
-
-    ghost way: { Way Self States Desks Beside };
-
     /// What no call changes.
     ghost Tied: { Type 0 };
 
-    ghost tied: { Self → Tied };
+    ghost way: { Way Self States Desks Tied };
 
     /// Makes the step of an item, and says whether it was an exit.
     fn make_step(&mut self, item: Item, rounds: u64) -> Result<bool, ServeError>
         requires going { MayGoOn way self.old }
         requires float_free { item_has_float (show_item item) ≡ false }
-        ensures makes { MakesStep way rounds self.old (show_item item) result self.new }
-        ensures tied { tied self.new ≡ tied self.old };
+        ensures { MakesSteps way rounds self.old (show_item item ∷ []) result self.new };
 
     /// Serves on from source and codec, to the end of input or the first exit.
     fn serve_on<I: Source>(
@@ -59,9 +53,8 @@ pub(crate) trait Steps {
     ) -> Result<(), ServeError>
         requires going { MayGoOn way self.old }
         requires told { told_at codec.old ≡ [] }
-        ensures goes { ServedFrom way I.left I.faults rounds reads codec.old source.old self.old
-            (result_err result) source.new self.new }
-        ensures tied { tied self.new ≡ tied self.old };
+        ensures { ServedFrom way rounds reads codec.old (I.left source.old) (I.left source.new)
+            (I.faults source.old) (I.faults source.new) self.old (result_err result) self.new };
 }
 
 /// A session with the room that the frames of its steps take.
@@ -86,15 +79,11 @@ impl<'a, 'b, 'c, O: Sink, D: Desk + Drop, H: Handlers<D>, P: Pick> Steps
 
     ghost Desks = { D };
 
-    ghost Beside = { O.Beside };
+    // Which sink, session and pick they are.
+    ghost Tied = { Names };
 
     ghost way = { seat_way H.semantics D.meaning (order_by P.gives P.later) P.state
-        O.taken O.flushed O.faults O.beside };
-
-    // Which sink, session and pick they are.
-    ghost Tied = { (ℕ × ℕ) × ℕ };
-
-    ghost tied = { λ s. ((s.sink.ghost_name, s.held.ghost_name), s.pick.ghost_name) };
+        O.taken O.flushed O.faults };
 
     fn make_step(&mut self, item: Item, rounds: u64) -> Result<bool, ServeError> {
         let held = &mut *self.held;
@@ -140,8 +129,7 @@ impl<'a, 'b, 'c, O: Sink, D: Desk + Drop, H: Handlers<D>, P: Pick> Steps
 fn serve_piece<S: Steps>(steps: &mut S, piece: Vec<Item>, rounds: u64) -> Result<bool, ServeError>
     requires going { MayGoOn S.way steps.old }
     requires float_free { ItemsAreFloatFree (piece_items piece) }
-    ensures makes { MakesSteps S.way rounds steps.old (piece_items piece) result steps.new }
-    ensures tied { S.tied steps.new ≡ S.tied steps.old }
+    ensures { MakesSteps S.way rounds steps.old (piece_items piece) result steps.new }
 {
     let mut rest = VecDeque::from_vec(piece);
     'items: while let Some(item) = rest.pop_front() {
@@ -152,30 +140,8 @@ fn serve_piece<S: Steps>(steps: &mut S, piece: Vec<Item>, rounds: u64) -> Result
     Ok(false)
 }
 
-// Makes a tick, and then waits for a piece, or a short time; unless reading has ended.
-fn serve_tick<R: Wait, S: Steps>(
-    rt: &R,
-    steps: &mut S,
-    signal: &Signal,
-    rounds: u64,
-) -> Result<bool, ServeError>
-    requires going { MayGoOn S.way steps.old }
-    ensures makes { MakesSteps S.way rounds steps.old [] result steps.new }
-    ensures tied { S.tied steps.new ≡ S.tied steps.old }
-{
-    if signal.has_ended() {
-        return Ok(false);
-    }
-    match steps.make_step(Item::Tick, rounds) {
-        Ok(exits) => {
-            signal.wait(rt);
-            Ok(exits)
-        }
-        Err(error) => Err(error),
-    }
-}
-
-// Makes the steps of the items of a piece that has come, or of a tick.
+// Makes the steps of the items of a piece that has come; or of a tick, and then waits for a piece, or
+// a short time.
 fn serve_next<R: Wait, S: Steps>(
     rt: &R,
     steps: &mut S,
@@ -188,11 +154,14 @@ fn serve_next<R: Wait, S: Steps>(
         × (all_items (received pieces.new) ≡ all_items (received pieces.old) ++ items)
         × MakesSteps S.way rounds steps.old items result steps.new }
     ensures ring { SameConsumer pieces.old pieces.new }
-    ensures tied { S.tied steps.new ≡ S.tied steps.old }
 {
     match pieces.pop() {
         Ok(piece) => serve_piece(steps, piece, rounds),
-        Err(PopError::Empty) => serve_tick(rt, steps, signal, rounds),
+        Err(PopError::Empty) => {
+            let exits = steps.make_step(Item::Tick, rounds)?;
+            signal.wait(rt);
+            Ok(exits)
+        }
     }
 }
 
@@ -211,7 +180,6 @@ pub(crate) fn serve_waiting<R: Wait, S: Steps>(
     ensures makes { MakesSteps S.way rounds steps.old (all_items (received pieces.new)) result
         steps.new }
     ensures ring { SameConsumer pieces.old pieces.new }
-    ensures tied { S.tied steps.new ≡ S.tied steps.old }
 {
     for _ in rt.forever() {
         if serve_next(rt, steps, pieces, signal, rounds)? {
@@ -224,9 +192,39 @@ pub(crate) fn serve_waiting<R: Wait, S: Steps>(
     unreachable!()
 }
 
-/// Makes the steps of the items of the pieces that are known to be on the ring, and then of one that
-/// the full ring did not take, through the first exit, and says whether there was one.
-pub(crate) fn serve_rest<S: Steps>(
+/// Serves what comes after the pieces that were received: what a reading that has ended left on the
+/// ring or kept back, through the first exit, and then on from where it ended.
+pub(crate) fn serve_after<I: Source, S: Steps>(
+    steps: &mut S,
+    reading: &mut Reading<I>,
+    pieces: &mut Pieces,
+    served: Result<bool, ServeError>,
+    reads: u64,
+    rounds: u64,
+) -> Result<(), ServeError>
+    requires stands { IfOk served (StandsAfter S.way steps.old) }
+    requires ring { IsPair reading.old.sender pieces.old }
+    requires float_free { ItemsAreFloatFree (back_items reading.old.back) }
+    requires told { KeepsAllBytes reading.old.ended → told_at reading.old.codec ≡ [] }
+    requires most { reading.old.made ≤ reads }
+    ensures { PumpsAfter S.way rounds I.left I.faults reads reading.old
+        (all_items (received pieces.old)) served steps.old (result_err result)
+        reading.new.source steps.new }
+{
+    pieces.slots_beside(&mut reading.sender);
+    if served? {
+        return Ok(());
+    }
+    let back = reading.back.take();
+    if serve_rest(steps, pieces, back, rounds)? {
+        return Ok(());
+    }
+    finish(steps, reading, reads, rounds)
+}
+
+// Makes the steps of the items of the pieces that are known to be on the ring, and then of one that
+// the full ring did not take, through the first exit, and says whether there was one.
+fn serve_rest<S: Steps>(
     steps: &mut S,
     pieces: &mut Pieces,
     back: Option<Vec<Item>>,
@@ -234,29 +232,8 @@ pub(crate) fn serve_rest<S: Steps>(
 ) -> Result<bool, ServeError>
     requires going { MayGoOn S.way steps.old }
     requires float_free { ItemsAreFloatFree (back_items back) }
-    ensures makes { MakesSteps S.way rounds steps.old
+    ensures { MakesSteps S.way rounds steps.old
         (all_items (known_items pieces.old) ++ back_items back) result steps.new }
-    ensures tied { S.tied steps.new ≡ S.tied steps.old }
-{
-    if serve_known(steps, pieces, rounds)? {
-        return Ok(true);
-    }
-    match back {
-        Some(piece) => serve_piece(steps, piece, rounds),
-        None => Ok(false),
-    }
-}
-
-// Makes the steps of the items of the pieces that are known to be on the ring, as `serve_rest` does.
-fn serve_known<S: Steps>(
-    steps: &mut S,
-    pieces: &mut Pieces,
-    rounds: u64,
-) -> Result<bool, ServeError>
-    requires going { MayGoOn S.way steps.old }
-    ensures makes { MakesSteps S.way rounds steps.old (all_items (known_items pieces.old)) result
-        steps.new }
-    ensures tied { S.tied steps.new ≡ S.tied steps.old }
 {
     'pieces: while pieces.cached_slots() > 0 {
         let piece = pieces.pop_known();
@@ -264,54 +241,49 @@ fn serve_known<S: Steps>(
             return Ok(true);
         }
     }
-    Ok(false)
+    match back {
+        Some(piece) => serve_piece(steps, piece, rounds),
+        None => Ok(false),
+    }
 }
 
-/// Serves what comes after all that a reading gave: on from source and codec, where reading hasn't
-/// ended; the end of input; or the error by which it ended.
-pub(crate) fn finish<I: Source, S: Steps>(
+/// The end of input.
+#[derive(Drop)]
+struct Nothing;
+
+impl Source for Nothing {
+    ghost use Rattle.std.specs.Prelude.{Some, []};
+
+    ghost left = { λ _. Some [] };
+
+    ghost faults = { λ _. 0 };
+
+    fn read(&mut self, _piece: &mut [u8]) -> Result<usize, Failed> {
+        Ok(0)
+    }
+}
+
+// Serves what comes after all that a reading gave: on from source and codec, where there may be more
+// to read; the end of input; or the error by which it ended.
+fn finish<I: Source, S: Steps>(
     steps: &mut S,
-    source: &mut I,
-    codec: &mut LanguageServerCodec,
-    ended: Ended,
+    reading: &mut Reading<I>,
     reads: u64,
     rounds: u64,
 ) -> Result<(), ServeError>
     requires going { MayGoOn S.way steps.old }
-    requires told { KeepsAllBytes ended → told_at codec.old ≡ [] }
-    ensures finishes { Finishes S.way I.left I.faults rounds reads codec.old source.old steps.old
-        (result_err result) source.new steps.new ended }
-    ensures tied { S.tied steps.new ≡ S.tied steps.old }
+    requires told { KeepsAllBytes reading.old.ended → told_at reading.old.codec ≡ [] }
+    requires most { reading.old.made ≤ reads }
+    ensures { Finishes S.way rounds reading.old.ended (reads - reading.old.made) reading.old.codec
+        (I.left reading.old.source) (I.left reading.new.source)
+        (I.faults reading.old.source) (I.faults reading.new.source)
+        steps.old (result_err result) steps.new }
 {
-    match ended {
-        Ended::End => {
-            serve_end(steps, codec, rounds)?;
-            Ok(())
-        }
+    let left = reads - reading.made;
+    match reading.ended {
+        Ended::Open => steps.serve_on(&mut reading.source, &mut reading.codec, left, rounds),
+        Ended::End => steps.serve_on(&mut Nothing, &mut reading.codec, 1, rounds),
         Ended::Failed => Err(ServeError::ReadFault),
-        Ended::Spent => Err(ServeError::ReadsSpent),
         Ended::NoMemory => Err(ServeError::NoMemory),
-        Ended::Exit | Ended::Full => steps.serve_on(source, codec, reads, rounds),
-    }
-}
-
-// Makes the steps of the end of input: that of the fault of an input that ends inside a frame, and
-// a tick. It says whether there was an exit, as all of these do: there is none.
-fn serve_end<S: Steps>(
-    steps: &mut S,
-    codec: &mut LanguageServerCodec,
-    rounds: u64,
-) -> Result<bool, ServeError>
-    requires going { MayGoOn S.way steps.old }
-    requires told { told_at codec.old ≡ [] }
-    ensures ends { StepsEnd S.way rounds codec.old steps.old (result_err result) steps.new }
-    ensures tied { S.tied steps.new ≡ S.tied steps.old }
-{
-    match codec.finish()? {
-        Some(fault) => {
-            steps.make_step(Item::Fault(fault.code()), rounds)?;
-            steps.make_step(Item::Tick, rounds)
-        }
-        None => steps.make_step(Item::Tick, rounds),
     }
 }

@@ -1,19 +1,13 @@
 // A thread counts, and its answer goes out while a read waits.
-use crate::client::{comes_to, new_stage};
+use crate::client::new_stage;
 use crate::served::{framed, frames};
+use crate::silent::{SEEN, Silent, Watched};
 use lsp_examples::count_beside;
 use lsp_rows::{RowError, Trial};
 use std::alloc::{AllocError, Global};
-use std::io::{Read, Write};
-use std::str;
 use std::sync::atomic::{AtomicU64, Ordering};
 use std::sync::{Arc, Wait};
 use std::thread::Threads;
-
-// What has come about: the thread's answer is written, and the second read saw that.
-const ANSWERED: u64 = 1;
-
-const SEEN: u64 = 2;
 
 const SENT: &[&str] = &[
     r#"{"jsonrpc":"2.0","method":"initialize","params":{"capabilities":{}},"id":1}"#,
@@ -41,51 +35,6 @@ const WRITTEN: &[(usize, &str)] = &[
     (36, COUNTED),
 ];
 
-/// Gives what is sent, and ends only when the thread's answer is written.
-#[derive(Drop)]
-struct Silent {
-    sent: Vec<u8>,
-    at: usize,
-    stage: Arc<AtomicU64, Global>,
-}
-
-impl Read for Silent {
-    fn read(&mut self, piece: &mut [u8]) -> std::io::Result<usize> {
-        let rest = self.sent.get(self.at..).unwrap_or(&[]);
-        if rest.is_empty() {
-            if comes_to(&self.stage, ANSWERED) {
-                self.stage.store(SEEN, Ordering::SeqCst);
-            }
-            return Ok(0);
-        }
-        let n = rest.len().min(piece.len());
-        piece[..n].copy_from_slice(&rest[..n]);
-        self.at = self.at.saturating_add(n);
-        Ok(n)
-    }
-}
-
-/// Keeps what is written, and says when the thread's answer is.
-#[derive(Drop)]
-struct Watched<'a> {
-    written: &'a mut Vec<u8>,
-    stage: &'a AtomicU64,
-}
-
-impl<'a> Write for Watched<'a> {
-    fn write(&mut self, piece: &[u8]) -> std::io::Result<usize> {
-        self.written.extend_from_slice(piece)?;
-        if str::from_utf8(piece).is_ok_and(|text| text.contains(COUNTED)) {
-            self.stage.store(ANSWERED, Ordering::SeqCst);
-        }
-        Ok(piece.len())
-    }
-
-    fn flush(&mut self) -> std::io::Result<()> {
-        Ok(())
-    }
-}
-
 // What the server writes; its status isn't looked at, since no clause ties it to a session.
 fn written<R: Threads + Wait + Sync>(
     rt: &R,
@@ -100,6 +49,7 @@ fn written<R: Threads + Wait + Sync>(
     let mut written = Vec::new(alloc);
     let output = Watched {
         written: &mut written,
+        awaited: COUNTED,
         stage,
     };
     let _ = count_beside(rt, alloc, input, output);

@@ -1,85 +1,23 @@
 // A client's message goes out while a read waits.
-ghost use Rattle.std.specs.Prelude.{◌≡◌, None, false, take};
+ghost use Rattle.std.specs.Prelude.{◌≡◌, false};
 ghost use Rattle.lsp_desk.specs.Meaning.{IsOpening};
 ghost use Rattle.lsp_shared.specs.Desks.{desk_id, rested_desk, rested_view};
 ghost use Rattle.lsp_shared.specs.Seats.{seat_meaning};
 
-use crate::client::{NOTE, OWN, comes_to, new_stage, send_at};
+use crate::client::{NOTE, OWN, new_stage, send_at};
+use crate::silent::{READING, SEEN, Silent, Watched};
 use lsp_callers::Plan;
 use lsp_program::Status;
 use lsp_rows::{RowError, Trial};
 use lsp_rpc::NoMemory;
 use lsp_sample_server::sample_service;
-use lsp_server::{Failed, Refused, Server, Sink, Source};
+use lsp_server::{ReadSource, Server, WriteSink};
 use lsp_service::pump;
 use lsp_shared::{DeskOwner, Rested, SharedDesk};
 use std::alloc::Global;
-use std::str;
 use std::sync::atomic::{AtomicU64, Ordering};
 use std::sync::{Arc, Wait};
 use std::thread::{Threads, join};
-
-// What has come about: the second read has begun, the client's message is in the sink, and the second
-// read saw that.
-const READING: u64 = 1;
-
-const WRITTEN: u64 = 2;
-
-const SEEN: u64 = 3;
-
-/// Gives a message, and ends only when the client's message is in the sink.
-#[derive(Drop)]
-struct Silent {
-    begun: bool,
-    stage: Arc<AtomicU64, Global>,
-}
-
-impl Source for Silent {
-    ghost left = { λ _. None };
-
-    ghost faults = { λ _. 0 };
-
-    fn read(&mut self, piece: &mut [u8]) -> Result<usize, Failed> {
-        if self.begun {
-            self.stage.store(READING, Ordering::SeqCst);
-            if comes_to(&self.stage, WRITTEN) {
-                self.stage.store(SEEN, Ordering::SeqCst);
-            }
-            return Ok(0);
-        }
-        self.begun = true;
-        let n = NOTE.len().min(piece.len());
-        piece[..n].copy_from_slice(&NOTE.as_bytes()[..n]);
-        Ok(n)
-    }
-}
-
-/// Says when the client's message has come.
-#[derive(Drop)]
-struct Watched<'a> {
-    stage: &'a AtomicU64,
-}
-
-impl<'a> Sink for Watched<'a> {
-    ghost taken = { λ _. None };
-
-    ghost flushed = { λ _. None };
-
-    ghost faults = { λ _. 0 };
-
-    ghost beside = { λ _. tt };
-
-    fn write(&mut self, piece: &[u8]) -> Result<usize, Refused> {
-        if str::from_utf8(piece).is_ok_and(|text| text.contains(OWN)) {
-            self.stage.store(WRITTEN, Ordering::SeqCst);
-        }
-        Ok(piece.len())
-    }
-
-    fn flush(&mut self) -> Result<(), Refused> {
-        Ok(())
-    }
-}
 
 fn pump_silent<R: Threads + Wait + Sync>(
     rt: &R,
@@ -90,11 +28,17 @@ fn pump_silent<R: Threads + Wait + Sync>(
 ) -> bool
     requires { IsOpening seat_meaning owner }
 {
-    let mut sink = Watched { stage };
     let Ok((service, socket)) = sample_service(alloc, owner) else {
         return false;
     };
     let server = Server::new(socket);
+    let mut written = Vec::new(alloc);
+    let mut sink = WriteSink::new(Watched {
+        written: &mut written,
+        awaited: OWN,
+        stage,
+    });
+    let source = ReadSource::new(source);
     let (_, status) = pump(rt, alloc, source, &mut sink, service, server, 8);
     status == Status::Unfinished as u8
 }
@@ -135,8 +79,11 @@ fn pump_beside<R: Threads + Wait + Sync>(
     let mut owner = desk.owner(rt, seat);
     let client = owner.split()?.rest();
     let plan = Plan { alloc, messages: 1 };
+    let mut sent = Vec::new(alloc);
+    sent.extend_from_slice(NOTE.as_bytes())?;
     let source = Silent {
-        begun: false,
+        sent,
+        at: 0,
         stage: Arc::try_clone(stage)?,
     };
     Ok(beside(rt, &desk, owner, client, plan, source, stage))

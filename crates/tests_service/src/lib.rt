@@ -26,6 +26,8 @@ mod replies;
 #[cfg(test)]
 mod served;
 #[cfg(test)]
+mod silent;
+#[cfg(test)]
 mod strange;
 #[cfg(test)]
 mod turns;

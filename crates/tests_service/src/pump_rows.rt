@@ -113,26 +113,12 @@ fn new_server(socket: ClientSocket<PlainDesk>, row: &Row) -> Server<PlainDesk>
     }
 }
 
-// What a way of serving comes to: the exit status, and the bytes.
-#[derive(Drop)]
-struct Told {
-    status: u8,
-    written: Vec<u8>,
-}
-
-fn tell(alloc: Global, status: u8, sink: &NeverSink) -> Result<Told, NoMemory> {
-    let mut written = Vec::new(alloc);
-    written.extend_from_slice(sink.bytes())?;
-    Ok(Told { status, written })
-}
-
-fn serve_row(alloc: Global, row: &Row) -> Result<Told, NoMemory> {
+// Each way of serving a row answers the exit status, and its sink has the bytes.
+fn serve_row(alloc: Global, row: &Row, sink: &mut NeverSink) -> Result<u8, NoMemory> {
     let mut source = NeverSource::new(framed(alloc, row.sent)?, 4096);
     let (service, socket) = new_sample(alloc)?;
     let server = new_server(socket, row);
-    let mut sink = NeverSink::new(alloc);
-    let status = serve(alloc, &mut source, &mut sink, service, server, 8);
-    tell(alloc, status, &sink)
+    Ok(serve(alloc, &mut source, sink, service, server, 8))
 }
 
 fn pump_row<R: Threads + Wait>(
@@ -140,14 +126,13 @@ fn pump_row<R: Threads + Wait>(
     alloc: Global,
     row: &Row,
     cut: usize,
-) -> Result<Told, NoMemory> {
+    sink: &mut NeverSink,
+) -> Result<u8, NoMemory> {
     let source = NeverSource::new(framed(alloc, row.sent)?, cut.max(1));
     let (service, socket) = new_sample(alloc)?;
     let server = new_server(socket, row);
-    let mut sink = NeverSink::new(alloc);
-    let (source, status) = pump(rt, alloc, source, &mut sink, service, server, 8);
-    drop(source);
-    tell(alloc, status, &sink)
+    let (_, status) = pump(rt, alloc, source, sink, service, server, 8);
+    Ok(status)
 }
 
 fn try_row<R: Threads + Wait>(
@@ -156,12 +141,13 @@ fn try_row<R: Threads + Wait>(
     alloc: Global,
     row: &Row,
 ) -> Result<(), NoMemory> {
-    let served = serve_row(alloc, row)?;
+    let mut served = NeverSink::new(alloc);
+    let expected = serve_row(alloc, row, &mut served)?;
     for cut in CUTS {
-        let pumped = pump_row(rt, alloc, row, *cut)?;
-        trial.same(row.name, pumped.status, served.status);
-        let is_same = pumped.written.as_slice() == served.written.as_slice();
-        trial.is_true(row.name, is_same);
+        let mut pumped = NeverSink::new(alloc);
+        let status = pump_row(rt, alloc, row, *cut, &mut pumped)?;
+        trial.same(row.name, status, expected);
+        trial.is_true(row.name, pumped.bytes() == served.bytes());
     }
     Ok(())
 }

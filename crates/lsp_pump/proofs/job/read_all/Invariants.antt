@@ -4,4 +4,4 @@ use Rattle.lsp_pump.specs.Reading.{HasBegun}
 use Rattle.lsp_pump.proofs.job.read_all.Given as goal
 
 abbrev pub invariant-loop : goal.invariant-loop
-invariant-loop g l = HasBegun g.I.Source.left g.I.Source.faults l.fn.reading l.end × (l.end.made ≡ l.counter)
+invariant-loop g l = HasBegun g.I.Source.left g.I.Source.faults l.initial.reading l.reading × (l.reading.made ≡ l.counter)

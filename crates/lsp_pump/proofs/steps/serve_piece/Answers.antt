@@ -1,5 +1,5 @@
 -- One item more, an exit, and an error.
-use Rattle.std.proofs.Common.{rules, ◌≡◌, List, [], ◌∷◌, ◌++◌, map, refl, sym, ◌∙◌, ap, append_assoc, subst, true, false}
+use Rattle.std.proofs.Common.{rules, ◌≡◌, List, [], ◌∷◌, ◌++◌, map, sym, ◌∙◌, ap, append_assoc, subst, true, false}
 use Rattle.std.specs.Prelude.{Ok, Err}
 use Rattle.lsp_session.specs.Item.{ItemData, show_item}
 use Rattle.lsp_pump.specs.Pieces.{piece_items, ItemsAreFloatFree}
@@ -13,7 +13,6 @@ items-init g c = record {
   made = ([], search rules, makes_none g.S.Steps.way c.args.rounds c.args.steps.now c.requires.going);
   going = c.requires.going;
   free = search rules;
-  tied = refl;
 }
 
 -- the items so far, this one and those after it are all of the piece
@@ -27,7 +26,7 @@ items-preserved g c =
     let x = show_item c.in-Some.item in
     let rest = map show_item c.pop_front.new.self.items in
     let here : map show_item c.items.rest.items ≡ x ∷ rest = ap (map show_item) c.in-Some.ensures.items in
-    let makes : MakesSteps way c.args.rounds c.items.steps (x ∷ []) (Ok false) c.make_step.new.self = rw c.if-branch.false at c.in_ok-make_step.ensures.makes.makes in
+    let makes : MakesSteps way c.args.rounds c.items.steps (x ∷ []) (Ok false) c.make_step.new.self = rw c.if-branch.false at c.in_ok-make_step.ensures in
     record {
       made = (
         inv.made.0 ++ x ∷ [],
@@ -36,11 +35,10 @@ items-preserved g c =
       );
       going = makes.stands;
       free = free_tail x rest (subst ItemsAreFloatFree here inv.free);
-      tied = c.in_ok-make_step.ensures.tied ∙ inv.tied;
     }
 
-pub returns-in_err-make_step-clause-makes : goal.returns-in_err-make_step-clause-makes
-returns-in_err-make_step-clause-makes g c =
+pub returns-in_err-make_step : goal.returns-in_err-make_step
+returns-in_err-make_step g c =
     let way = g.S.Steps.way in
     let inv = c.items.invariant in
     let x = show_item c.in-Some.item in
@@ -52,11 +50,11 @@ returns-in_err-make_step-clause-makes g c =
     let made : MakesSteps way c.args.rounds a (piece_items c.args.piece) (Err e) b =
     subst (λ (l : List ItemData). MakesSteps way c.args.rounds a l (Err e) b) whole
     (makes_failed way c.args.rounds a b (inv.made.0 ++ x ∷ []) rest e
-    (makes_more way c.args.rounds a c.items.steps b inv.made.0 (x ∷ []) (Err e) inv.made.2 c.in_err-make_step.ensures.makes.makes)) in
+    (makes_more way c.args.rounds a c.items.steps b inv.made.0 (x ∷ []) (Err e) inv.made.2 c.in_err-make_step.ensures)) in
     search rules
 
-pub returns-then-branch-clause-makes : goal.returns-then-branch-clause-makes
-returns-then-branch-clause-makes g c =
+pub returns-then-branch : goal.returns-then-branch
+returns-then-branch g c =
     let way = g.S.Steps.way in
     let inv = c.items.invariant in
     let x = show_item c.in-Some.item in
@@ -66,4 +64,4 @@ returns-then-branch-clause-makes g c =
     let b = c.make_step.new.self in
     subst (λ (l : List ItemData). MakesSteps way c.args.rounds a l (Ok true) b) whole
     (makes_ended way c.args.rounds a b (inv.made.0 ++ x ∷ []) rest
-    (makes_more way c.args.rounds a c.items.steps b inv.made.0 (x ∷ []) (Ok true) inv.made.2 (rw c.if-branch.true at c.in_ok-make_step.ensures.makes.makes)))
+    (makes_more way c.args.rounds a c.items.steps b inv.made.0 (x ∷ []) (Ok true) inv.made.2 (rw c.if-branch.true at c.in_ok-make_step.ensures)))

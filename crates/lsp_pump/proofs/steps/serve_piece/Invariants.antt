@@ -11,7 +11,6 @@ invariant-items g l = record {
   made : (first : List ItemData) × (first ++ map show_item l.rest.items ≡ piece_items l.fn.piece) × MakesSteps g.S.Steps.way l.fn.rounds l.initial.steps first (Ok false) l.steps;
   going : MayGoOn g.S.Steps.way l.steps;
   free : ItemsAreFloatFree (map show_item l.rest.items);
-  tied : g.S.Steps.tied l.steps ≡ g.S.Steps.tied l.initial.steps;
 }
 
 abbrev pub decreases-items : goal.decreases-items

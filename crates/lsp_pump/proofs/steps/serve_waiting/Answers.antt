@@ -18,7 +18,6 @@ loop-init g c =
       made = subst (λ (l : List (Vec Item)). MakesSteps way c.args.rounds a (all_items l) (Ok false) a) (sym c.requires.none) (makes_none way c.args.rounds a c.requires.going);
       ring = ((refl, refl, refl, refl), refl);
       going = c.requires.going;
-      tied = refl;
     }
 
 pub loop-preserved : goal.loop-preserved
@@ -36,7 +35,6 @@ loop-preserved g c =
           (makes_more way c.args.rounds a c.loop.steps d (all_items (received c.loop.pieces)) makes.0 (Ok false) inv.made last);
       ring = ((r.0.0 ∙ i.0.0, r.0.1 ∙ i.0.1, r.0.2 ∙ i.0.2, r.0.3 ∙ i.0.3), r.1 ∙ i.1);
       going = last.stands;
-      tied = c.in_ok-serve_next.ensures.tied ∙ inv.tied;
     }
 
 pub returns-in_err-serve_next-clause-makes : goal.returns-in_err-serve_next-clause-makes

@@ -11,5 +11,4 @@ invariant-loop g l = record {
   made : MakesSteps g.S.Steps.way l.fn.rounds l.initial.steps (all_items (received l.pieces)) (Ok false) l.steps;
   ring : SameConsumer l.initial.pieces l.pieces;
   going : MayGoOn g.S.Steps.way l.steps;
-  tied : g.S.Steps.tied l.steps ≡ g.S.Steps.tied l.initial.steps;
 }

@@ -12,8 +12,8 @@ use Rattle.lsp_pump.proofs.StepsLemmas.{steps_one, begun_one, stands_by}
 use Rattle.lsp_pump.proofs.SessionLemmas.{table_after, noted_one, unexited_one}
 use Rattle.lsp_pump.proofs.steps.SeatSessionSteps.make_step.Goals as goal
 
-pub returns-in-Ok-clause-makes : goal.returns-in-Ok-clause-makes
-returns-in-Ok-clause-makes g c =
+pub returns-in-Ok : goal.returns-in-Ok
+returns-in-Ok g c =
     let sem = g.H.Handlers.semantics in
     let m = g.D.Caller.meaning in
     let order : Order g.P.Pick.State = record { gives = g.P.Pick.gives; later = g.P.Pick.later } in
@@ -28,21 +28,17 @@ returns-in-Ok-clause-makes g c =
     let noted : is_some (session_view sem m c.serve_item.new.session).state.exited ≡ c.is_some.result = search rules in
     let made = steps_one (find_at sem a) a d x c.is_some.result (noted_one sem g.met.H.Handlers.laws m order c.args.rounds a x d ran c.requires.going.unexited.unexited c.is_some.result noted) ran in
     record {
-      ran = ran;
-      part = tt;
-      makes = record {
-        answered = made;
-        same = table_after sem g.met.H.Handlers.laws m order c.args.rounds a d (x ∷ []) c.is_some.result made;
-        stands = stands_by (seat_way sem m order g.P.Pick.state g.O.Sink.taken g.O.Sink.flushed g.O.Sink.faults g.O.Sink.beside) _ ready c.is_some.result noted (unexited_one sem g.met.H.Handlers.laws m order c.args.rounds a x c.serve_item.new.session (g.P.Pick.state c.serve_item.new.pick) (g.O.Sink.taken c.serve_item.new.sink) ran c.requires.going.unexited.unexited c.requires.going.unexited.alive);
-        fails = tt;
-        grown = ran_grown a d (x ∷ []) ran;
-        flushed = sink.flushed;
-        sink = record { beside = faults.beside; count = faults.count; write = faults.write; unfailed = faults.unfailed; left = faults.left };
-      };
+      answered = made;
+      same = table_after sem g.met.H.Handlers.laws m order c.args.rounds a d (x ∷ []) c.is_some.result made;
+      stands = stands_by (seat_way sem m order g.P.Pick.state g.O.Sink.taken g.O.Sink.flushed g.O.Sink.faults) _ ready c.is_some.result noted (unexited_one sem g.met.H.Handlers.laws m order c.args.rounds a x c.serve_item.new.session (g.P.Pick.state c.serve_item.new.pick) (g.O.Sink.taken c.serve_item.new.sink) ran c.requires.going.unexited.unexited c.requires.going.unexited.alive);
+      fails = tt;
+      grown = ran_grown a d (x ∷ []) ran;
+      flushed = sink.flushed;
+      sink = record { beside = search rules; count = faults.count; write = faults.write; unfailed = faults.unfailed; left = faults.left };
     }
 
-pub returns-in-Err-clause-makes : goal.returns-in-Err-clause-makes
-returns-in-Err-clause-makes g c =
+pub returns-in-Err : goal.returns-in-Err
+returns-in-Err g c =
     let sem = g.H.Handlers.semantics in
     let m = g.D.Caller.meaning in
     let seat = c.args.self.now in
@@ -52,17 +48,13 @@ returns-in-Err-clause-makes g c =
     let faults = sink.faults in
     let part = rw c.in-Err.is at c.serve_item.ensures.part in
     record {
-      ran = tt;
-      part = part;
-      makes = record {
-        answered = begun_one (find_at sem a) a x _ _ part;
-        same = tt;
-        stands = tt;
-        fails = record { in_step = sink.others; spent = rw c.in-Err.is at c.serve_item.ensures.spent };
-        grown = rw c.in-Err.is at c.serve_item.ensures.grown;
-        flushed = sink.flushed;
-        sink = record { beside = faults.beside; count = faults.count; write = faults.write; unfailed = faults.unfailed; left = faults.left };
-      };
+      answered = begun_one (find_at sem a) a x _ _ part;
+      same = tt;
+      stands = tt;
+      fails = record { in_step = sink.others; spent = rw c.in-Err.is at c.serve_item.ensures.spent };
+      grown = rw c.in-Err.is at c.serve_item.ensures.grown;
+      flushed = sink.flushed;
+      sink = record { beside = search rules; count = faults.count; write = faults.write; unfailed = faults.unfailed; left = faults.left };
     }
 
 pub serve_item-requires-clause-ready : goal.serve_item-requires-clause-ready

@@ -9,10 +9,18 @@ use Rattle.lsp_pump.proofs.steps.SeatSessionSteps.serve_on.Goals as goal
 pub serve_from-requires-clause-may : goal.serve_from-requires-clause-may
 serve_from-requires-clause-may g c = record { ready = c.requires.going.ready; alive = c.requires.going.unexited.alive; unexited = c.requires.going.unexited.unexited }
 
-pub returns-clause-goes : goal.returns-clause-goes
-returns-clause-goes g c =
+pub returns : goal.returns
+returns g c =
     let order : Order g.P.Pick.State = record { gives = g.P.Pick.gives; later = g.P.Pick.later } in
-    let way = seat_way g.H.Handlers.semantics g.D.Caller.meaning order g.P.Pick.state g.O.Sink.taken g.O.Sink.flushed g.O.Sink.faults g.O.Sink.beside in
+    let way = seat_way g.H.Handlers.semantics g.D.Caller.meaning order g.P.Pick.state g.O.Sink.taken g.O.Sink.flushed g.O.Sink.faults in
     let f = c.serve_from.ensures in
-    goes_by way g.I.Source.left g.I.Source.faults c.args.rounds c.args.reads c.args.codec.now c.args.source.now c.args.self.now (result_err c.serve_from.result) c.serve_from.new.io.source.now _ _ (search rules)
-    f.serves (kept_ok c.serve_from.result f.session.ready) f.session.grown (told_err c.serve_from.result _ f.session.desk_spent) f.transport.flushed f.transport.faults f.transport.within
+    goes_by way g.I.Source.left g.I.Source.faults c.args.rounds c.args.reads c.args.codec.now c.args.source.now c.serve_from.new.io.source.now _ c.args.self.now (result_err c.serve_from.result) _ (search rules) (record {
+      serves = f.serves;
+      ready = kept_ok c.serve_from.result f.session.ready;
+      grown = f.session.grown;
+      spent = told_err c.serve_from.result _ f.session.desk_spent;
+      flushed = f.transport.flushed;
+      faults = f.transport.faults;
+      within = f.transport.within;
+      beside = search rules;
+    })
