@@ -1,5 +1,5 @@
 -- What is served on after all that a reading gave, and what pumping comes to by it.
-use Rattle.std.proofs.Common.{◌≡◌, ◌≢◌, ◌-◌, ℕ, List, [], ◌++◌, sym, ◌∙◌, refl, ap, append_assoc, subst, arith, true, false}
+use Rattle.std.proofs.Common.{◌≡◌, ◌-◌, ℕ, List, [], ◌++◌, sym, ◌∙◌, refl, ap, append_assoc, subst, arith, true, false}
 use Rattle.std.specs.Prelude.{Option, Some, None, IfSome, IfNone, Bool, Result, Ok, Err, OnOk, IfErr}
 use Rattle.std.specs.Result.{result_err}
 use Rattle.std.specs.Global.{Vec}
@@ -10,8 +10,7 @@ use Rattle.lsp_session.specs.declared.item.Item.{Item}
 use Rattle.lsp_session.specs.Item.{ItemData}
 use Rattle.lsp_server.specs.declared.step.ServeError.{ServeError}
 use Rattle.lsp_server.specs.declared.step.ServeError.TheVariants.{ReadFault, NoMemory as OutOfMemory}
-use Rattle.lsp_server.specs.Errors.{SaysSpent, StaysWhole}
-use Rattle.lsp_server.specs.Leaves.{StaysFlushed, TellsFaults, WithinReads}
+use Rattle.lsp_server.specs.Errors.{StaysWhole}
 use Rattle.lsp_server.proofs.KnownLemmas.{consumes_none, if_told, some_at}
 use Rattle.lsp_server.proofs.RanLemmas.{grown_after}
 use Rattle.lsp_server.proofs.TakingLemmas.{flushed_then}
@@ -20,7 +19,7 @@ use Rattle.lsp_pump.specs.declared.job.Ended.TheVariants.{Open, End, Failed, NoM
 use Rattle.lsp_pump.specs.declared.job.Reading.{Reading}
 use Rattle.lsp_pump.specs.Pieces.{all_items, back_items}
 use Rattle.lsp_pump.specs.Steps.{Way, MayGoOn, MakesSteps}
-use Rattle.lsp_pump.specs.Reading.{KeepsAllBytes, LeavesReads, HasRead, EndsBy, IsReadingOf}
+use Rattle.lsp_pump.specs.Reading.{KeepsAllBytes, HasRead, EndsBy}
 use Rattle.lsp_pump.specs.Pumped.{PumpsOver}
 use Rattle.lsp_pump.specs.Onward.{course_at, call_bytes_from, ServesAt, ServedFrom, Stays, Finishes, PumpsOn, PumpsAfter}
 use Rattle.lsp_pump.proofs.PiecesLemmas.{all_items-append}

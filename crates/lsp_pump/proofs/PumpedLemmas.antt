@@ -1,5 +1,5 @@
 -- What a reading, the steps beside it and what is served after it come to.
-use Rattle.std.proofs.Common.{◌≡◌, inl, inr, ℕ, List, [], ◌∷◌, ◌++◌, refl, sym, ◌∙◌, ap, subst, append_assoc, true, false}
+use Rattle.std.proofs.Common.{◌≡◌, inl, inr, ℕ, List, [], ◌∷◌, ◌++◌, sym, ◌∙◌, ap, subst, append_assoc, true, false}
 use Rattle.std.specs.Prelude.{◌⊎◌, ◌||◌, Option, Some, None, IfSome, IfNone}
 use Rattle.std.specs.Io.KnownBytes.{Consumes}
 use Rattle.std.proofs.lemmas.List.{append-nil, map-append}
@@ -13,13 +13,13 @@ use Rattle.lsp_server.specs.declared.step.ServeError.TheVariants.{ReadFault, Wri
 use Rattle.lsp_server.specs.Errors.{IsBetweenReads, IsInStep}
 use Rattle.lsp_server.specs.Items.{admitted, all_admitted}
 use Rattle.lsp_server.specs.Course.{Course}
-use Rattle.lsp_server.specs.Written.{Place, RanPart}
+use Rattle.lsp_server.specs.Written.{Place}
 use Rattle.lsp_server.specs.Served.{CallBytes, call_bytes, RanFrom}
 use Rattle.lsp_server.specs.ServesOn.{coming, coming_told, ServesOn}
 use Rattle.lsp_server.proofs.CodecLemmas.{more_more, more_nothing}
 use Rattle.lsp_server.proofs.ItemsLemmas.{has_exit-append, has_exit_same}
 use Rattle.lsp_server.proofs.KnownLemmas.{consumes_none, consumes_more, what_is_left, some_at}
-use Rattle.lsp_server.proofs.RanLemmas.{ran_none, ran_more, part_after, part_none, part_whole, grown_none}
+use Rattle.lsp_server.proofs.RanLemmas.{ran_none, ran_more, part_after, part_none, grown_none}
 use Rattle.lsp_pump.specs.Spaced.{unticked, EndsInTick, through_exit}
 use Rattle.lsp_pump.specs.Steps.{StepsMade, StepsBegun}
 use Rattle.lsp_pump.specs.declared.job.Ended.{Ended}

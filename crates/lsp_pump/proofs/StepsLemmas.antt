@@ -1,8 +1,8 @@
 -- Steps of items with ticks between them, one after another.
 use Rattle.std.proofs.Common.{◌≡◌, ℕ, List, [], ◌∷◌, ◌++◌, refl, sym, ◌∙◌, ap, subst, arith, Bool, true, false}
-use Rattle.std.specs.Prelude.{◌||◌, Option, Some, Result, Ok, Err}
+use Rattle.std.specs.Prelude.{◌||◌, Option, Result, Ok, Err}
 use Rattle.std.specs.Result.{result_err}
-use Rattle.lsp_desk.specs.Meaning.{Meaning, Grown}
+use Rattle.lsp_desk.specs.Meaning.{Meaning}
 use Rattle.lsp_session.specs.declared.table.Entry.{Entry}
 use Rattle.lsp_session.specs.Item.{ItemData, tick}
 use Rattle.lsp_session.specs.Run.{is_exit, has_exit}

@@ -1,5 +1,5 @@
 // The reading job: what a thread of its own does with a source.
-ghost use Rattle.std.specs.Prelude.{◌≡◌, ◌≢◌, ◌≤◌, ◌++◌, ℕ, Err, IfOk, IfErr};
+ghost use Rattle.std.specs.Prelude.{◌≡◌, ◌≢◌, ◌≤◌, ◌++◌, Err, IfOk, IfErr};
 ghost use Rattle.rtrb.specs.Ring.{sent, SameProducer};
 ghost use Rattle.lsp_frame.specs.Codec.{more};
 ghost use Rattle.lsp_server.specs.SourceSink.{CountRose};

@@ -1,5 +1,5 @@
 // The steps of a session beside a reading thread.
-ghost use Rattle.std.specs.Prelude.{◌≡◌, ◌≤◌, ◌-◌, ◌++◌, [], ◌∷◌, ℕ, List, false, IfOk};
+ghost use Rattle.std.specs.Prelude.{◌≡◌, ◌≤◌, ◌-◌, ◌++◌, [], ◌∷◌, List, false, IfOk};
 ghost use Rattle.std.specs.Result.{result_err};
 ghost use Rattle.rtrb.specs.Ring.{received, known_items, SameConsumer, IsPair};
 ghost use Rattle.lsp_frame.specs.Codec.{told_at};

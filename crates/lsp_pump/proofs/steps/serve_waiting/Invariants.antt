@@ -1,5 +1,5 @@
 -- The steps of all items that were received were made, and no exit was among them.
-use Rattle.std.proofs.Common.{◌≡◌, false}
+use Rattle.std.proofs.Common.{false}
 use Rattle.std.specs.Prelude.{Ok}
 use Rattle.rtrb.specs.Ring.{received, SameConsumer}
 use Rattle.lsp_pump.specs.Pieces.{all_items}
