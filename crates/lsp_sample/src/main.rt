@@ -1,28 +1,10 @@
 //! Language servers over standard input and output: a small one, and one that keeps documents.
 #![tactic(auto)]
 
-mod arguments;
-mod bulk;
-#[cfg(test)]
-mod documents;
-#[cfg(test)]
-mod editors;
-#[cfg(test)]
-mod round_trips;
-mod run;
-#[cfg(test)]
-mod sessions;
-#[cfg(test)]
-mod tests;
-
-pub use arguments::{Clones, Form, MOST, MOST_CLONES, MOST_SAID, MadeUp, Setting};
-pub use lsp_docs::DocsServer;
-pub use lsp_program::Status;
-use lsp_program::words;
-pub use lsp_sample_server::Sample;
+use lsp_program::{Status, words};
+use lsp_sample_run::run;
 use lsp_server::{ReadSource, Sink, WriteSink};
 use lsp_shared::SharedDesk;
-pub use run::run;
 use std::env;
 use std::io::BufWriter;
 use std::process::ExitCode;

@@ -1,0 +1,12 @@
+//! What the program of two language servers does: a small one, and one that keeps documents.
+#![tactic(auto)]
+
+mod arguments;
+mod bulk;
+mod program;
+
+pub use arguments::{Clones, Form, MOST, MOST_CLONES, MOST_SAID, MadeUp, Setting};
+pub use lsp_docs::DocsServer;
+pub use lsp_program::Status;
+pub use lsp_sample_server::Sample;
+pub use program::run;
