@@ -1,5 +1,5 @@
 -- How a reading goes on, and how it ends.
-use Rattle.std.proofs.Common.{◌≡◌, ◌≢◌, ◌≤◌, ◌<◌, ◌+◌, ◌*◌, ℕ, List, [], ◌++◌, length, refl, sym, ◌∙◌, ap, subst, arith}
+use Rattle.std.proofs.Common.{◌≡◌, ◌≤◌, ◌<◌, ◌+◌, ◌*◌, ℕ, List, [], ◌++◌, length, refl, sym, ◌∙◌, ap, subst, arith}
 use Rattle.std.specs.Prelude.{Option, Some, None, IfSome}
 use Rattle.std.specs.Io.KnownBytes.{Consumes}
 use Rattle.std.proofs.lemmas.List.{append-nil, map-append, length-append}
@@ -58,8 +58,8 @@ module _ (codec : At) (left0 left1 : Option (List ℕ)) (read : List ℕ) (given
   }
 
   -- after one read more
-  pub ended_after : (left2 : Option (List ℕ)) (items : List ItemData) (later : At) (ended : Ended) → ReadOnce there left1 left2 items later → HasRead codec left0 left2 (made + 1) (given ++ items) later ended
-  ended_after left2 items later ended o = record {
+  pub ended_after : (left2 : Option (List ℕ)) (faults1 faults2 : ℕ) (items : List ItemData) (later : At) (ended : Ended) → ReadOnce there left1 left2 faults1 faults2 items later → HasRead codec left0 left2 (made + 1) (given ++ items) later ended
+  ended_after left2 faults1 faults2 items later ended o = record {
     read = read ++ o.read;
     lost = [];
     there = later;
@@ -71,8 +71,8 @@ module _ (codec : At) (left0 left1 : Option (List ℕ)) (read : List ℕ) (given
   }
 
   -- by a read that gave nothing to the codec
-  pub ended_by : (left2 : Option (List ℕ)) (later : At) (ended : Ended) → ReadEnds there left1 left2 ended later → HasRead codec left0 left2 (made + 1) given later ended
-  ended_by left2 later ended e = record {
+  pub ended_by : (left2 : Option (List ℕ)) (faults1 faults2 : ℕ) (later : At) (ended : Ended) → ReadEnds there left1 left2 faults1 faults2 ended later → HasRead codec left0 left2 (made + 1) given later ended
+  ended_by left2 faults1 faults2 later ended e = record {
     read = read;
     lost = e.lost;
     there = there;
@@ -96,13 +96,13 @@ ends_open left0 left1 faults0 faults1 reads made same most = record {
 }
 
 -- a read ended the reading
-pub ends_by_read : (codec later : At) (left0 left1 left2 : Option (List ℕ)) (read : List ℕ) (faults0 faults1 faults2 reads made : ℕ) (ended : Ended) → Consumes left0 left1 read → ReadEnds codec left1 left2 ended later → faults1 ≡ faults0
-    → made ≤ reads → (ended ≡ Failed → CountRose faults1 faults2) → (ended ≢ Failed → faults2 ≡ faults1) → faults1 ≤ faults2 → EndsBy left0 left2 faults0 faults2 reads made ended
-ends_by_read codec later left0 left1 left2 read faults0 faults1 faults2 reads made ended gives e same most failed unfailed counts = record {
+pub ends_by_read : (codec later : At) (left0 left1 left2 : Option (List ℕ)) (read : List ℕ) (faults0 faults1 faults2 reads made : ℕ) (ended : Ended) → Consumes left0 left1 read → ReadEnds codec left1 left2 faults1 faults2 ended later → faults1 ≡ faults0
+    → made ≤ reads → EndsBy left0 left2 faults0 faults2 reads made ended
+ends_by_read codec later left0 left1 left2 read faults0 faults1 faults2 reads made ended gives e same most = record {
   at_end = λ is. told_end left0 left1 left2 read gives (e.at_end is);
-  failed = λ is. subst (λ n. CountRose n faults2) same (failed is);
-  unfailed = λ not_failed. unfailed not_failed ∙ same;
-  counts = omega (arith, same, counts);
+  failed = λ is. subst (λ n. CountRose n faults2) same (e.failed is);
+  unfailed = λ not_failed. e.unfailed not_failed ∙ same;
+  counts = omega (arith, same, e.counts);
   most = most;
 }
   where

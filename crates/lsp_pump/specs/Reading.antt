@@ -33,21 +33,26 @@ pub record TellsAll (codec : At) (items : List ItemData) (there : At) : Type 0 w
   pub told : told_at there ≡ []
 
 -- one read, which told these items
-pub record ReadOnce (codec : At) (left left_after : Option (List ℕ)) (items : List ItemData) (there : At) : Type 0 where
+pub record ReadOnce (codec : At) (left left_after : Option (List ℕ)) (failed failed_after : ℕ) (items : List ItemData) (there : At) : Type 0 where
   pub read : List ℕ
   pub gives : Consumes left left_after read
   pub tells : TellsAll (more codec read) items there
   pub some : 0 < length read
   pub short : length read ≤ 4096
+  pub unfailed : failed_after ≡ failed
+  pub float_free : ItemsAreFloatFree items
 
 -- one read, after which reading ended; what it gave is lost for want of memory
-pub record ReadEnds (codec : At) (left left_after : Option (List ℕ)) (ended : Ended) (codec_after : At) : Type 0 where
+pub record ReadEnds (codec : At) (left left_after : Option (List ℕ)) (faults faults_after : ℕ) (ended : Ended) (codec_after : At) : Type 0 where
   pub lost : List ℕ
   pub gives : Consumes left left_after lost
   pub whole : KeepsAllBytes ended → (lost ≡ []) × (codec_after ≡ codec)
   pub at_end : ended ≡ End → IfSome left (λ _. left_after ≡ Some [])
   pub short : length lost ≤ 4096
   pub stops : LeavesReads ended → ⊥
+  pub failed : ended ≡ Failed → CountRose faults faults_after
+  pub unfailed : ended ≢ Failed → faults_after ≡ faults
+  pub counts : faults ≤ faults_after
 
 -- so many reads were made, of at most so many bytes each, and each gave some
 pub record CountsReads (read : List ℕ) (made : ℕ) : Type 0 where

@@ -1,8 +1,7 @@
 // The reading job: what a thread of its own does with a source.
-ghost use Rattle.std.specs.Prelude.{◌≡◌, ◌≢◌, ◌≤◌, ◌++◌, Err, IfOk, IfErr};
+ghost use Rattle.std.specs.Prelude.{◌≡◌, ◌++◌, IfOk, IfErr};
 ghost use Rattle.rtrb.specs.Ring.{sent, SameProducer};
 ghost use Rattle.lsp_frame.specs.Codec.{more};
-ghost use Rattle.lsp_server.specs.SourceSink.{CountRose};
 ghost use Rattle.lsp_pump.specs.Pieces.{piece_items, all_items, back_items, ItemsAreFloatFree};
 ghost use Rattle.lsp_pump.specs.Reading.{TellsAll, ReadOnce, ReadEnds, IsUnbegun, IsReadingOf};
 
@@ -38,7 +37,7 @@ pub(crate) struct Reading<I> {
 }
 
 /// How a reading ended.
-#[derive(Clone, Copy)]
+#[derive(Drop)]
 pub(crate) enum Ended {
     /// There may be more to read: a request was told whose method has the name `exit`, which may be
     /// no exit; all reads that were granted were made; the full ring did not take a piece; or
@@ -93,15 +92,12 @@ fn read_piece<I: Source>(
     source: &mut I,
     codec: &mut LanguageServerCodec,
 ) -> Result<Vec<Item>, Ended>
-    ensures told { IfOk result (λ piece. ReadOnce codec.old (I.left source.old)
-        (I.left source.new) (piece_items piece) codec.new) }
-    ensures float_free { IfOk result (λ piece. ItemsAreFloatFree (piece_items piece)) }
-    ensures ended { IfErr result (λ ended. ReadEnds codec.old (I.left source.old)
-        (I.left source.new) ended codec.new) }
-    ensures failed { result ≡ Err Ended.Failed
-        → CountRose (I.faults source.old) (I.faults source.new) }
-    ensures unfailed { result ≢ Err Ended.Failed → I.faults source.new ≡ I.faults source.old }
-    ensures counts { I.faults source.old ≤ I.faults source.new }
+    ensures told { IfOk result (λ piece. ReadOnce codec.old
+        (I.left source.old) (I.left source.new) (I.faults source.old) (I.faults source.new)
+        (piece_items piece) codec.new) }
+    ensures ended { IfErr result (λ ended. ReadEnds codec.old
+        (I.left source.old) (I.left source.new) (I.faults source.old) (I.faults source.new)
+        ended codec.new) }
 {
     let mut bytes = [0; READ_SIZE];
     let n = match source.read(&mut bytes) {

@@ -4,7 +4,6 @@ use rtrb::{Consumer, Producer, Protocol};
 use std::alloc::Global;
 
 /// No message of a piece holds a float.
-#[derive(Clone, Copy)]
 pub struct FloatFree;
 
 impl Protocol<Vec<Item>> for FloatFree {

@@ -1,6 +1,6 @@
 -- One read more, and each end.
 use Rattle.std.proofs.Common.{rules, arith, ◌≡◌, ◌≤◌, ◌+◌, List, ◌++◌, sym, ◌∙◌, ap, subst}
-use Rattle.std.specs.Prelude.{Err, None}
+use Rattle.std.specs.Prelude.{None}
 use Rattle.std.proofs.lemmas.List.{append-nil}
 use Rattle.rtrb.specs.Ring.{sent}
 use Rattle.lsp_session.specs.Item.{ItemData}
@@ -33,7 +33,7 @@ loop-preserved g c =
         tells = subst (λ (l : List ItemData). TellsAll (more start.codec (inv.read ++ o.read)) l c.read_piece.new.codec) all
             (tells_more start.codec c.loop.reading.codec c.read_piece.new.codec inv.read o.read (all_items (sent c.loop.reading.sender)) (piece_items c.in-Ok.piece) inv.tells o.tells);
         reads = counts_more inv.read o.read c.loop.reading.made inv.reads o.some o.short;
-        unfailed = c.in-Ok.ensures.unfailed (λ is. cc) ∙ inv.unfailed;
+        unfailed = o.unfailed ∙ inv.unfailed;
         none = none;
       },
       ap (λ n. n + 1) c.loop.invariant.1,
@@ -52,8 +52,8 @@ returns-then-exits g c =
     record {
       ring = ((s.0.0 ∙ i.0.0, s.0.1 ∙ i.0.1, s.0.2 ∙ i.0.2, s.0.3 ∙ i.0.3), s.1 ∙ i.1);
       has = subst (λ (l : List ItemData). HasRead start.codec (left start.source) (left c.read_piece.new.source) (c.loop.reading.made + 1) l c.read_piece.new.codec Open) (sym c.send.ensures.sent)
-          (ended_after start.codec (left start.source) (left c.loop.reading.source) inv.read (all_items (sent c.loop.reading.sender)) c.loop.reading.codec c.loop.reading.made inv.gives inv.tells inv.reads (left c.read_piece.new.source) (piece_items c.in-Ok.piece) c.read_piece.new.codec Open o);
-      ends = ends_open (left start.source) (left c.read_piece.new.source) (faults start.source) (faults c.read_piece.new.source) c.args.reads (c.loop.reading.made + 1) (c.in-Ok.ensures.unfailed (λ is. cc) ∙ inv.unfailed) most;
+          (ended_after start.codec (left start.source) (left c.loop.reading.source) inv.read (all_items (sent c.loop.reading.sender)) c.loop.reading.codec c.loop.reading.made inv.gives inv.tells inv.reads (left c.read_piece.new.source) (faults c.loop.reading.source) (faults c.read_piece.new.source) (piece_items c.in-Ok.piece) c.read_piece.new.codec Open o);
+      ends = ends_open (left start.source) (left c.read_piece.new.source) (faults start.source) (faults c.read_piece.new.source) c.args.reads (c.loop.reading.made + 1) (o.unfailed ∙ inv.unfailed) most;
       float_free = c.send.ensures.float_free;
     }
 
@@ -70,9 +70,9 @@ returns-in-Err g c =
     record {
       ring = inv.ring;
       has = subst (λ (l : List ItemData). HasRead start.codec (left start.source) (left c.read_piece.new.source) (c.loop.reading.made + 1) l c.read_piece.new.codec c.in-Err.ended) all
-          (ended_by start.codec (left start.source) (left c.loop.reading.source) inv.read (all_items (sent c.loop.reading.sender)) c.loop.reading.codec c.loop.reading.made inv.gives inv.tells inv.reads (left c.read_piece.new.source) c.read_piece.new.codec c.in-Err.ended e);
+          (ended_by start.codec (left start.source) (left c.loop.reading.source) inv.read (all_items (sent c.loop.reading.sender)) c.loop.reading.codec c.loop.reading.made inv.gives inv.tells inv.reads (left c.read_piece.new.source) (faults c.loop.reading.source) (faults c.read_piece.new.source) c.read_piece.new.codec c.in-Err.ended e);
       ends = ends_by_read c.loop.reading.codec c.read_piece.new.codec (left start.source) (left c.loop.reading.source) (left c.read_piece.new.source) inv.read (faults start.source) (faults c.loop.reading.source) (faults c.read_piece.new.source)
-          c.args.reads (c.loop.reading.made + 1) c.in-Err.ended inv.gives e inv.unfailed most (λ is. c.in-Err.ensures.failed (ap Err is)) (λ is. c.in-Err.ensures.unfailed (λ same. is (cc))) c.in-Err.ensures.counts;
+          c.args.reads (c.loop.reading.made + 1) c.in-Err.ended inv.gives e inv.unfailed most;
       float_free = ap (λ b. some_float (back_items b)) inv.none;
     }
 
