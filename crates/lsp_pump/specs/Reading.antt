@@ -33,13 +33,13 @@ pub record TellsAll (codec : At) (items : List ItemData) (there : At) : Type 0 w
   pub told : told_at there ≡ []
 
 -- one read, which told these items
-pub record ReadOnce (codec : At) (left left_after : Option (List ℕ)) (failed failed_after : ℕ) (items : List ItemData) (there : At) : Type 0 where
+pub record ReadOnce (codec : At) (left left_after : Option (List ℕ)) (faults faults_after : ℕ) (items : List ItemData) (there : At) : Type 0 where
   pub read : List ℕ
   pub gives : Consumes left left_after read
   pub tells : TellsAll (more codec read) items there
   pub some : 0 < length read
   pub short : length read ≤ 4096
-  pub unfailed : failed_after ≡ failed
+  pub unfailed : faults_after ≡ faults
   pub float_free : ItemsAreFloatFree items
 
 -- one read, after which reading ended; what it gave is lost for want of memory
