@@ -1,23 +1,24 @@
 // The counting server as a program.
 use crate::counts::Counts;
-use crate::worker::{Jobs, jobs_and_worker, work};
+use crate::worker::{Jobs, PLACES, work};
 use lsp_desk::PlainDesk;
 use lsp_frame::Floats;
 use lsp_server::Server;
 use lsp_service::{InTime, LspService, pump_stdio};
 use lsp_stdio::Status;
+use rtrb::RingBuffer;
 use std::alloc::Global;
 use std::io::{Read, Write};
 use std::process::ExitCode;
 use std::sync::Wait;
-use std::thread::{self, Threads};
+use std::thread::{self, Parker, Threads};
 
 fn serve<T: Threads + Wait, R: Read + Send + Drop + 'static, W: Write + Drop>(
     rt: &T,
     alloc: Global,
     input: R,
     output: W,
-    jobs: Jobs,
+    jobs: Jobs<'_>,
 ) -> ExitCode {
     let desk = PlainDesk::new(alloc);
     let server = Counts { jobs };
@@ -40,12 +41,14 @@ pub fn count_beside<T: Threads + Wait + Sync, R: Read + Send + Drop + 'static, W
     input: R,
     output: W,
 ) -> ExitCode {
-    let Ok((jobs, worker)) = jobs_and_worker(alloc) else {
+    let Ok((ring, jobs_there)) = RingBuffer::new(alloc, PLACES) else {
         return ExitCode::from(Status::NoMemory as u8);
     };
+    let bell = Parker::new();
+    let jobs = Jobs { ring, bell: &bell };
     let ((), status) = thread::join(
         rt,
-        || work(rt, worker),
+        || work(rt, jobs_there, &bell),
         || serve(rt, alloc, input, output, jobs),
     );
     status

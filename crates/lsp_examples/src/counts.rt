@@ -17,8 +17,8 @@ use std::sync::atomic::Ordering;
 const MOST: u64 = 1_000_000;
 
 #[derive(Drop)]
-pub(crate) struct Counts {
-    pub(crate) jobs: Jobs,
+pub(crate) struct Counts<'a> {
+    pub(crate) jobs: Jobs<'a>,
 }
 
 /// A command that the thread has.
@@ -28,7 +28,7 @@ pub(crate) struct Counting {
     found: Found,
 }
 
-impl<D: Caller> Asking<D> for Counts {
+impl<'a, D: Caller> Asking<D> for Counts<'a> {
     ghost use Rattle.lsp_examples.specs.Task.{counting_call};
 
     type Task = Counting;
@@ -73,7 +73,7 @@ impl<D: Caller> Asking<D> for Counts {
     }
 }
 
-impl Counts {
+impl<'a> Counts<'a> {
     // Gives the thread the job that a command asks for, and tells where its result comes to stand.
     fn begin(
         &mut self,

@@ -21,6 +21,16 @@ pub(crate) const NOTE: &str =
 /// The method of the client's message.
 pub(crate) const OWN: &str = "window/own";
 
+/// What has come about: the session served what was sent first, the client was answered, what is
+/// awaited is written, and a read that waits saw that. No stage comes after a later one.
+pub(crate) const READY: u64 = 1;
+
+pub(crate) const ANSWERED: u64 = 2;
+
+pub(crate) const WRITTEN: u64 = 3;
+
+pub(crate) const SEEN: u64 = 4;
+
 // How often one thread looks for what another does.
 const LOOKS: u64 = 100_000_000;
 
@@ -50,24 +60,22 @@ fn own_message(alloc: Global) -> Result<ClientCall, NoMemory>
     })
 }
 
-/// Sends one message once it has come to this stage, and says whether that was so and the message
-/// was taken.
-pub(crate) fn send_at<R: Wait + Sync>(
+/// Sends one message once the session is ready, and says whether it was, and took the message.
+pub(crate) fn send<R: Wait + Sync>(
     rt: &R,
     desk: &SharedDesk,
     client: Rested,
     plan: Plan,
     stage: &AtomicU64,
-    wanted: u64,
 ) -> bool
     requires { (rested_desk client ≡ desk_id desk.now) × ((rested_view client).owner ≡ false) }
 {
     let mut client = SharedClient::sit(rt, desk, client);
-    if !comes_to(stage, wanted) {
-        return false;
-    }
-    let Ok(call) = own_message(plan.alloc) else {
-        return false;
+    let is_ready = comes_to(stage, READY);
+    let is_sent = match own_message(plan.alloc) {
+        Ok(call) => matches!(client.client(call), Ok(ClientReply::Sent)),
+        Err(NoMemory) => false,
     };
-    matches!(client.client(call), Ok(ClientReply::Sent))
+    stage.fetch_max(ANSWERED, Ordering::SeqCst);
+    is_ready && is_sent
 }

@@ -113,26 +113,22 @@ fn new_server(socket: ClientSocket<PlainDesk>, row: &Row) -> Server<PlainDesk>
     }
 }
 
-// Each way of serving a row answers the exit status, and its sink has the bytes.
-fn serve_row(alloc: Global, row: &Row, sink: &mut NeverSink) -> Result<u8, NoMemory> {
-    let mut source = NeverSource::new(framed(alloc, row.sent)?, 4096);
-    let (service, socket) = new_sample(alloc)?;
-    let server = new_server(socket, row);
-    Ok(serve(alloc, &mut source, sink, service, server, 8))
-}
-
-fn pump_row<R: Threads + Wait>(
+// Serves a row, or pumps it where reads give so many bytes, and answers the exit status; the sink has
+// the bytes.
+fn try_way<R: Threads + Wait>(
     rt: &R,
     alloc: Global,
     row: &Row,
-    cut: usize,
+    cut: Option<usize>,
     sink: &mut NeverSink,
 ) -> Result<u8, NoMemory> {
-    let source = NeverSource::new(framed(alloc, row.sent)?, cut.max(1));
+    let mut source = NeverSource::new(framed(alloc, row.sent)?, cut.unwrap_or(4096).max(1));
     let (service, socket) = new_sample(alloc)?;
     let server = new_server(socket, row);
-    let (_, status) = pump(rt, alloc, source, sink, service, server, 8);
-    Ok(status)
+    match cut {
+        Some(_) => Ok(pump(rt, alloc, source, sink, service, server, 8).1),
+        None => Ok(serve(alloc, &mut source, sink, service, server, 8)),
+    }
 }
 
 fn try_row<R: Threads + Wait>(
@@ -142,10 +138,10 @@ fn try_row<R: Threads + Wait>(
     row: &Row,
 ) -> Result<(), NoMemory> {
     let mut served = NeverSink::new(alloc);
-    let expected = serve_row(alloc, row, &mut served)?;
+    let expected = try_way(rt, alloc, row, None, &mut served)?;
     for cut in CUTS {
         let mut pumped = NeverSink::new(alloc);
-        let status = pump_row(rt, alloc, row, *cut, &mut pumped)?;
+        let status = try_way(rt, alloc, row, Some(*cut), &mut pumped)?;
         trial.same(row.name, status, expected);
         trial.is_true(row.name, pumped.bytes() == served.bytes());
     }
