@@ -1,22 +1,40 @@
--- One step more of a session.
-use Rattle.std.proofs.Common.{◌≡◌, ℕ, List, [], ◌∷◌, refl, sym, ◌∙◌, Bool, false}
+-- A session as it was opened, and one step more.
+use Rattle.std.proofs.Common.{◌≡◌, ℕ, List, [], ◌∷◌, refl, sym, ◌∙◌, ap, Bool, false}
 use Rattle.std.specs.Prelude.{Option, Some, None, is_some}
 use Rattle.lsp_desk.specs.declared.desk.Caller.{Ghosts as CallerGhosts}
 use Rattle.lsp_desk.specs.declared.life.Life.{Life}
-use Rattle.lsp_desk.specs.declared.life.Life.TheVariants.{Exited}
-use Rattle.lsp_desk.specs.Meaning.{Meaning}
+use Rattle.lsp_desk.specs.declared.life.Life.TheVariants.{Uninitialized, Exited}
+use Rattle.lsp_desk.specs.Meaning.{Meaning, IsOpening}
 use Rattle.lsp_session.specs.declared.handlers.Handlers.{Ghosts as HandlersGhosts}
 use Rattle.lsp_session.specs.declared.session.Session.{Session}
 use Rattle.lsp_session.specs.Item.{ItemData}
 use Rattle.lsp_session.specs.Semantics.{Semantics, IsLawfulHandlers}
 use Rattle.lsp_session.specs.Run.{Order, Step, is_exit}
-use Rattle.lsp_session.specs.SessionView.{session_view}
-use Rattle.lsp_server.specs.ServerView.{standing}
+use Rattle.lsp_session.specs.Session.{SessionView}
+use Rattle.lsp_session.specs.SessionView.{session_view, has_stopped}
+use Rattle.lsp_server.specs.ServerView.{standing, IsReady}
 use Rattle.lsp_server.specs.Written.{Ran}
 use Rattle.lsp_server.proofs.ItemsLemmas.{run_table}
 use Rattle.lsp_server.proofs.PointLemmas.{Point, find_at}
 use Rattle.lsp_server.proofs.RanLemmas.{ran_notes, ran_lives}
 use Rattle.lsp_pump.specs.Steps.{StepsMade, IsUnexited}
+
+never_exited : Uninitialized ≡ Exited → ⊥
+never_exited is = cc
+
+-- a desk that is as it was made lives
+opens_alive : {D : Type 0} (m : Meaning D) (desk made : D) → desk ≡ made → IsOpening m made → (m.now desk).life ≡ Exited → ⊥
+opens_alive m desk made is opens at = never_exited (sym (ap (λ d. (m.now d).life) is ∙ ap (λ s. s.life) opens.now) ∙ at)
+
+module _ {H D C T : Type 0} {h : HandlersGhosts H D C T} {d : CallerGhosts D} (semantics : Semantics H C T) (m : Meaning D) (session : Session H D C T h d) (view : SessionView H D semantics.Call semantics.Task) (is : session_view semantics m session ≡ view) where
+  pub opens_ready : has_stopped session ≡ false → view.out ≡ [] → IsReady semantics m session
+  opens_ready running none = record { running = running; taken = ap (λ v. v.out) is ∙ none }
+
+  pub opens_unexited : view.state.exited ≡ None → IsOpening m view.desk → IsUnexited semantics m session
+  opens_unexited none opens = record {
+    unexited = ap (λ v. v.state.exited) is ∙ none;
+    alive = opens_alive m (session_view semantics m session).desk view.desk (ap (λ v. v.desk) is) opens;
+  }
 
 none_of : (o : Option Life) → is_some o ≡ false → o ≡ None
 none_of None h = refl

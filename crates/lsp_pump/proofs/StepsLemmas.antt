@@ -1,7 +1,7 @@
 -- Steps of items with ticks between them, one after another.
 use Rattle.std.proofs.Common.{◌≡◌, ℕ, List, [], ◌∷◌, ◌++◌, refl, sym, ◌∙◌, ap, subst, arith, Bool, true, false}
 use Rattle.std.specs.Prelude.{◌||◌, Option, Result, Ok, Err}
-use Rattle.std.specs.Result.{result_err}
+use Rattle.std.specs.Result.{result_err, IsErrAnd}
 use Rattle.lsp_desk.specs.Meaning.{Meaning}
 use Rattle.lsp_session.specs.declared.table.Entry.{Entry}
 use Rattle.lsp_session.specs.Item.{ItemData, tick}
@@ -144,6 +144,15 @@ module _ {X S D B : Type 0} (way : Way X S D B) (rounds : ℕ) where
         flushed = flushed_then _ _ _ _ _ _ (result_err r) p.flushed.flushed q.flushed;
         sink = leaves_more way.faults way.beside a b c r p.sink.beside p.sink.unfailed q.sink;
       }
+
+  -- all items are those before and these
+  pub makes_then : (a b c : X) (xs ys all : List ItemData) (r : Result Bool ServeError) → all ≡ xs ++ ys → MakesSteps way rounds a xs (Ok false) b → MakesSteps way rounds b ys r c → MakesSteps way rounds a all r c
+  makes_then a b c xs ys all r is p q = subst (λ (l : List ItemData). MakesSteps way rounds a l r c) (sym is) (makes_more a b c xs ys r p q)
+
+  -- the error is handed on
+  pub makes_error : (a b : X) (items : List ItemData) (e : ServeError) (r : Result Bool ServeError) → IsErrAnd r (λ x. x ≡ e) → MakesSteps way rounds a items (Err e) b → MakesSteps way rounds a items r b
+  makes_error a b items e (Ok x) is p = absurd is
+  makes_error a b items e (Err x) is p = subst (λ k. MakesSteps way rounds a items (Err k) b) (sym is) p
 
   with_answer : (a b : X) (xs ys : List ItemData) (r : Result Bool ServeError) → MakesSteps way rounds a xs r b → Answers a ys r b → MakesSteps way rounds a ys r b
   with_answer a b xs ys r p answered = record { answered = answered; same = p.same; stands = p.stands; fails = p.fails; grown = p.grown; flushed = p.flushed; sink = p.sink }

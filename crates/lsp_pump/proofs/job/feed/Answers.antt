@@ -1,7 +1,7 @@
 -- One item more.
-use Rattle.std.proofs.Common.{rules, arith, ◌≡◌, [], ◌∷◌, ◌++◌, sym, ◌∙◌, ap, subst, length, map}
+use Rattle.std.proofs.Common.{rules, arith, ◌≡◌, ◌<◌, [], ◌∷◌, ◌++◌, sym, ◌∙◌, ap, subst, length, map}
 use Rattle.std.proofs.lemmas.List.{map-append}
-use Rattle.lsp_frame.specs.Codec.{more}
+use Rattle.lsp_frame.specs.Codec.{Item as CodecItem, At, more, told_at}
 use Rattle.lsp_session.specs.Item.{show_item}
 use Rattle.lsp_server.specs.Items.{admitted, all_admitted, Decodes}
 use Rattle.lsp_server.proofs.CodecLemmas.{decodes_nothing, decodes_more, next_found, told_now}
@@ -17,11 +17,14 @@ items-init c =
       free = search rules;
     }
 
+-- what is told next gets fewer
+fewer : (old new : At) (item : CodecItem) → Decodes old (item ∷ []) new → length (told_at new) < length (told_at old)
+fewer old new item decodes = let told = ap length (told_now old new (item ∷ []) decodes) in omega (arith, told)
+
 pub items-smaller : goal.items-smaller
 items-smaller c =
     let found = next_found c.items.codec c.next_item.new.codec (show_item c.in-Some.item) (rw c.in-Some.is at c.in_ok-item.ensures.next) in
-    let told = ap length (told_now c.items.codec c.next_item.new.codec (found.0 ∷ []) found.2) in
-    omega (arith, told)
+    fewer c.items.codec c.next_item.new.codec found.0 found.2
 
 pub items-preserved : goal.items-preserved
 items-preserved c =

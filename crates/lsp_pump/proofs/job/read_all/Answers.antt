@@ -48,7 +48,7 @@ returns-then-exits g c =
     let o = c.in-Ok.ensures.told in
     let s = c.send.ensures.ring in
     let i = inv.ring in
-    let most : c.loop.reading.made + 1 ≤ c.args.reads = search rules in
+    let most : c.loop.reading.made + 1 ≤ c.args.reads = omega (arith, c.loop.invariant.1, c.loop-test.true) in
     record {
       ring = ((s.0.0 ∙ i.0.0, s.0.1 ∙ i.0.1, s.0.2 ∙ i.0.2, s.0.3 ∙ i.0.3), s.1 ∙ i.1);
       has = subst (λ (l : List ItemData). HasRead start.codec (left start.source) (left c.read_piece.new.source) (c.loop.reading.made + 1) l c.read_piece.new.codec Open) (sym c.send.ensures.sent)
@@ -64,7 +64,7 @@ returns-in-Err g c =
     let start = c.args.reading.now in
     let inv = c.loop.invariant.0 in
     let e = c.in-Err.ensures.ended in
-    let most : c.loop.reading.made + 1 ≤ c.args.reads = search rules in
+    let most : c.loop.reading.made + 1 ≤ c.args.reads = omega (arith, c.loop.invariant.1, c.loop-test.true) in
     let all : all_items (sent c.loop.reading.sender) ≡ all_items (sent c.loop.reading.sender) ++ back_items c.loop.reading.back =
     sym (append-nil (all_items (sent c.loop.reading.sender))) ∙ ap (λ b. all_items (sent c.loop.reading.sender) ++ back_items b) (sym inv.none) in
     record {
@@ -78,5 +78,4 @@ returns-in-Err g c =
 
 pub returns : goal.returns
 returns g c =
-    let made : c.loop.reading.made ≡ c.args.reads = search rules in
-    stops_open g.I.Source.left g.I.Source.faults c.args.reading.now c.loop.reading c.args.reads c.loop.invariant.0 (omega (arith, made))
+    stops_open g.I.Source.left g.I.Source.faults c.args.reading.now c.loop.reading c.args.reads c.loop.invariant.0 (omega (arith, c.loop.invariant.1, c.loop.auto.counter-end))

@@ -4,18 +4,31 @@ use Rattle.std.specs.Prelude.{Some, None, IfOk, IfErr, Err}
 use Rattle.lsp_frame.specs.Codec.{told_at}
 use Rattle.lsp_session.specs.Run.{Order}
 use Rattle.lsp_session.specs.SessionView.{session_view, desk_of}
-use Rattle.lsp_server.specs.Course.{Setting, course}
+use Rattle.lsp_server.specs.Course.{Setting, opening_view, course}
 use Rattle.lsp_server.specs.ServerView.{setting}
 use Rattle.lsp_server.specs.ServesSession.{SourceSinkTold}
 use Rattle.lsp_server.specs.ServedView.{show_served}
 use Rattle.lsp_server.specs.Served.{handed_back}
 use Rattle.lsp_server.specs.declared.step.ServeError.TheVariants.{NoMemory}
 use Rattle.lsp_pump.specs.PumpsSession.{PumpsSession}
+use Rattle.lsp_pump.proofs.SessionLemmas.{opens_ready, opens_unexited}
 use Rattle.lsp_pump.proofs.PumpsSessionLemmas.{comes_to, pump_ended, pump_stopped}
 use Rattle.lsp_pump.proofs.pumping.pump.Goals as goal
 
 carried : {X Y : Type 0} (F : X → Y → Type 0) (a b : X) (x y : Y) → F a x → b ≡ a → y ≡ x → F b y
 carried F a b x y f is same = subst (λ k. F k y) (sym is) (subst (F a) (sym same) f)
+
+pub pump_session-source-requires-clause-ready : goal.pump_session-source-requires-clause-ready
+pump_session-source-requires-clause-ready g c κs within =
+    let opened = c.open_server-codec in
+    let view = opening_view (setting c.args.server c.args.service (g.P.Pick.state c.args.pick.now) c.args.rounds) in
+    opens_ready g.H.Handlers.semantics g.D.Caller.meaning opened.result.1 view opened.ensures.view opened.ensures.running refl
+
+pub pump_session-source-requires-clause-unexited : goal.pump_session-source-requires-clause-unexited
+pump_session-source-requires-clause-unexited g c κs within =
+    let opened = c.open_server-codec in
+    let view = opening_view (setting c.args.server c.args.service (g.P.Pick.state c.args.pick.now) c.args.rounds) in
+    opens_unexited g.H.Handlers.semantics g.D.Caller.meaning opened.result.1 view opened.ensures.view refl c.requires.opening
 
 pub pump_session-source-requires-clause-told : goal.pump_session-source-requires-clause-told
 pump_session-source-requires-clause-told g c κs within = ap told_at c.open_server-codec.ensures.codec

@@ -1,12 +1,11 @@
 -- One piece more, or none, and a tick.
-use Rattle.std.proofs.Common.{rules, [], sym, ◌∙◌, ap}
+use Rattle.std.proofs.Common.{[], sym, ◌∙◌, ap}
 use Rattle.std.specs.Prelude.{Err}
 use Rattle.std.proofs.lemmas.List.{append-nil}
 use Rattle.rtrb.specs.Ring.{received}
 use Rattle.lsp_pump.specs.Pieces.{piece_items, all_items}
-use Rattle.lsp_pump.specs.Steps.{MakesSteps}
 use Rattle.lsp_pump.proofs.PiecesLemmas.{all_items-more}
-use Rattle.lsp_pump.proofs.StepsLemmas.{makes_untick}
+use Rattle.lsp_pump.proofs.StepsLemmas.{makes_untick, makes_error}
 use Rattle.lsp_pump.proofs.steps.serve_next.Goals as goal
 
 pub returns-in-Ok-clause-makes : goal.returns-in-Ok-clause-makes
@@ -22,6 +21,9 @@ returns-in_ok-exits-in-Err-Empty-clause-makes g c = (
 pub returns-in_err-exits-in-Err-Empty-clause-makes : goal.returns-in_err-exits-in-Err-Empty-clause-makes
 returns-in_err-exits-in-Err-Empty-clause-makes g c =
     let e = c.in_err-exits-in-Err-Empty.field-0.0 in
-    let d = c.make_step.new.self in
-    let made : MakesSteps g.S.Steps.way c.args.rounds c.args.steps.now [] (Err e) d = makes_untick g.S.Steps.way c.args.rounds c.args.steps.now d [] (Err e) c.in_err-exits-in-Err-Empty.ensures in
-    ([], ap all_items c.in-Err-Empty.ensures.empty.0 ∙ sym (append-nil (all_items (received c.args.pieces.now))), search rules)
+    let d = c.make_step.new.self in (
+      [],
+      ap all_items c.in-Err-Empty.ensures.empty.0 ∙ sym (append-nil (all_items (received c.args.pieces.now))),
+      makes_error g.S.Steps.way c.args.rounds c.args.steps.now d [] e c.from_residual.result c.from_residual.ensures.1
+          (makes_untick g.S.Steps.way c.args.rounds c.args.steps.now d [] (Err e) c.in_err-exits-in-Err-Empty.ensures),
+    )

@@ -5,7 +5,7 @@ use Rattle.lsp_session.specs.Item.{ItemData, show_item}
 use Rattle.lsp_pump.specs.Pieces.{piece_items, ItemsAreFloatFree}
 use Rattle.lsp_pump.specs.Steps.{MakesSteps}
 use Rattle.lsp_pump.proofs.PiecesLemmas.{free_tail}
-use Rattle.lsp_pump.proofs.StepsLemmas.{makes_none, makes_more, makes_ended, makes_failed}
+use Rattle.lsp_pump.proofs.StepsLemmas.{makes_none, makes_more, makes_ended, makes_failed, makes_error}
 use Rattle.lsp_pump.proofs.steps.serve_piece.Goals as goal
 
 pub items-init : goal.items-init
@@ -47,11 +47,10 @@ returns-in_err-make_step g c =
     let a = c.args.steps.now in
     let b = c.make_step.new.self in
     let e = c.in_err-make_step.field-0.0 in
-    let made : MakesSteps way c.args.rounds a (piece_items c.args.piece) (Err e) b =
-    subst (λ (l : List ItemData). MakesSteps way c.args.rounds a l (Err e) b) whole
+    makes_error way c.args.rounds a b (piece_items c.args.piece) e c.from_residual.result c.from_residual.ensures.1
+    (subst (λ (l : List ItemData). MakesSteps way c.args.rounds a l (Err e) b) whole
     (makes_failed way c.args.rounds a b (inv.made.0 ++ x ∷ []) rest e
-    (makes_more way c.args.rounds a c.items.steps b inv.made.0 (x ∷ []) (Err e) inv.made.2 c.in_err-make_step.ensures)) in
-    search rules
+    (makes_more way c.args.rounds a c.items.steps b inv.made.0 (x ∷ []) (Err e) inv.made.2 c.in_err-make_step.ensures)))
 
 pub returns-then-branch : goal.returns-then-branch
 returns-then-branch g c =

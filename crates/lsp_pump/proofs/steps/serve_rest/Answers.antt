@@ -9,7 +9,7 @@ use Rattle.lsp_session.specs.Item.{ItemData}
 use Rattle.lsp_pump.specs.Pieces.{piece_items, all_items, back_items, ItemsAreFloatFree}
 use Rattle.lsp_pump.specs.Steps.{MakesSteps}
 use Rattle.lsp_pump.proofs.PiecesLemmas.{none_left}
-use Rattle.lsp_pump.proofs.StepsLemmas.{makes_none, makes_more, makes_ended, makes_failed}
+use Rattle.lsp_pump.proofs.StepsLemmas.{makes_none, makes_more, makes_ended, makes_failed, makes_error}
 use Rattle.lsp_pump.proofs.steps.serve_rest.Goals as goal
 
 -- the items so far, those of this piece and those after it are all
@@ -52,11 +52,11 @@ returns-in_err-serve_piece g c =
     let a = c.args.steps.now in
     let d = c.serve_piece.new.steps in
     let e = c.in_err-serve_piece.field-0.0 in
-    let made : MakesSteps way c.args.rounds a (all_items (known_items c.args.pieces.now) ++ back) (Err e) d =
-    subst (λ (l : List ItemData). MakesSteps way c.args.rounds a l (Err e) d)
-    (split_on inv.made.0 (all_items (known_items c.args.pieces.now)) piece rest (all_items (known_items c.pieces.pieces)) back (ap all_items c.pop_known-piece.ensures.received.1) inv.made.1)
-    (makes_failed way c.args.rounds a d (inv.made.0 ++ piece) (rest ++ back) e (makes_more way c.args.rounds a c.pieces.steps d inv.made.0 piece (Err e) inv.made.2 c.in_err-serve_piece.ensures)) in
-    search rules
+    let known = all_items (known_items c.args.pieces.now) in
+    makes_error way c.args.rounds a d (known ++ back) e c.from_residual.result c.from_residual.ensures.1
+    (subst (λ (l : List ItemData). MakesSteps way c.args.rounds a l (Err e) d)
+    (split_on inv.made.0 known piece rest (all_items (known_items c.pieces.pieces)) back (ap all_items c.pop_known-piece.ensures.received.1) inv.made.1)
+    (makes_failed way c.args.rounds a d (inv.made.0 ++ piece) (rest ++ back) e (makes_more way c.args.rounds a c.pieces.steps d inv.made.0 piece (Err e) inv.made.2 c.in_err-serve_piece.ensures)))
 
 pub returns-then-branch : goal.returns-then-branch
 returns-then-branch g c =

@@ -1,5 +1,5 @@
 -- The step of one item, by whether it was an exit.
-use Rattle.std.proofs.Common.{rules, ◌≡◌, ◌∷◌, []}
+use Rattle.std.proofs.Common.{rules, refl, ◌≡◌, ◌∷◌, []}
 use Rattle.std.specs.Prelude.{is_some}
 use Rattle.lsp_session.specs.Item.{show_item}
 use Rattle.lsp_session.specs.Run.{Order}
@@ -34,7 +34,7 @@ returns-in-Ok g c =
       fails = tt;
       grown = ran_grown a d (x ∷ []) ran;
       flushed = sink.flushed;
-      sink = record { beside = search rules; count = faults.count; write = faults.write; unfailed = faults.unfailed; left = faults.left };
+      sink = record { beside = refl; count = faults.count; write = faults.write; unfailed = faults.unfailed; left = faults.left };
     }
 
 pub returns-in-Err : goal.returns-in-Err
@@ -54,7 +54,7 @@ returns-in-Err g c =
       fails = record { in_step = sink.others; spent = rw c.in-Err.is at c.serve_item.ensures.spent };
       grown = rw c.in-Err.is at c.serve_item.ensures.grown;
       flushed = sink.flushed;
-      sink = record { beside = search rules; count = faults.count; write = faults.write; unfailed = faults.unfailed; left = faults.left };
+      sink = record { beside = refl; count = faults.count; write = faults.write; unfailed = faults.unfailed; left = faults.left };
     }
 
 pub serve_item-requires-clause-ready : goal.serve_item-requires-clause-ready

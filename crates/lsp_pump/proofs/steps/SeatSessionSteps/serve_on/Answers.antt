@@ -1,5 +1,5 @@
 -- What serving on from source and codec comes to.
-use Rattle.std.proofs.Common.{rules}
+use Rattle.std.proofs.Common.{rules, refl}
 use Rattle.std.specs.Result.{result_err}
 use Rattle.lsp_session.specs.Run.{Order}
 use Rattle.lsp_pump.specs.SeatWay.{seat_way}
@@ -22,5 +22,5 @@ returns g c =
       flushed = f.transport.flushed;
       faults = f.transport.faults;
       within = f.transport.within;
-      beside = search rules;
+      beside = refl;
     })
