@@ -115,11 +115,11 @@ def union(it):
     return text + formed(it, last[0] or "form")
 
 
-def other(it, arm, word, call="wanted"):
+def other(it, arm, word, suited="refl"):
     """The last arm, where what is wanted is said of the value as a whole."""
     return it.answer(
         f"returns-{arm}-clause-unfit",
-        f"\n    wants_other wants.{word} {it.shape} {it.place()} c.{call}.result c.{call}.ensures.refuses refl refl (search rules)",
+        f"\n    wants_other wants.{word} {it.shape} {it.place()} c.wanted.result c.wanted.ensures.refuses {suited} refl (search rules)",
     )
 
 
@@ -167,25 +167,32 @@ def tagged(it):
 
 
 def labelled(it):
-    """A type that a label tells: an arm for each label, but none for one with a reader. The names of its goals are by the rules, and not seen."""
+    """A type that a label tells: an arm for each label. The names of its goals are by the rules, and not seen."""
     if not re.match(r"\s*let Some\(label\) = \w+Label::of\(value\) else \{\n", it.body):
         return None
+    suited = f"{it.kind.lower()}-is_form"
     text = "use Rattle.std.proofs.Common.{refl, ap, rules}\nuse Rattle.std.specs.Prelude.{Err}\nuse Rattle.serde_json.specs.View.{view}\n"
-    text += "use Rattle.lsp_shape.specs.declared.why.Wanted.TheVariants as wants\n" + MAPPED + "use Rattle.lsp_shape.proofs.Told.{form_told, wants_other}\n" + it.uses() + it.goals()
-    text += other(it, "in_default", "Form")
+    text += "use Rattle.lsp_shape.specs.declared.why.Wanted.TheVariants as wants\nuse Rattle.lsp_shape.proofs.Refusals.{unfit_none}\n"
+    text += "use Rattle.lsp_shape.proofs.Told.{form_told, wants_other}\nuse Rattle.lsp_lsif.proofs.Mapped.{form_mapped, form_read}\n"
+    text += f"use Rattle.lsp_lsif.proofs.Labelled.{{{suited}}}\n" + it.uses() + it.goals()
+    text += other(it, "in_default", "Form", suited=suited)
     asked, mapped = 0, 0
     for name, arm in re.findall(r"\n            \w+Label::(\w+)(?:\(label\))? => (.*?)(?=\n            \w+Label::|\n        \}$)", it.body, re.S):
-        if "as_form(" in arm:
-            asked += arm.count("?")
-            continue
+        word = f"-in-{name}"
+        if called := re.match(r"as_form\((\w+)\(alloc, value\)\)", arm):
+            text += it.answer(
+                f"returns{word}-clause-unfit",
+                f"\n    form_read c.as_form.result {it.shape} {it.place()} {suited} c.as_form.ensures.refuses\n"
+                f"    (λ why is. let none = unfit_none c.{called[1]}.result c.{called[1]}.ensures.unfit (c.as_form.ensures.unfit why is) in search rules)",
+            )
         for call in re.findall(r"(?:let (\w+) = )?\b(form|result_of)\(.*?\)(\?|\.map\()", arm, re.S):
-            step, word = call[0] or call[1], f"-in-{name}"
+            step = call[0] or call[1]
             if call[2] == "?":
                 was, given = f"c.in_err-{step}{word}", "c.from_residual" if asked == 0 else f"c.from_residual-in_err-{step}{word}"
                 asked += 1
                 text += it.answer(
                     f"returns-in_err-{step}{word}-clause-unfit",
-                    f"\n    form_told {given}.result {was}.field-0.0 {it.shape} {it.place()} refl {given}.ensures.1 (λ why is. {was}.ensures.refuses why (ap Err is))\n"
+                    f"\n    form_told {given}.result {was}.field-0.0 {it.shape} {it.place()} {suited} {given}.ensures.1 (λ why is. {was}.ensures.refuses why (ap Err is))\n"
                     f"    (λ why is. let none = {was}.ensures.unfit why (ap Err is) in search rules)",
                 )
             else:
@@ -193,7 +200,7 @@ def labelled(it):
                 mapped += 1
                 text += it.answer(
                     f"returns{word}-clause-unfit",
-                    f"\n    form_mapped _ {of}.result {out}.result {it.shape} {it.place()} refl {out}.ensures.cases {of}.ensures.refuses\n"
+                    f"\n    form_mapped _ {of}.result {out}.result {it.shape} {it.place()} {suited} {out}.ensures.cases {of}.ensures.refuses\n"
                     f"    (λ why is. let none = {of}.ensures.unfit why is in search rules)",
                 )
     return text

@@ -1,14 +1,14 @@
 // Vertices.
-ghost use Rattle.std.specs.Prelude.{◌≡◌, IfOk, OnOk, Some, None, true, codes};
+ghost use Rattle.std.specs.Prelude.{◌≡◌, IfOk, OnOk, Some, None, option_map, true, codes};
 ghost use Rattle.serde_json.specs.Data.{Data, object as object_of, put as with_member, string, no_members};
 ghost use Rattle.serde_json.specs.View.{view};
-ghost use Rattle.lsp_shape.specs.Plain.{parts, part, no_parts};
+ghost use Rattle.lsp_shape.specs.Plain.{choice, parts, part, no_parts};
 ghost use Rattle.lsp_shape.specs.Read.{read};
 ghost use Rattle.lsp_shape.specs.Shape.{Shape};
 ghost use Rattle.lsp_shape.specs.Why.{IfUnfit, Lacks, Refuses};
 ghost use Rattle.lsp_shape.specs.Write.{write};
 ghost use Rattle.lsp_shape.specs.Values.{is_of};
-ghost use Rattle.lsp_lsif.specs.Vertex.{vertex_row, meta_data_row, encoding_row, tool_info_row, project_row, repository_row, document_row, result_set_row, package_information_row, event_row, event_kind_row, event_scope_row, document_symbol_or_range_based_vec_row, result_alone};
+ghost use Rattle.lsp_lsif.specs.Vertex.{vertex_row, meta_data_row, encoding_row, tool_info_row, project_row, repository_row, document_row, result_set_row, package_information_row, event_row, event_kind_row, event_scope_row, document_symbol_or_range_based_vec_row, result_alone, vertex_range_row};
 
 use crate::entry::Id;
 use crate::labels::VertexLabel;
@@ -16,7 +16,9 @@ use crate::symbols::RangeBasedDocumentSymbol;
 use crate::tags::RangeTag;
 use lsp_base::{Diagnostic, Range};
 use lsp_lang_goto::{DocumentLink, DocumentSymbol, Hover};
-use lsp_shape::{Misfit, NoMemory, Reader, Wanted, Wire, Writer, as_form, attempt, form, put_tag};
+use lsp_shape::{
+    Misfit, NoMemory, Reader, Wanted, Wire, Writer, as_form, attempt, flat, form, put_tag,
+};
 use lsp_tokens::{FoldingRange, Moniker};
 use lsp_uri::Uri;
 use serde_json::Value;
@@ -105,13 +107,7 @@ impl Wire for Vertex {
             VertexLabel::MetaData => form(alloc, value).map(Vertex::MetaData),
             VertexLabel::Project => form(alloc, value).map(Vertex::Project),
             VertexLabel::Document => form(alloc, value).map(Vertex::Document),
-            VertexLabel::Range => {
-                let object = as_form(Reader::new(alloc, value))?;
-                Ok(Vertex::Range {
-                    range: form(alloc, value)?,
-                    tag: as_form(object.optional("tag"))?,
-                })
-            }
+            VertexLabel::Range => as_form(range_of(alloc, value)),
             VertexLabel::ResultSet => form(alloc, value).map(Vertex::ResultSet),
             VertexLabel::Moniker => form(alloc, value).map(Vertex::Moniker),
             VertexLabel::PackageInformation => form(alloc, value).map(Vertex::PackageInformation),
@@ -202,8 +198,31 @@ fn result_of<T: Wire>(alloc: Global, value: &Value) -> Result<T, Misfit>
     ensures refuses { IfUnfit result
         (λ why. (s : Shape) (d : Data) → Lacks s d Wanted.Form → Refuses s d why) }
 {
-    let object = as_form(Reader::new(alloc, value))?;
-    as_form(object.field("result"))
+    as_form(result_in(alloc, value))
+}
+
+/// The same, told by the place where something else is wanted.
+fn result_in<T: Wire>(alloc: Global, value: &Value) -> Result<T, Misfit>
+    ensures read { IfOk result (λ x. read (result_alone T.shape) (view value.now)
+        ≡ Some (parts (part (T.shown x) no_parts))) }
+    ensures unfit { IfUnfit result (λ why. Refuses (result_alone T.shape) (view value.now) why) }
+{
+    let object = Reader::new(alloc, value)?;
+    object.field("result")
+}
+
+/// The members of the vertex `range`.
+#[tactic(auto, unfolding(crate::specs::Vertex::vertex_row))]
+fn range_of(alloc: Global, value: &Value) -> Result<Vertex, Misfit>
+    ensures read { IfOk result (λ x. option_map (choice 3)
+        (read vertex_range_row.shape (view value.now)) ≡ Some (vertex_row.shown x)) }
+    ensures unfit { IfUnfit result (λ why. Refuses vertex_range_row.shape (view value.now) why) }
+{
+    let object = Reader::new(alloc, value)?;
+    Ok(Vertex::Range {
+        range: flat(alloc, value)?,
+        tag: object.optional("tag")?,
+    })
 }
 
 /// What is written for a vertex that has the member `result` alone.
