@@ -21,3 +21,4 @@ pub mod NotNull
 pub mod ReadClear
 pub mod Tested
 pub mod Maybe
+pub mod Firsts

@@ -13,7 +13,7 @@ use Rattle.serde_json.specs.Find.{get, get_member, get_item, at, as_null, as_boo
 use Rattle.lsp_shape.specs.Plain.{Plain, present, parts, entry, Parts, no_parts, part}
 use Rattle.lsp_shape.specs.Shape.{Rule, Count, required, omitted, nullable, or_empty, or_false, unless_empty, unless_false, Shape, truth, nil, integer, bits, text, list_of, list, maybe, map_of, recursive, fields, fields_and, union, tagged, any, Fields, no_fields, field, flat, supported, again, has_name, field_names}
 use Rattle.lsp_shape.specs.Read.{read, read_nil, read_truth, read_integer, read_text, read_fields, read_member, read_supported, read_or_truth, read_maybe, read_items, read_list, item_count, read_entry, read_entries, read_map, and_part, and_rest, read_count, reads_none}
-use Rattle.lsp_shape.specs.Why.{Downward, to_member, to_item, below, found_at, name_at, nth_step, step_before, and_further, path_by, is_kind, is_all, is_left_out, is_long, IsReason, steps_of, Fails, Refuses, IfUnfit, IsUnfit, IsWhole, IsUnder, IsInMember, IsInItem, IsOfMember, IsOfItem, one_field, one_supported, fields_of, read_rule, named_field, named_supported, HasFlat, IsMapBeside, AnyRefuses, suits, Lacks}
+use Rattle.lsp_shape.specs.Why.{Downward, to_member, to_item, below, found_at, name_at, nth_step, step_before, and_further, path_by, is_kind, is_all, is_left_out, is_long, IsReason, steps_of, Fails, Refuses, IfUnfit, IsUnfit, IsWhole, IsForMember, IsUnder, IsInMember, IsInItem, IsOfMember, IsOfItem, one_field, one_supported, fields_of, read_rule, named_field, named_supported, HasFlat, IsMapBeside, AnyRefuses, suits, Lacks}
 use Rattle.lsp_shape.specs.declared.why.Misfit.{Misfit}
 use Rattle.lsp_shape.specs.declared.why.Misfit.TheVariants as misfits
 use Rattle.lsp_shape.specs.declared.why.Wanted.{Wanted}
@@ -526,7 +526,7 @@ supported_refuses {name} {s} {ms} {x} {old} {new} is u a = record {
 }
 
 -- a member that is missing
-pub missing_refuses : {name : List ℕ} {s : Shape} {ms : Members} {w : Wanted} {why : Why} → IsWhole w why → ((e : Data) → is_kind w e ≡ is_some (get name e)) → get_member name ms ≡ None
+missing_refuses : {name : List ℕ} {s : Shape} {ms : Members} {w : Wanted} {why : Why} → IsWhole w why → ((e : Data) → is_kind w e ≡ is_some (get name e)) → get_member name ms ≡ None
     → Refuses (one_field name required s) (object ms) why
 missing_refuses {name} {s} {ms} {w} {why} a kind is = record {
   fails = fails_whole w a (field_none name required s (object ms) (ap (read_member required (read s)) is)) (λ e. kind (object ms) ∙ ap is_some is)
@@ -719,6 +719,29 @@ fails_form a h = fails_whole wants.Form a h (λ e. absurd (false≢true e)) (λ 
 -- a list of numbers of some lengths
 pub tested_refuses : {test : ℕ → Bool} {s : Shape} {d : Data} {why : Why} → Refuses (list s) d why → Refuses (list_of test s) d why
 tested_refuses {test} {s} r = refuses_leads (never_read test (read s)) r
+
+-- ---- a member that is missing, by the word of its name
+
+missing_member : {name : List ℕ} {s : Shape} {ms : Members} {why : Why} (w : Wanted) → IsForMember name w → IsWhole w why → get_member name ms ≡ None → Refuses (one_field name required s) (object ms) why
+missing_member (wants.Member n) e a is = missing_refuses a (λ d. ap (λ (k : List ℕ). is_some (get k d)) e) is
+missing_member {name} {s} {ms} wants.Keys e a is = record {
+  fails = fails_whole wants.Keys a (field_none name required s (object ms) (ap (read_member required (read s)) is)) (λ e. absurd (false≢true e)) (λ e k l. no_object (one_field name required s) refl e k) (other_word wants.Keys refl);
+}
+missing_member wants.Null e a is = absurd e
+missing_member wants.Boolean e a is = absurd e
+missing_member wants.Unsigned e a is = absurd e
+missing_member wants.Integer e a is = absurd e
+missing_member wants.Text e a is = absurd e
+missing_member wants.Name e a is = absurd e
+missing_member wants.Uri e a is = absurd e
+missing_member wants.List e a is = absurd e
+missing_member wants.Length e a is = absurd e
+missing_member wants.Object e a is = absurd e
+missing_member wants.Form e a is = absurd e
+missing_member wants.Inside e a is = absurd e
+
+pub missing_told : {name : List ℕ} {s : Shape} {ms : Members} {w : Wanted} {why : Why} → IsForMember name w → IsWhole w why → get_member name ms ≡ None → Refuses (one_field name required s) (object ms) why
+missing_told {w} e a is = missing_member w e a is
 
 -- ---- what a result says
 

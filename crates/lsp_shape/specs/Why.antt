@@ -5,6 +5,7 @@ use Rattle.serde_json.specs.Find.{get, get_member, get_item, at, as_null, as_boo
 use Rattle.lsp_shape.specs.Plain.{Plain}
 use Rattle.lsp_shape.specs.Shape.{Rule, required, omitted, nullable, or_empty, or_false, unless_empty, unless_false, Shape, nil, truth, integer, bits, text, any, list_of, maybe, map_of, fields, fields_and, recursive, union, tagged, Fields, no_fields, field, flat, supported, again, field_names}
 use Rattle.lsp_shape.specs.Read.{read}
+use Rattle.lsp_shape.specs.declared.why.MemberName.{MemberName}
 use Rattle.lsp_shape.specs.declared.why.Misfit.{Misfit}
 use Rattle.lsp_shape.specs.declared.why.Misfit.TheVariants as misfits
 use Rattle.lsp_shape.specs.declared.why.Wanted.{Wanted}
@@ -71,6 +72,10 @@ path_by (n ∷ ns) = λ d. and_further (nth_step n d) (path_by ns) d
 
 -- ---- what is wanted
 
+-- the text of a name
+abbrev pub name_text : MemberName → List ℕ
+name_text n = take n.len n.bytes
+
 -- the value is of the kind that the word says
 abbrev pub is_kind : Wanted → Data → Bool
 is_kind wants.Null d = is_some (as_null d)
@@ -84,7 +89,7 @@ is_kind wants.List d = is_some (as_array d)
 is_kind wants.Length d = is_some (as_array d)
 is_kind wants.Object d = is_some (as_object d)
 is_kind wants.Keys d = is_some (as_object d)
-is_kind (wants.Member name) d = is_some (get name.now d)
+is_kind (wants.Member name) d = is_some (get (name_text name) d)
 is_kind wants.Form d = true
 is_kind wants.Inside d = true
 
@@ -97,6 +102,12 @@ is_all wants.List = true
 is_all wants.Object = true
 is_all (wants.Member name) = true
 is_all _ = false
+
+-- The word of a member of that name. Of a name that is too long to be told, that other names are wanted.
+abbrev pub IsForMember : List ℕ → Wanted → Type 0
+IsForMember name (wants.Member n) = name_text n ≡ name
+IsForMember name wants.Keys = Unit {0}
+IsForMember name _ = ⊥
 
 -- what may stand where a member is left out
 abbrev pub is_left_out : Data → Bool

@@ -27,5 +27,5 @@ pub use object::{Reader, WideReader, Writer};
 pub use text::{TextMisfit, read_text, write_text};
 pub use tokens::TokenNumbers;
 pub use unfit::{Step, Unfit, why_unfit};
-pub use why::{Misfit, Wanted, Why, told_item, told_member};
+pub use why::{MemberName, Misfit, Wanted, Why, told_item, told_member};
 pub use wire::Wire;

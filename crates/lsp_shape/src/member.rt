@@ -27,11 +27,7 @@ pub fn find<'v>(object: &'v Map<String, Value>, name: &str) -> Option<&'v Value>
 }
 
 /// What the member of that name is read as. `Unfit` comes wherever it is missing.
-pub fn field<T: Wire>(
-    alloc: Global,
-    object: &Map<String, Value>,
-    name: &'static str,
-) -> Result<T, Misfit>
+pub fn field<T: Wire>(alloc: Global, object: &Map<String, Value>, name: &str) -> Result<T, Misfit>
     ensures read { IfOk result
         (λ x. read_member required (read T.shape)
         (get_member name.now (members_view object.now.entries)) ≡ Some (T.shown x)) }
@@ -43,7 +39,7 @@ pub fn field<T: Wire>(
 {
     match find(object, name) {
         Some(value) => told_member(object, name, T::from_value(alloc, value)),
-        None => Err(Misfit::wanted(Wanted::Member(name))),
+        None => Err(Misfit::wanted(Wanted::member(name))),
     }
 }
 

@@ -45,7 +45,7 @@ impl<'v> Reader<'v> {
     }
 
     /// The member of that name.
-    pub fn field<T: Wire>(&self, name: &'static str) -> Result<T, Misfit>
+    pub fn field<T: Wire>(&self, name: &str) -> Result<T, Misfit>
         ensures read { IfOk result
             (λ x. read_member required (read T.shape) (get_member name.now (read_from self.now))
             ≡ Some (T.shown x)) }
@@ -59,7 +59,7 @@ impl<'v> Reader<'v> {
     }
 
     /// The member of that name, and None where it is missing or null.
-    pub fn optional<T: Wire>(&self, name: &'static str) -> Result<Option<T>, Misfit>
+    pub fn optional<T: Wire>(&self, name: &str) -> Result<Option<T>, Misfit>
         ensures read { IfOk result
             (λ o. read_member omitted (read T.shape) (get_member name.now (read_from self.now))
             ≡ Some (maybe_of (option_map T.shown o))) }
@@ -73,7 +73,7 @@ impl<'v> Reader<'v> {
     }
 
     /// The same, but false is None too, and true is read as `{"valueSet": []}` is.
-    pub fn supported<T: Wire>(&self, name: &'static str) -> Result<Option<T>, Misfit>
+    pub fn supported<T: Wire>(&self, name: &str) -> Result<Option<T>, Misfit>
         ensures read { IfOk result
             (λ o. read_supported (read T.shape) (get_member name.now (read_from self.now))
             ≡ Some (maybe_of (option_map T.shown o))) }
@@ -87,7 +87,7 @@ impl<'v> Reader<'v> {
     }
 
     /// The member of that name, and an empty list where it is missing.
-    pub fn list_or_empty<T: Wire>(&self, name: &'static str) -> Result<Vec<T>, Misfit>
+    pub fn list_or_empty<T: Wire>(&self, name: &str) -> Result<Vec<T>, Misfit>
         ensures read { IfOk result
             (λ x. read_member or_empty (read (list T.shape))
             (get_member name.now (read_from self.now)) ≡ Some (show_list T.shown x)) }
@@ -99,7 +99,7 @@ impl<'v> Reader<'v> {
     }
 
     /// The member of that name, and false where it is missing.
-    pub fn truth_or_false(&self, name: &'static str) -> Result<bool, Misfit>
+    pub fn truth_or_false(&self, name: &str) -> Result<bool, Misfit>
         ensures read { IfOk result
             (λ b. read_member or_false (read truth) (get_member name.now (read_from self.now))
             ≡ Some (show_bool b)) }
@@ -148,7 +148,7 @@ impl<'v> WideReader<'v> {
     }
 
     /// The member of that name.
-    pub fn field<T: Wire>(&self, name: &'static str) -> Result<T, Misfit>
+    pub fn field<T: Wire>(&self, name: &str) -> Result<T, Misfit>
         ensures read { IfOk result
             (λ x. read_member required (read T.shape) (get_member name.now (members_of self.now))
             ≡ Some (T.shown x)) }
@@ -162,7 +162,7 @@ impl<'v> WideReader<'v> {
     }
 
     /// The member of that name, and None where it is missing or null.
-    pub fn optional<T: Wire>(&mut self, name: &'static str) -> Option<T>
+    pub fn optional<T: Wire>(&mut self, name: &str) -> Option<T>
         ensures { Takes self.old self.new
             (one_field name.now omitted T.shape)
             (read_member omitted (read T.shape) (get_member name.now (members_of self.old)))
@@ -181,7 +181,7 @@ impl<'v> WideReader<'v> {
     }
 
     /// The same, but false is None too, and true is read as `{"valueSet": []}` is.
-    pub fn supported<T: Wire>(&mut self, name: &'static str) -> Option<T>
+    pub fn supported<T: Wire>(&mut self, name: &str) -> Option<T>
         ensures { Takes self.old self.new
             (one_supported name.now T.shape)
             (read_supported (read T.shape) (get_member name.now (members_of self.old)))

@@ -4,13 +4,68 @@ ghost use Rattle.serde_json.specs.Data.{Data};
 ghost use Rattle.serde_json.specs.Find.{get_member};
 ghost use Rattle.serde_json.specs.View.{members_view};
 ghost use Rattle.lsp_shape.specs.Shape.{Shape};
-ghost use Rattle.lsp_shape.specs.Why.{steps_of, name_at, Refuses, Lacks, IfUnfit, IsUnfit, IsUnfitted, IsWhole, IsUnder, IsInMember, IsInItem, IsOfMember, IsOfItem};
+ghost use Rattle.lsp_shape.specs.Why.{steps_of, name_at, name_text, IsForMember, Refuses, Lacks, IfUnfit, IsUnfit, IsUnfitted, IsWhole, IsUnder, IsInMember, IsInItem, IsOfMember, IsOfItem};
 ghost use Rattle.lsp_shape.specs.declared.why.Why.{Why};
 ghost use Rattle.lsp_shape.specs.declared.why.Misfit.TheVariants as misfits;
 
 use no_memory::NoMemory;
 use serde_json::{Map, Value};
 use std::alloc::{AllocError, AllocFailed};
+use std::fmt;
+
+/// The name of a member, of at most 32 bytes. It is held by value, since a `?` on a result that holds a
+/// reference gets no proof where what was read is a type with a model.
+#[derive(Clone, Copy, PartialEq, Eq)]
+pub struct MemberName {
+    bytes: [u8; 32],
+    len: u8,
+}
+
+impl MemberName {
+    // The name, where it is not too long.
+    fn of(name: &str) -> Option<MemberName>
+        ensures { IfSome result (λ n. name_text n ≡ name.now) }
+    {
+        let text = name.as_bytes();
+        if text.len() > 32 {
+            return None;
+        }
+        let mut bytes = [0; 32];
+        bytes[..text.len()].copy_from_slice(text);
+        Some(MemberName {
+            bytes,
+            len: text.len() as u8,
+        })
+    }
+
+    // Its bytes.
+    fn as_bytes(&self) -> &[u8]
+        ensures { result.now ≡ name_text self.now }
+    {
+        self.bytes
+            .get(..usize::from(self.len))
+            .unwrap_or(&self.bytes)
+    }
+
+    /// The name, as text.
+    pub fn as_str(&self) -> Option<&str>
+        ensures { IfSome result (λ text. text.now ≡ name_text self.now) }
+    {
+        str::from_utf8(self.as_bytes()).ok()
+    }
+}
+
+impl fmt::Display for MemberName {
+    fn fmt<W: fmt::Write>(&self, f: &mut fmt::Formatter<W>) -> fmt::Result {
+        f.write_str(self.as_str().unwrap_or("a member"))
+    }
+}
+
+impl fmt::Debug for MemberName {
+    fn fmt<W: fmt::Write>(&self, f: &mut fmt::Formatter<W>) -> fmt::Result {
+        write!(f, "{self}")
+    }
+}
 
 /// What is wanted where a value does not fit.
 #[derive(Clone, Copy, Debug, PartialEq, Eq)]
@@ -38,12 +93,25 @@ pub enum Wanted {
     /// An object whose members have other names.
     Keys,
     /// An object with a member of that name.
-    Member(&'static str),
+    Member(MemberName),
     /// One of several forms, none of which fits.
     Form,
     /// Something inside that fits. The place is too deep in the value to be told, or behind too
     /// many items.
     Inside,
+}
+
+impl Wanted {
+    /// An object with a member of that name. Where the name is longer than 32 bytes, only that other
+    /// names of its members are wanted.
+    pub fn member(name: &str) -> Wanted
+        ensures { IsForMember name.now result }
+    {
+        match MemberName::of(name) {
+            Some(name) => Wanted::Member(name),
+            None => Wanted::Keys,
+        }
+    }
 }
 
 /// Where in a value something else is wanted, and what: for each step down, the number of the

@@ -208,7 +208,7 @@ fn is_unfit<T: Drop>(read: Result<T, Misfit>) -> bool {
 
 fn try_fields(trial: &mut Trial, alloc: Global, position: &Map<String, Value>) {
     trial.same("line", field::<u32>(alloc, position, "line"), Ok(3));
-    let missing = Err(Misfit::wanted(Wanted::Member("row")));
+    let missing = Err(Misfit::wanted(Wanted::member("row")));
     trial.same("row", field::<u32>(alloc, position, "row"), missing);
     let null = field::<u32>(alloc, position, "character");
     trial.is_true("character", is_unfit(null));

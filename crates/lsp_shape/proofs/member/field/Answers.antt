@@ -1,5 +1,5 @@
 use Rattle.std.proofs.Common.{refl}
-use Rattle.lsp_shape.proofs.Refusals.{said, no_member, missing_refuses, found_member, of_named, required_told}
+use Rattle.lsp_shape.proofs.Refusals.{said, no_member, missing_told, found_member, of_named, required_told}
 use Rattle.lsp_shape.proofs.member.field.Goals as goal
 
 pub returns-in-Some-clause-unfit : goal.returns-in-Some-clause-unfit
@@ -7,4 +7,4 @@ returns-in-Some-clause-unfit g c = λ why is t named. of_named (required_told (f
 
 pub returns-in-None-clause-unfit : goal.returns-in-None-clause-unfit
 returns-in-None-clause-unfit g c = λ why is t named.
-    of_named (missing_refuses (c.wanted.ensures.whole why (said _ c.wanted.result refl is)) (λ e. refl) (no_member c.find.result _ c.find.ensures c.in-None.is)) t named
+    of_named (missing_told c.member.ensures (c.wanted.ensures.whole why (said _ c.wanted.result refl is)) (no_member c.find.result _ c.find.ensures c.in-None.is)) t named
