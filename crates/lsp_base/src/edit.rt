@@ -6,7 +6,7 @@ ghost use Rattle.lsp_base.specs.Position.{first_range};
 
 use crate::document::OptionalVersionedTextDocumentIdentifier;
 use crate::position::{Position, Range};
-use lsp_shape::{Misfit, NoMemory, Reader, Wire, Writer, attempt};
+use lsp_shape::{Misfit, NoMemory, Reader, Wire, Writer, attempt, flat, form};
 use serde_json::Value;
 use std::alloc::Global;
 
@@ -30,7 +30,7 @@ impl<A: Wire, B: Wire> Wire for OneOf<A, B> {
         if let Some(left) = attempt(alloc, value)? {
             return Ok(OneOf::Left(left));
         }
-        Ok(OneOf::Right(B::from_value(alloc, value)?))
+        Ok(OneOf::Right(form(alloc, value)?))
     }
 
     fn to_value(&self, alloc: Global) -> Result<Value, NoMemory> {
@@ -115,7 +115,7 @@ impl Wire for AnnotatedTextEdit {
     fn from_value(alloc: Global, value: &Value) -> Result<AnnotatedTextEdit, Misfit> {
         let object = Reader::new(alloc, value)?;
         Ok(AnnotatedTextEdit {
-            text_edit: TextEdit::from_value(alloc, value)?,
+            text_edit: flat(alloc, value)?,
             annotation_id: object.field("annotationId")?,
         })
     }

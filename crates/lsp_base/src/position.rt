@@ -8,7 +8,7 @@ ghost use Rattle.lsp_rpc.specs.Shown.{show_id};
 ghost use Rattle.lsp_base.specs.Position.{id_of, number_or_string_row, cancel_params_row, position_row, range_row, location_row, location_link_row};
 
 use lsp_rpc::Id;
-use lsp_shape::{Misfit, NoMemory, Reader, Wire, Writer, attempt};
+use lsp_shape::{Misfit, NoMemory, Reader, Wire, Writer, attempt, form};
 use lsp_uri::Uri;
 use serde_json::{Map, Value};
 use std::alloc::Global;
@@ -35,7 +35,7 @@ impl Wire for NumberOrString {
         if let Some(number) = attempt(alloc, value)? {
             return Ok(NumberOrString::Number(number));
         }
-        Ok(NumberOrString::String(String::from_value(alloc, value)?))
+        Ok(NumberOrString::String(form(alloc, value)?))
     }
 
     fn to_value(&self, alloc: Global) -> Result<Value, NoMemory> {

@@ -2,7 +2,7 @@
 ghost use Rattle.lsp_base.specs.Resource.{create_file_options_row, create_file_row, rename_file_options_row, rename_file_row, delete_file_options_row, delete_file_row, resource_op_row};
 
 use crate::edit::ChangeAnnotationIdentifier;
-use lsp_shape::{Copies, Misfit, NoMemory, Reader, Wire, Writer, put_tag, tag};
+use lsp_shape::{Copies, Misfit, NoMemory, Reader, Wanted, Wire, Writer, form, put_tag, tag};
 use lsp_uri::Uri;
 use serde_json::Value;
 use std::alloc::{AllocError, Global};
@@ -252,10 +252,10 @@ impl Wire for ResourceOp {
 
     fn from_value(alloc: Global, value: &Value) -> Result<ResourceOp, Misfit> {
         match tag(value, "kind") {
-            Some("create") => Ok(ResourceOp::Create(CreateFile::from_value(alloc, value)?)),
-            Some("rename") => Ok(ResourceOp::Rename(RenameFile::from_value(alloc, value)?)),
-            Some("delete") => Ok(ResourceOp::Delete(DeleteFile::from_value(alloc, value)?)),
-            _ => Err(Misfit::Unfit),
+            Some("create") => Ok(ResourceOp::Create(form(alloc, value)?)),
+            Some("rename") => Ok(ResourceOp::Rename(form(alloc, value)?)),
+            Some("delete") => Ok(ResourceOp::Delete(form(alloc, value)?)),
+            _ => Err(Misfit::wanted(Wanted::Form)),
         }
     }
 

@@ -4,7 +4,7 @@ ghost use Rattle.lsp_base.specs.WorkspaceEdit.{workspace_edit_row, document_chan
 
 use crate::edit::{ChangeAnnotation, ChangeAnnotationIdentifier, TextDocumentEdit, TextEdit};
 use crate::resource::ResourceOp;
-use lsp_shape::{Misfit, NoMemory, Reader, Wire, Writer, attempt};
+use lsp_shape::{Misfit, NoMemory, Reader, Wire, Writer, attempt, form};
 use lsp_uri::Uri;
 use serde_json::Value;
 use std::alloc::Global;
@@ -84,7 +84,7 @@ impl Wire for DocumentChanges {
         if let Some(edits) = attempt(alloc, value)? {
             return Ok(DocumentChanges::Edits(edits));
         }
-        Ok(DocumentChanges::Operations(Vec::from_value(alloc, value)?))
+        Ok(DocumentChanges::Operations(form(alloc, value)?))
     }
 
     fn to_value(&self, alloc: Global) -> Result<Value, NoMemory> {
@@ -114,7 +114,7 @@ impl Wire for DocumentChangeOperation {
         if let Some(change) = attempt(alloc, value)? {
             return Ok(DocumentChangeOperation::Op(change));
         }
-        Ok(DocumentChangeOperation::Edit(TextDocumentEdit::from_value(alloc, value)?))
+        Ok(DocumentChangeOperation::Edit(form(alloc, value)?))
     }
 
     fn to_value(&self, alloc: Global) -> Result<Value, NoMemory> {

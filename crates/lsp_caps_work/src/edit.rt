@@ -1,7 +1,7 @@
 // Edits of the workspace.
 ghost use Rattle.lsp_caps_work.specs.Edit.{workspace_edit_client_capabilities_row, change_annotation_workspace_edit_client_capabilities_row, resource_operation_kind_row, failure_handling_kind_row};
 
-use lsp_shape::{Misfit, NoMemory, Reader, Wire, Writer};
+use lsp_shape::{Misfit, NoMemory, Reader, Wanted, Wire, Writer};
 use serde_json::Value;
 use std::alloc::Global;
 
@@ -105,7 +105,7 @@ impl Wire for ResourceOperationKind {
             Some("create") => Ok(ResourceOperationKind::Create),
             Some("rename") => Ok(ResourceOperationKind::Rename),
             Some("delete") => Ok(ResourceOperationKind::Delete),
-            _ => Err(Misfit::Unfit),
+            _ => Err(Misfit::wanted(Wanted::Name)),
         }
     }
 
@@ -146,7 +146,7 @@ impl Wire for FailureHandlingKind {
             Some("transactional") => Ok(FailureHandlingKind::Transactional),
             Some("textOnlyTransactional") => Ok(FailureHandlingKind::TextOnlyTransactional),
             Some("undo") => Ok(FailureHandlingKind::Undo),
-            _ => Err(Misfit::Unfit),
+            _ => Err(Misfit::wanted(Wanted::Name)),
         }
     }
 

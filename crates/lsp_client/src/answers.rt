@@ -11,7 +11,7 @@ ghost use Rattle.lsp_client.specs.Shown.{show_asked, show_answered};
 use lsp_desk::ClientReply;
 use lsp_methods::request::Request;
 use lsp_rpc::{Error, NoMemory, Response};
-use lsp_shape::{Misfit, Wire};
+use lsp_shape::{Wire, attempt};
 use std::alloc::Global;
 use std::marker::PhantomData;
 
@@ -123,10 +123,9 @@ where
 {
     let (_, body) = response.into_parts();
     match body {
-        Ok(value) => match R::Result::from_value(alloc, &value) {
-            Ok(read) => Ok(Answered::Value(read)),
-            Err(Misfit::Unfit) => Ok(Answered::Error(Error::parse_error(alloc)?)),
-            Err(Misfit::NoMemory) => Err(NoMemory),
+        Ok(value) => match attempt(alloc, &value)? {
+            Some(read) => Ok(Answered::Value(read)),
+            None => Ok(Answered::Error(Error::parse_error(alloc)?)),
         },
         Err(error) => Ok(Answered::Error(error)),
     }

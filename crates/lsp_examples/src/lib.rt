@@ -6,8 +6,10 @@ mod beside;
 mod counts;
 mod params;
 mod service;
+mod unfit;
 mod worker;
 
 pub use asks::{Asks, Task};
 pub use beside::count_beside;
 pub use service::asks_service;
+pub use unfit::unfit_line;

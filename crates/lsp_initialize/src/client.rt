@@ -8,7 +8,7 @@ use lsp_caps_work::{
     WindowClientCapabilities, WorkspaceClientCapabilities,
 };
 use lsp_names::TraceValue;
-use lsp_shape::{Copies, Misfit, NoMemory, Reader, Wire, Writer};
+use lsp_shape::{Copies, Misfit, NoMemory, Reader, Wire, Writer, flat};
 use lsp_uri::Uri;
 use serde_json::Value;
 use std::alloc::{AllocError, Global};
@@ -167,7 +167,7 @@ impl Wire for InitializeParams {
             workspace_folders: object.optional("workspaceFolders")?,
             client_info: object.optional("clientInfo")?,
             locale: object.optional("locale")?,
-            work_done_progress_params: WorkDoneProgressParams::from_value(alloc, value)?,
+            work_done_progress_params: flat(alloc, value)?,
         })
     }
 

@@ -5,6 +5,7 @@ use Rattle.lsp_shape.specs.Plain.{Plain}
 use Rattle.lsp_shape.specs.Read.{read}
 use Rattle.lsp_shape.specs.Write.{write}
 use Rattle.lsp_shape.specs.Values.{is_of}
+use Rattle.lsp_shape.proofs.Maybe.{maybe_there, maybe_not}
 use Rattle.lsp_shape.proofs.Recursive.{read-unrolled, write-unrolled, is_of-unrolled, depth-get_member}
 use Rattle.lsp_lang_goto.specs.Tree.{document_symbol_fields, document_symbol_shape, document_symbol_level}
 
@@ -20,6 +21,6 @@ pub is_of-level : (p : Plain) → is_of document_symbol_shape p ≡ is_of docume
 unfolding document_symbol_shape document_symbol_level
 is_of-level p = is_of-unrolled document_symbol_fields p
 
-pub ruleset reading_lemmas = (read-level, depth-get_member)
+pub ruleset reading_lemmas = (maybe_there, maybe_not, read-level, depth-get_member)
 
 pub ruleset writing_lemmas = (write-level, is_of-level)

@@ -3,7 +3,7 @@ ghost use Rattle.lsp_lang_goto.specs.Calls.{call_hierarchy_prepare_params_row, c
 
 use lsp_base::{PartialResultParams, Range, TextDocumentPositionParams, WorkDoneProgressParams};
 use lsp_kinds::{SymbolKind, SymbolTag};
-use lsp_shape::{Copies, Misfit, NoMemory, Reader, Wire, Writer};
+use lsp_shape::{Copies, Misfit, NoMemory, Reader, Wire, Writer, flat};
 use lsp_uri::Uri;
 use serde_json::Value;
 use std::alloc::{AllocError, Global};
@@ -26,8 +26,8 @@ impl Wire for CallHierarchyPrepareParams {
 
     fn from_value(alloc: Global, value: &Value) -> Result<CallHierarchyPrepareParams, Misfit> {
         Ok(CallHierarchyPrepareParams {
-            text_document_position_params: TextDocumentPositionParams::from_value(alloc, value)?,
-            work_done_progress_params: WorkDoneProgressParams::from_value(alloc, value)?,
+            text_document_position_params: flat(alloc, value)?,
+            work_done_progress_params: flat(alloc, value)?,
         })
     }
 
@@ -151,8 +151,8 @@ impl Wire for CallHierarchyIncomingCallsParams {
         let object = Reader::new(alloc, value)?;
         Ok(CallHierarchyIncomingCallsParams {
             item: object.field("item")?,
-            work_done_progress_params: WorkDoneProgressParams::from_value(alloc, value)?,
-            partial_result_params: PartialResultParams::from_value(alloc, value)?,
+            work_done_progress_params: flat(alloc, value)?,
+            partial_result_params: flat(alloc, value)?,
         })
     }
 
@@ -223,8 +223,8 @@ impl Wire for CallHierarchyOutgoingCallsParams {
         let object = Reader::new(alloc, value)?;
         Ok(CallHierarchyOutgoingCallsParams {
             item: object.field("item")?,
-            work_done_progress_params: WorkDoneProgressParams::from_value(alloc, value)?,
-            partial_result_params: PartialResultParams::from_value(alloc, value)?,
+            work_done_progress_params: flat(alloc, value)?,
+            partial_result_params: flat(alloc, value)?,
         })
     }
 

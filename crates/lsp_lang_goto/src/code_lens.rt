@@ -4,7 +4,7 @@ ghost use Rattle.lsp_lang_goto.specs.CodeLens.{code_lens_params_row, code_lens_r
 use lsp_base::{
     Command, PartialResultParams, Range, TextDocumentIdentifier, WorkDoneProgressParams,
 };
-use lsp_shape::{Misfit, NoMemory, Reader, Wire, Writer};
+use lsp_shape::{Misfit, NoMemory, Reader, Wire, Writer, flat};
 use serde_json::Value;
 use std::alloc::Global;
 
@@ -31,8 +31,8 @@ impl Wire for CodeLensParams {
         let object = Reader::new(alloc, value)?;
         Ok(CodeLensParams {
             text_document: object.field("textDocument")?,
-            work_done_progress_params: WorkDoneProgressParams::from_value(alloc, value)?,
-            partial_result_params: PartialResultParams::from_value(alloc, value)?,
+            work_done_progress_params: flat(alloc, value)?,
+            partial_result_params: flat(alloc, value)?,
         })
     }
 

@@ -2,7 +2,7 @@
 ghost use Rattle.lsp_lang_goto.specs.Color.{document_color_params_row};
 
 use lsp_base::{PartialResultParams, TextDocumentIdentifier, WorkDoneProgressParams};
-use lsp_shape::{Misfit, NoMemory, Reader, Wire, Writer};
+use lsp_shape::{Misfit, NoMemory, Reader, Wire, Writer, flat};
 use serde_json::Value;
 use std::alloc::Global;
 
@@ -29,8 +29,8 @@ impl Wire for DocumentColorParams {
         let object = Reader::new(alloc, value)?;
         Ok(DocumentColorParams {
             text_document: object.field("textDocument")?,
-            work_done_progress_params: WorkDoneProgressParams::from_value(alloc, value)?,
-            partial_result_params: PartialResultParams::from_value(alloc, value)?,
+            work_done_progress_params: flat(alloc, value)?,
+            partial_result_params: flat(alloc, value)?,
         })
     }
 

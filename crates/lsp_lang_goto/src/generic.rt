@@ -2,7 +2,7 @@
 ghost use Rattle.lsp_lang_goto.specs.Generic.{generic_params_row};
 
 use lsp_base::{PartialResultParams, TextDocumentPositionParams, WorkDoneProgressParams};
-use lsp_shape::{Misfit, NoMemory, Reader, Wire, Writer};
+use lsp_shape::{Misfit, NoMemory, Reader, Wire, Writer, flat};
 use serde_json::Value;
 use std::alloc::Global;
 
@@ -27,9 +27,9 @@ impl Wire for GenericParams {
 
     fn from_value(alloc: Global, value: &Value) -> Result<GenericParams, Misfit> {
         Ok(GenericParams {
-            text_document_position_params: TextDocumentPositionParams::from_value(alloc, value)?,
-            work_done_progress_params: WorkDoneProgressParams::from_value(alloc, value)?,
-            partial_result_params: PartialResultParams::from_value(alloc, value)?,
+            text_document_position_params: flat(alloc, value)?,
+            work_done_progress_params: flat(alloc, value)?,
+            partial_result_params: flat(alloc, value)?,
         })
     }
 

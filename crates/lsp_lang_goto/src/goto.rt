@@ -6,7 +6,7 @@ ghost use Rattle.lsp_lang_goto.specs.declared.goto.GotoDefinitionResponse.TheVar
 use lsp_base::{
     Location, LocationLink, PartialResultParams, TextDocumentPositionParams, WorkDoneProgressParams,
 };
-use lsp_shape::{Misfit, NoMemory, Reader, Wire, Writer, attempt};
+use lsp_shape::{Misfit, NoMemory, Reader, Wire, Writer, attempt, flat, form};
 use serde_json::Value;
 use std::alloc::Global;
 
@@ -33,9 +33,9 @@ impl Wire for GotoDefinitionParams {
 
     fn from_value(alloc: Global, value: &Value) -> Result<GotoDefinitionParams, Misfit> {
         Ok(GotoDefinitionParams {
-            text_document_position_params: TextDocumentPositionParams::from_value(alloc, value)?,
-            work_done_progress_params: WorkDoneProgressParams::from_value(alloc, value)?,
-            partial_result_params: PartialResultParams::from_value(alloc, value)?,
+            text_document_position_params: flat(alloc, value)?,
+            work_done_progress_params: flat(alloc, value)?,
+            partial_result_params: flat(alloc, value)?,
         })
     }
 
@@ -87,7 +87,7 @@ impl Wire for GotoDefinitionResponse {
         if let Some(array) = attempt(alloc, value)? {
             return Ok(GotoDefinitionResponse::Array(array));
         }
-        Ok(GotoDefinitionResponse::Link(Vec::from_value(alloc, value)?))
+        Ok(GotoDefinitionResponse::Link(form(alloc, value)?))
     }
 
     fn to_value(&self, alloc: Global) -> Result<Value, NoMemory> {

@@ -3,7 +3,7 @@ ghost use Rattle.lsp_lang_goto.specs.Hover.{hover_params_row, hover_row, hover_c
 
 use lsp_base::{Range, TextDocumentPositionParams, WorkDoneProgressParams};
 use lsp_names::{MarkedString, MarkupContent};
-use lsp_shape::{Misfit, NoMemory, Reader, Wire, Writer, attempt};
+use lsp_shape::{Misfit, NoMemory, Reader, Wire, Writer, attempt, flat, form};
 use serde_json::Value;
 use std::alloc::Global;
 
@@ -25,8 +25,8 @@ impl Wire for HoverParams {
 
     fn from_value(alloc: Global, value: &Value) -> Result<HoverParams, Misfit> {
         Ok(HoverParams {
-            text_document_position_params: TextDocumentPositionParams::from_value(alloc, value)?,
-            work_done_progress_params: WorkDoneProgressParams::from_value(alloc, value)?,
+            text_document_position_params: flat(alloc, value)?,
+            work_done_progress_params: flat(alloc, value)?,
         })
     }
 
@@ -98,7 +98,7 @@ impl Wire for HoverContents {
         if let Some(array) = attempt(alloc, value)? {
             return Ok(HoverContents::Array(array));
         }
-        Ok(HoverContents::Markup(MarkupContent::from_value(alloc, value)?))
+        Ok(HoverContents::Markup(form(alloc, value)?))
     }
 
     fn to_value(&self, alloc: Global) -> Result<Value, NoMemory> {

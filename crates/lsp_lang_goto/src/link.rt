@@ -2,7 +2,7 @@
 ghost use Rattle.lsp_lang_goto.specs.Link.{document_link_params_row, document_link_row};
 
 use lsp_base::{PartialResultParams, Range, TextDocumentIdentifier, WorkDoneProgressParams};
-use lsp_shape::{Misfit, NoMemory, Reader, Wire, Writer};
+use lsp_shape::{Misfit, NoMemory, Reader, Wire, Writer, flat};
 use lsp_uri::Uri;
 use serde_json::Value;
 use std::alloc::Global;
@@ -30,8 +30,8 @@ impl Wire for DocumentLinkParams {
         let object = Reader::new(alloc, value)?;
         Ok(DocumentLinkParams {
             text_document: object.field("textDocument")?,
-            work_done_progress_params: WorkDoneProgressParams::from_value(alloc, value)?,
-            partial_result_params: PartialResultParams::from_value(alloc, value)?,
+            work_done_progress_params: flat(alloc, value)?,
+            partial_result_params: flat(alloc, value)?,
         })
     }
 

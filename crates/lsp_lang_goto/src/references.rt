@@ -3,7 +3,7 @@ ghost use Rattle.lsp_lang_goto.specs.References.{reference_params_row, reference
 
 use lsp_base::{PartialResultParams, Range, TextDocumentPositionParams, WorkDoneProgressParams};
 use lsp_kinds::DocumentHighlightKind;
-use lsp_shape::{Misfit, NoMemory, Reader, Wire, Writer};
+use lsp_shape::{Misfit, NoMemory, Reader, Wire, Writer, flat};
 use serde_json::Value;
 use std::alloc::Global;
 
@@ -31,9 +31,9 @@ impl Wire for ReferenceParams {
     fn from_value(alloc: Global, value: &Value) -> Result<ReferenceParams, Misfit> {
         let object = Reader::new(alloc, value)?;
         Ok(ReferenceParams {
-            text_document_position: TextDocumentPositionParams::from_value(alloc, value)?,
-            work_done_progress_params: WorkDoneProgressParams::from_value(alloc, value)?,
-            partial_result_params: PartialResultParams::from_value(alloc, value)?,
+            text_document_position: flat(alloc, value)?,
+            work_done_progress_params: flat(alloc, value)?,
+            partial_result_params: flat(alloc, value)?,
             context: object.field("context")?,
         })
     }
@@ -97,9 +97,9 @@ impl Wire for DocumentHighlightParams {
 
     fn from_value(alloc: Global, value: &Value) -> Result<DocumentHighlightParams, Misfit> {
         Ok(DocumentHighlightParams {
-            text_document_position_params: TextDocumentPositionParams::from_value(alloc, value)?,
-            work_done_progress_params: WorkDoneProgressParams::from_value(alloc, value)?,
-            partial_result_params: PartialResultParams::from_value(alloc, value)?,
+            text_document_position_params: flat(alloc, value)?,
+            work_done_progress_params: flat(alloc, value)?,
+            partial_result_params: flat(alloc, value)?,
         })
     }
 

@@ -8,7 +8,7 @@ use lsp_base::{
     LSPAny, Location, OneOf, PartialResultParams, TextDocumentIdentifier, WorkDoneProgressParams,
 };
 use lsp_kinds::{SymbolKind, SymbolTag};
-use lsp_shape::{Copies, Misfit, NoMemory, Reader, Wire, Writer, attempt};
+use lsp_shape::{Copies, Misfit, NoMemory, Reader, Wire, Writer, attempt, flat, form};
 use lsp_uri::Uri;
 use serde_json::Value;
 use std::alloc::{AllocError, Global};
@@ -36,8 +36,8 @@ impl Wire for DocumentSymbolParams {
         let object = Reader::new(alloc, value)?;
         Ok(DocumentSymbolParams {
             text_document: object.field("textDocument")?,
-            work_done_progress_params: WorkDoneProgressParams::from_value(alloc, value)?,
-            partial_result_params: PartialResultParams::from_value(alloc, value)?,
+            work_done_progress_params: flat(alloc, value)?,
+            partial_result_params: flat(alloc, value)?,
         })
     }
 
@@ -71,7 +71,7 @@ impl Wire for DocumentSymbolResponse {
         if let Some(flat) = attempt(alloc, value)? {
             return Ok(DocumentSymbolResponse::Flat(flat));
         }
-        Ok(DocumentSymbolResponse::Nested(Vec::from_value(alloc, value)?))
+        Ok(DocumentSymbolResponse::Nested(form(alloc, value)?))
     }
 
     fn to_value(&self, alloc: Global) -> Result<Value, NoMemory> {
@@ -209,8 +209,8 @@ impl Wire for WorkspaceSymbolParams {
     fn from_value(alloc: Global, value: &Value) -> Result<WorkspaceSymbolParams, Misfit> {
         let object = Reader::new(alloc, value)?;
         Ok(WorkspaceSymbolParams {
-            partial_result_params: PartialResultParams::from_value(alloc, value)?,
-            work_done_progress_params: WorkDoneProgressParams::from_value(alloc, value)?,
+            partial_result_params: flat(alloc, value)?,
+            work_done_progress_params: flat(alloc, value)?,
             query: object.field("query")?,
         })
     }
@@ -246,7 +246,7 @@ impl Wire for WorkspaceSymbolResponse {
         if let Some(flat) = attempt(alloc, value)? {
             return Ok(WorkspaceSymbolResponse::Flat(flat));
         }
-        Ok(WorkspaceSymbolResponse::Nested(Vec::from_value(alloc, value)?))
+        Ok(WorkspaceSymbolResponse::Nested(form(alloc, value)?))
     }
 
     fn to_value(&self, alloc: Global) -> Result<Value, NoMemory> {

@@ -1,18 +1,23 @@
 // The symbols of a document as a tree, which hold themselves.
-ghost use Rattle.std.specs.Prelude.{◌≡◌, true, codes, map, IfOk, IsErrOf, OnOk, Some, None};
+ghost use Rattle.std.specs.Prelude.{◌≡◌, true, codes, map, IfOk, OnOk, Some, None};
+ghost use Rattle.serde_json.specs.Data.{array, object as object_of};
 ghost use Rattle.serde_json.specs.Find.{get_member};
 ghost use Rattle.serde_json.specs.View.{view, items_view, members_view};
 ghost use Rattle.lsp_shape.specs.Plain.{parts_of};
 ghost use Rattle.lsp_shape.specs.Read.{read, read_items, read_maybe, read_member};
-ghost use Rattle.lsp_shape.specs.Shape.{list, omitted};
+ghost use Rattle.lsp_shape.specs.Shape.{Shape, list, maybe, omitted};
 ghost use Rattle.lsp_shape.specs.Shown.{show_list, show_option};
 ghost use Rattle.lsp_shape.specs.Values.{is_of, is_maybe};
+ghost use Rattle.lsp_shape.specs.Why.{Refuses, IfUnfit, fields_of, named_field};
 ghost use Rattle.lsp_shape.specs.Write.{write, put_present};
 ghost use Rattle.lsp_lang_goto.specs.Tree.{document_symbol_shape, document_symbol_level, show_document_symbol};
 
 use lsp_base::Range;
 use lsp_kinds::{SymbolKind, SymbolTag};
-use lsp_shape::{Misfit, NoMemory, Wire, field, find, optional, put, put_optional, put_value};
+use lsp_shape::{
+    Misfit, NoMemory, Wanted, Wire, field, find, optional, put, put_optional, put_value, told_item,
+    told_member,
+};
 use serde_json::{Map, Value};
 use std::alloc::Global;
 
@@ -59,16 +64,28 @@ impl Wire for DocumentSymbol {
 
 // By the row of one level.
 #[cycle(reading)]
-#[tactic(auto, unfolding(crate::specs::Tree::document_symbol_level, crate::specs::Tree::show_document_symbol))]
 fn read_symbol(alloc: Global, value: &Value) -> Result<DocumentSymbol, Misfit>
     ensures read { IfOk result
         (λ x. read document_symbol_level.shape (view value.now) ≡ Some (show_document_symbol x)) }
-    ensures unfit { IsErrOf result Misfit.Unfit
-        → read document_symbol_level.shape (view value.now) ≡ None }
+    ensures unfit { IfUnfit result
+        (λ why. Refuses document_symbol_level.shape (view value.now) why) }
 {
-    let Value::Object(object) = value else {
-        return Err(Misfit::Unfit);
-    };
+    match value.as_object() {
+        Some(object) => read_members(alloc, object),
+        None => Err(Misfit::wanted(Wanted::Object)),
+    }
+}
+
+#[cycle(reading)]
+#[tactic(auto, unfolding(crate::specs::Tree::document_symbol_level, crate::specs::Tree::show_document_symbol))]
+fn read_members(alloc: Global, object: &Map<String, Value>) -> Result<DocumentSymbol, Misfit>
+    ensures read { IfOk result
+        (λ x. read document_symbol_level.shape (object_of (members_view object.now.entries))
+        ≡ Some (show_document_symbol x)) }
+    ensures unfit { IfUnfit result
+        (λ why. Refuses document_symbol_level.shape
+        (object_of (members_view object.now.entries)) why) }
+{
     Ok(DocumentSymbol {
         name: field(alloc, object, "name")?,
         detail: optional(alloc, object, "detail")?,
@@ -91,29 +108,44 @@ fn read_children(
         (λ o. read_member omitted (read (list document_symbol_shape))
         (get_member (codes "children") (members_view object.now.entries))
         ≡ Some (show_option (show_list show_document_symbol) o)) }
-    ensures unfit { IsErrOf result Misfit.Unfit
-        → read_member omitted (read (list document_symbol_shape))
-        (get_member (codes "children") (members_view object.now.entries)) ≡ None }
+    ensures unfit { IfUnfit result
+        (λ why. (t : Shape) → named_field (codes "children") (fields_of t)
+        ≡ Some (omitted, list document_symbol_shape)
+        → Refuses t (object_of (members_view object.now.entries)) why) }
 {
     match find(object, "children") {
-        Some(value) => read_list(alloc, value),
+        Some(value) => told_member(object, "children", read_list_or_null(alloc, value)),
         None => Ok(None),
     }
 }
 
 #[cycle(reading)]
 #[tactic(auto, using(crate::proofs::Unrolled::reading_lemmas))]
-fn read_list(alloc: Global, value: &Value) -> Result<Option<Vec<DocumentSymbol>>, Misfit>
+fn read_list_or_null(alloc: Global, value: &Value) -> Result<Option<Vec<DocumentSymbol>>, Misfit>
     ensures read { IfOk result
         (λ o. read_maybe (read (list document_symbol_shape)) (view value.now)
         ≡ Some (show_option (show_list show_document_symbol) o)) }
-    ensures unfit { IsErrOf result Misfit.Unfit
-        → read_maybe (read (list document_symbol_shape)) (view value.now) ≡ None }
+    ensures unfit { IfUnfit result
+        (λ why. Refuses (maybe (list document_symbol_shape)) (view value.now) why) }
 {
-    match value {
-        Value::Null => Ok(None),
-        Value::Array(items) => Ok(Some(read_all(alloc, items)?)),
-        _ => Err(Misfit::Unfit),
+    if value.is_null() {
+        Ok(None)
+    } else {
+        Ok(Some(read_list(alloc, value)?))
+    }
+}
+
+#[cycle(reading)]
+fn read_list(alloc: Global, value: &Value) -> Result<Vec<DocumentSymbol>, Misfit>
+    ensures read { IfOk result
+        (λ v. read (list document_symbol_shape) (view value.now)
+        ≡ Some (show_list show_document_symbol v)) }
+    ensures unfit { IfUnfit result
+        (λ why. Refuses (list document_symbol_shape) (view value.now) why) }
+{
+    match value.as_array() {
+        Some(items) => read_all(alloc, items),
+        None => Err(Misfit::wanted(Wanted::List)),
     }
 }
 
@@ -123,12 +155,12 @@ fn read_all(alloc: Global, items: &Vec<Value>) -> Result<Vec<DocumentSymbol>, Mi
     ensures read { IfOk result
         (λ v. read_items (read document_symbol_shape) (items_view items.now.items)
         ≡ Some (parts_of (map show_document_symbol v.items))) }
-    ensures unfit { IsErrOf result Misfit.Unfit
-        → read_items (read document_symbol_shape) (items_view items.now.items) ≡ None }
+    ensures unfit { IfUnfit result
+        (λ why. Refuses (list document_symbol_shape) (array (items_view items.now.items)) why) }
 {
     let mut all = Vec::with_capacity(alloc, items.len())?;
     for item in items {
-        all.push(read_symbol(alloc, item)?)?;
+        all.push(told_item(all.len(), read_symbol(alloc, item))?)?;
     }
     Ok(all)
 }

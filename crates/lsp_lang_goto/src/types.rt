@@ -5,7 +5,7 @@ use lsp_base::{
     LSPAny, PartialResultParams, Range, TextDocumentPositionParams, WorkDoneProgressParams,
 };
 use lsp_kinds::{SymbolKind, SymbolTag};
-use lsp_shape::{Copies, Misfit, NoMemory, Reader, Wire, Writer};
+use lsp_shape::{Copies, Misfit, NoMemory, Reader, Wire, Writer, flat};
 use lsp_uri::Uri;
 use serde_json::Value;
 use std::alloc::{AllocError, Global};
@@ -28,8 +28,8 @@ impl Wire for TypeHierarchyPrepareParams {
 
     fn from_value(alloc: Global, value: &Value) -> Result<TypeHierarchyPrepareParams, Misfit> {
         Ok(TypeHierarchyPrepareParams {
-            text_document_position_params: TextDocumentPositionParams::from_value(alloc, value)?,
-            work_done_progress_params: WorkDoneProgressParams::from_value(alloc, value)?,
+            text_document_position_params: flat(alloc, value)?,
+            work_done_progress_params: flat(alloc, value)?,
         })
     }
 
@@ -64,8 +64,8 @@ impl Wire for TypeHierarchySupertypesParams {
         let object = Reader::new(alloc, value)?;
         Ok(TypeHierarchySupertypesParams {
             item: object.field("item")?,
-            work_done_progress_params: WorkDoneProgressParams::from_value(alloc, value)?,
-            partial_result_params: PartialResultParams::from_value(alloc, value)?,
+            work_done_progress_params: flat(alloc, value)?,
+            partial_result_params: flat(alloc, value)?,
         })
     }
 
@@ -101,8 +101,8 @@ impl Wire for TypeHierarchySubtypesParams {
         let object = Reader::new(alloc, value)?;
         Ok(TypeHierarchySubtypesParams {
             item: object.field("item")?,
-            work_done_progress_params: WorkDoneProgressParams::from_value(alloc, value)?,
-            partial_result_params: PartialResultParams::from_value(alloc, value)?,
+            work_done_progress_params: flat(alloc, value)?,
+            partial_result_params: flat(alloc, value)?,
         })
     }
 

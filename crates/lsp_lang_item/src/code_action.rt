@@ -9,7 +9,7 @@ use lsp_base::{
 };
 use lsp_kinds::CodeActionTriggerKind;
 use lsp_names::CodeActionKind;
-use lsp_shape::{Copies, Misfit, NoMemory, Reader, Wire, Writer, attempt};
+use lsp_shape::{Copies, Misfit, NoMemory, Reader, Wire, Writer, attempt, flat, form};
 use serde_json::Value;
 use std::alloc::{AllocError, Global};
 
@@ -42,8 +42,8 @@ impl Wire for CodeActionParams {
             text_document: object.field("textDocument")?,
             range: object.field("range")?,
             context: object.field("context")?,
-            work_done_progress_params: WorkDoneProgressParams::from_value(alloc, value)?,
-            partial_result_params: PartialResultParams::from_value(alloc, value)?,
+            work_done_progress_params: flat(alloc, value)?,
+            partial_result_params: flat(alloc, value)?,
         })
     }
 
@@ -136,7 +136,7 @@ impl Wire for CodeActionOrCommand {
         if let Some(command) = attempt(alloc, value)? {
             return Ok(CodeActionOrCommand::Command(command));
         }
-        Ok(CodeActionOrCommand::CodeAction(CodeAction::from_value(alloc, value)?))
+        Ok(CodeActionOrCommand::CodeAction(form(alloc, value)?))
     }
 
     fn to_value(&self, alloc: Global) -> Result<Value, NoMemory> {

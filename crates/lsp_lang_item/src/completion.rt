@@ -12,7 +12,7 @@ use lsp_kinds::{
     CompletionItemKind, CompletionItemTag, CompletionTriggerKind, InsertTextFormat, InsertTextMode,
 };
 use lsp_names::Documentation;
-use lsp_shape::{Copies, Misfit, NoMemory, Reader, WideReader, Wire, Writer, attempt};
+use lsp_shape::{Copies, Misfit, NoMemory, Reader, WideReader, Wire, Writer, attempt, flat, form};
 use serde_json::Value;
 use std::alloc::{AllocError, Global};
 
@@ -40,9 +40,9 @@ impl Wire for CompletionParams {
     fn from_value(alloc: Global, value: &Value) -> Result<CompletionParams, Misfit> {
         let object = Reader::new(alloc, value)?;
         Ok(CompletionParams {
-            text_document_position: TextDocumentPositionParams::from_value(alloc, value)?,
-            work_done_progress_params: WorkDoneProgressParams::from_value(alloc, value)?,
-            partial_result_params: PartialResultParams::from_value(alloc, value)?,
+            text_document_position: flat(alloc, value)?,
+            work_done_progress_params: flat(alloc, value)?,
+            partial_result_params: flat(alloc, value)?,
             context: object.optional("context")?,
         })
     }
@@ -111,7 +111,7 @@ impl Wire for CompletionResponse {
         if let Some(array) = attempt(alloc, value)? {
             return Ok(CompletionResponse::Array(array));
         }
-        Ok(CompletionResponse::List(CompletionList::from_value(alloc, value)?))
+        Ok(CompletionResponse::List(form(alloc, value)?))
     }
 
     fn to_value(&self, alloc: Global) -> Result<Value, NoMemory> {
@@ -485,7 +485,7 @@ impl Wire for CompletionTextEdit {
         if let Some(edit) = attempt(alloc, value)? {
             return Ok(CompletionTextEdit::Edit(edit));
         }
-        Ok(CompletionTextEdit::InsertAndReplace(InsertReplaceEdit::from_value(alloc, value)?))
+        Ok(CompletionTextEdit::InsertAndReplace(form(alloc, value)?))
     }
 
     fn to_value(&self, alloc: Global) -> Result<Value, NoMemory> {

@@ -11,7 +11,7 @@ use lsp_base::{
 };
 use lsp_kinds::InlayHintKind;
 use lsp_names::MarkupContent;
-use lsp_shape::{Copies, Misfit, NoMemory, Reader, Wire, Writer, attempt};
+use lsp_shape::{Copies, Misfit, NoMemory, Reader, Wire, Writer, attempt, flat, form};
 use serde_json::Value;
 use std::alloc::{AllocError, Global};
 
@@ -36,7 +36,7 @@ impl Wire for InlayHintParams {
     fn from_value(alloc: Global, value: &Value) -> Result<InlayHintParams, Misfit> {
         let object = Reader::new(alloc, value)?;
         Ok(InlayHintParams {
-            work_done_progress_params: WorkDoneProgressParams::from_value(alloc, value)?,
+            work_done_progress_params: flat(alloc, value)?,
             text_document: object.field("textDocument")?,
             range: object.field("range")?,
         })
@@ -157,7 +157,7 @@ impl Wire for InlayHintLabel {
         if let Some(string) = attempt(alloc, value)? {
             return Ok(InlayHintLabel::String(string));
         }
-        Ok(InlayHintLabel::LabelParts(Vec::from_value(alloc, value)?))
+        Ok(InlayHintLabel::LabelParts(form(alloc, value)?))
     }
 
     fn to_value(&self, alloc: Global) -> Result<Value, NoMemory> {
@@ -204,7 +204,7 @@ impl Wire for InlayHintTooltip {
         if let Some(string) = attempt(alloc, value)? {
             return Ok(InlayHintTooltip::String(string));
         }
-        Ok(InlayHintTooltip::MarkupContent(MarkupContent::from_value(alloc, value)?))
+        Ok(InlayHintTooltip::MarkupContent(form(alloc, value)?))
     }
 
     fn to_value(&self, alloc: Global) -> Result<Value, NoMemory> {
@@ -326,7 +326,7 @@ impl Wire for InlayHintLabelPartTooltip {
         if let Some(string) = attempt(alloc, value)? {
             return Ok(InlayHintLabelPartTooltip::String(string));
         }
-        Ok(InlayHintLabelPartTooltip::MarkupContent(MarkupContent::from_value(alloc, value)?))
+        Ok(InlayHintLabelPartTooltip::MarkupContent(form(alloc, value)?))
     }
 
     fn to_value(&self, alloc: Global) -> Result<Value, NoMemory> {

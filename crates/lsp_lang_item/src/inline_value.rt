@@ -4,7 +4,7 @@ ghost use Rattle.lsp_lang_item.specs.InlineValue.{inline_value_params_row, inlin
 ghost use Rattle.lsp_lang_item.specs.declared.inline_value.InlineValue.TheVariants as inline_value;
 
 use lsp_base::{Range, TextDocumentIdentifier, WorkDoneProgressParams};
-use lsp_shape::{Misfit, NoMemory, Reader, Wire, Writer, attempt};
+use lsp_shape::{Misfit, NoMemory, Reader, Wire, Writer, attempt, flat, form};
 use serde_json::Value;
 use std::alloc::Global;
 
@@ -31,7 +31,7 @@ impl Wire for InlineValueParams {
     fn from_value(alloc: Global, value: &Value) -> Result<InlineValueParams, Misfit> {
         let object = Reader::new(alloc, value)?;
         Ok(InlineValueParams {
-            work_done_progress_params: WorkDoneProgressParams::from_value(alloc, value)?,
+            work_done_progress_params: flat(alloc, value)?,
             text_document: object.field("textDocument")?,
             range: object.field("range")?,
             context: object.field("context")?,
@@ -106,9 +106,7 @@ impl Wire for InlineValue {
         if let Some(lookup) = attempt(alloc, value)? {
             return Ok(InlineValue::VariableLookup(lookup));
         }
-        Ok(InlineValue::EvaluatableExpression(InlineValueEvaluatableExpression::from_value(
-            alloc, value,
-        )?))
+        Ok(InlineValue::EvaluatableExpression(form(alloc, value)?))
     }
 
     fn to_value(&self, alloc: Global) -> Result<Value, NoMemory> {

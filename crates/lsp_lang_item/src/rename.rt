@@ -2,7 +2,7 @@
 ghost use Rattle.lsp_lang_item.specs.Rename.{rename_params_row, prepare_rename_response_range_with_placeholder_row, prepare_rename_response_default_behavior_row, prepare_rename_response_row};
 
 use lsp_base::{Range, TextDocumentPositionParams, WorkDoneProgressParams};
-use lsp_shape::{Misfit, NoMemory, Reader, Wire, Writer, attempt};
+use lsp_shape::{Misfit, NoMemory, Reader, Wire, Writer, attempt, flat, form};
 use serde_json::Value;
 use std::alloc::Global;
 
@@ -28,9 +28,9 @@ impl Wire for RenameParams {
     fn from_value(alloc: Global, value: &Value) -> Result<RenameParams, Misfit> {
         let object = Reader::new(alloc, value)?;
         Ok(RenameParams {
-            text_document_position: TextDocumentPositionParams::from_value(alloc, value)?,
+            text_document_position: flat(alloc, value)?,
             new_name: object.field("newName")?,
-            work_done_progress_params: WorkDoneProgressParams::from_value(alloc, value)?,
+            work_done_progress_params: flat(alloc, value)?,
         })
     }
 
@@ -142,7 +142,7 @@ impl Wire for PrepareRenameResponse {
                 placeholder: x.placeholder,
             });
         }
-        let x = PrepareRenameResponseDefaultBehavior::from_value(alloc, value)?;
+        let x = form::<PrepareRenameResponseDefaultBehavior>(alloc, value)?;
         Ok(PrepareRenameResponse::DefaultBehavior {
             default_behavior: x.default_behavior,
         })

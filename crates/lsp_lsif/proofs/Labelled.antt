@@ -1,10 +1,12 @@
 -- What a vertex or an edge is read as, by its label.
-use Rattle.std.proofs.Common.{◌≡◌, ◌∙◌, ℕ, List, Option, Some, None, option_map, option_and_then, ap}
+use Rattle.std.proofs.Common.{◌≡◌, ◌∙◌, ℕ, List, true, Option, Some, None, option_map, option_and_then, refl, ap}
 use Rattle.std.specs.Prelude.{codes}
 use Rattle.serde_json.specs.Data.{Data}
 use Rattle.serde_json.specs.Find.{get, as_str}
 use Rattle.lsp_shape.specs.Plain.{choice}
 use Rattle.lsp_shape.specs.Read.{read}
+use Rattle.lsp_shape.specs.Why.{suits}
+use Rattle.lsp_shape.specs.declared.why.Wanted.TheVariants as wants
 use Rattle.lsp_lsif.specs.Edge.{edge_row}
 use Rattle.lsp_lsif.specs.Vertex.{vertex_row, vertex_shape}
 use Rattle.lsp_lsif.specs.Labels.{vertex_label_text, IsVertexLabel, read_vertex_as, edge_label_text, IsEdgeLabel, read_edge_as}
@@ -78,3 +80,13 @@ pub edge-told : (text : List ℕ) (d : Data) (found : Option EdgeLabel) → told
 unfolding edge_row
 edge-told text d None is other = other_unfit (codes "label") text (variants_of edge_row.shape) d is other
 edge-told text d (Some l) is named = edge-of_label l d (is ∙ ap Some named)
+
+-- each is one of several forms
+
+pub vertex-is_form : suits vertex_row.shape wants.Form ≡ true
+unfolding vertex_row vertex_shape
+vertex-is_form = refl
+
+pub edge-is_form : suits edge_row.shape wants.Form ≡ true
+unfolding edge_row
+edge-is_form = refl

@@ -7,7 +7,7 @@ ghost use Rattle.lsp_lsif.specs.Labels.{single_place};
 use crate::entry::Id;
 use crate::labels::{EdgeLabel, SingleLabel};
 use lsp_base::Location;
-use lsp_shape::{Misfit, NoMemory, Reader, Wire, Writer, attempt, put_tag};
+use lsp_shape::{Misfit, NoMemory, Reader, Wanted, Wire, Writer, attempt, flat, form, put_tag};
 use serde_json::Value;
 use std::alloc::Global;
 
@@ -60,12 +60,12 @@ impl Wire for Edge {
 
     fn from_value(alloc: Global, value: &Value) -> Result<Edge, Misfit> {
         let Some(label) = EdgeLabel::of(value) else {
-            return Err(Misfit::Unfit);
+            return Err(Misfit::wanted(Wanted::Form));
         };
         match label {
-            EdgeLabel::Contains => Ok(Edge::Contains(EdgeDataMultiIn::from_value(alloc, value)?)),
-            EdgeLabel::Item => Ok(Edge::Item(Item::from_value(alloc, value)?)),
-            EdgeLabel::Single(label) => Ok(single(label, EdgeData::from_value(alloc, value)?)),
+            EdgeLabel::Contains => Ok(Edge::Contains(form(alloc, value)?)),
+            EdgeLabel::Item => Ok(Edge::Item(form(alloc, value)?)),
+            EdgeLabel::Single(label) => Ok(single(label, form(alloc, value)?)),
         }
     }
 
@@ -252,7 +252,7 @@ impl Wire for Item {
         Ok(Item {
             document: object.field("document")?,
             property: object.optional("property")?,
-            edge_data: EdgeDataMultiIn::from_value(alloc, value)?,
+            edge_data: flat(alloc, value)?,
         })
     }
 
@@ -293,7 +293,7 @@ impl Wire for ItemKind {
             Some("references") => Ok(ItemKind::References),
             Some("referenceResults") => Ok(ItemKind::ReferenceResults),
             Some("implementationResults") => Ok(ItemKind::ImplementationResults),
-            _ => Err(Misfit::Unfit),
+            _ => Err(Misfit::wanted(Wanted::Name)),
         }
     }
 
@@ -329,7 +329,7 @@ impl Wire for DefinitionResultType {
         if let Some(scalar) = attempt(alloc, value)? {
             return Ok(DefinitionResultType::Scalar(scalar));
         }
-        Ok(DefinitionResultType::Array(LocationOrRangeId::from_value(alloc, value)?))
+        Ok(DefinitionResultType::Array(form(alloc, value)?))
     }
 
     fn to_value(&self, alloc: Global) -> Result<Value, NoMemory> {
@@ -359,7 +359,7 @@ impl Wire for LocationOrRangeId {
         if let Some(location) = attempt(alloc, value)? {
             return Ok(LocationOrRangeId::Location(location));
         }
-        Ok(LocationOrRangeId::RangeId(Id::from_value(alloc, value)?))
+        Ok(LocationOrRangeId::RangeId(form(alloc, value)?))
     }
 
     fn to_value(&self, alloc: Global) -> Result<Value, NoMemory> {

@@ -8,7 +8,9 @@ ghost use Rattle.lsp_lsif.specs.Entry.{entry_row, element_row};
 use crate::edge::Edge;
 use crate::vertex::Vertex;
 use lsp_base::NumberOrString;
-use lsp_shape::{Misfit, NoMemory, Reader, TextMisfit, Wire, Writer, put_tag, read_text, tag};
+use lsp_shape::{
+    Misfit, NoMemory, Reader, TextMisfit, Wanted, Wire, Writer, flat, form, put_tag, read_text, tag,
+};
 use serde_json::Value;
 use std::alloc::Global;
 
@@ -36,7 +38,7 @@ impl Wire for Entry {
         let object = Reader::new(alloc, value)?;
         Ok(Entry {
             id: object.field("id")?,
-            payload: Element::from_value(alloc, value)?,
+            payload: flat(alloc, value)?,
         })
     }
 
@@ -81,9 +83,9 @@ impl Wire for Element {
 
     fn from_value(alloc: Global, value: &Value) -> Result<Element, Misfit> {
         match tag(value, "type") {
-            Some("vertex") => Vertex::from_value(alloc, value).map(Element::Vertex),
-            Some("edge") => Edge::from_value(alloc, value).map(Element::Edge),
-            _ => Err(Misfit::Unfit),
+            Some("vertex") => form(alloc, value).map(Element::Vertex),
+            Some("edge") => form(alloc, value).map(Element::Edge),
+            _ => Err(Misfit::wanted(Wanted::Form)),
         }
     }
 

@@ -1,17 +1,21 @@
 // The symbols of a document by the ids of their ranges, which hold themselves.
-ghost use Rattle.std.specs.Prelude.{◌≡◌, true, codes, map, IfOk, IsErrOf, OnOk, Some, None};
+ghost use Rattle.std.specs.Prelude.{◌≡◌, true, codes, map, IfOk, OnOk, Some, None};
+ghost use Rattle.serde_json.specs.Data.{array, object as object_of};
 ghost use Rattle.serde_json.specs.Find.{get_member};
 ghost use Rattle.serde_json.specs.View.{view, items_view, members_view};
 ghost use Rattle.lsp_shape.specs.Plain.{parts_of};
 ghost use Rattle.lsp_shape.specs.Read.{read, read_items, read_member};
-ghost use Rattle.lsp_shape.specs.Shape.{list, unless_empty};
+ghost use Rattle.lsp_shape.specs.Shape.{Shape, list, or_empty, unless_empty};
 ghost use Rattle.lsp_shape.specs.Shown.{show_list};
 ghost use Rattle.lsp_shape.specs.Values.{is_of};
+ghost use Rattle.lsp_shape.specs.Why.{Refuses, IfUnfit, fields_of, named_field};
 ghost use Rattle.lsp_shape.specs.Write.{write, write_member};
 ghost use Rattle.lsp_lsif.specs.Symbols.{range_based_document_symbol_shape, range_based_document_symbol_level, show_range_based_document_symbol};
 
 use crate::entry::Id;
-use lsp_shape::{Misfit, NoMemory, Wire, field, find, put, put_value};
+use lsp_shape::{
+    Misfit, NoMemory, Wanted, Wire, field, find, put, put_value, told_item, told_member,
+};
 use serde_json::{Map, Value};
 use std::alloc::Global;
 
@@ -42,17 +46,33 @@ impl Wire for RangeBasedDocumentSymbol {
 
 // By the row of one level.
 #[cycle(reading)]
-#[tactic(auto, unfolding(crate::specs::Symbols::range_based_document_symbol_level, crate::specs::Symbols::show_range_based_document_symbol))]
 fn read_symbol(alloc: Global, value: &Value) -> Result<RangeBasedDocumentSymbol, Misfit>
     ensures read { IfOk result
         (λ x. read range_based_document_symbol_level.shape (view value.now)
         ≡ Some (show_range_based_document_symbol x)) }
-    ensures unfit { IsErrOf result Misfit.Unfit
-        → read range_based_document_symbol_level.shape (view value.now) ≡ None }
+    ensures unfit { IfUnfit result
+        (λ why. Refuses range_based_document_symbol_level.shape (view value.now) why) }
 {
-    let Value::Object(object) = value else {
-        return Err(Misfit::Unfit);
-    };
+    match value.as_object() {
+        Some(object) => read_members(alloc, object),
+        None => Err(Misfit::wanted(Wanted::Object)),
+    }
+}
+
+#[cycle(reading)]
+#[tactic(auto, unfolding(crate::specs::Symbols::range_based_document_symbol_level, crate::specs::Symbols::show_range_based_document_symbol))]
+fn read_members(
+    alloc: Global,
+    object: &Map<String, Value>,
+) -> Result<RangeBasedDocumentSymbol, Misfit>
+    ensures read { IfOk result
+        (λ x. read range_based_document_symbol_level.shape
+        (object_of (members_view object.now.entries))
+        ≡ Some (show_range_based_document_symbol x)) }
+    ensures unfit { IfUnfit result
+        (λ why. Refuses range_based_document_symbol_level.shape
+        (object_of (members_view object.now.entries)) why) }
+{
     Ok(RangeBasedDocumentSymbol {
         id: field(alloc, object, "id")?,
         children: read_children(alloc, object)?,
@@ -69,12 +89,13 @@ fn read_children(
         (λ v. read_member unless_empty (read (list range_based_document_symbol_shape))
         (get_member (codes "children") (members_view object.now.entries))
         ≡ Some (show_list show_range_based_document_symbol v)) }
-    ensures unfit { IsErrOf result Misfit.Unfit
-        → read_member unless_empty (read (list range_based_document_symbol_shape))
-        (get_member (codes "children") (members_view object.now.entries)) ≡ None }
+    ensures unfit { IfUnfit result
+        (λ why. (t : Shape) → named_field (codes "children") (fields_of t)
+        ≡ Some (or_empty, list range_based_document_symbol_shape)
+        → Refuses t (object_of (members_view object.now.entries)) why) }
 {
     match find(object, "children") {
-        Some(value) => read_list(alloc, value),
+        Some(value) => told_member(object, "children", read_list(alloc, value)),
         None => Ok(Vec::new(alloc)),
     }
 }
@@ -85,12 +106,12 @@ fn read_list(alloc: Global, value: &Value) -> Result<Vec<RangeBasedDocumentSymbo
     ensures read { IfOk result
         (λ v. read (list range_based_document_symbol_shape) (view value.now)
         ≡ Some (show_list show_range_based_document_symbol v)) }
-    ensures unfit { IsErrOf result Misfit.Unfit
-        → read (list range_based_document_symbol_shape) (view value.now) ≡ None }
+    ensures unfit { IfUnfit result
+        (λ why. Refuses (list range_based_document_symbol_shape) (view value.now) why) }
 {
-    match value {
-        Value::Array(items) => read_all(alloc, items),
-        _ => Err(Misfit::Unfit),
+    match value.as_array() {
+        Some(items) => read_all(alloc, items),
+        None => Err(Misfit::wanted(Wanted::List)),
     }
 }
 
@@ -100,12 +121,13 @@ fn read_all(alloc: Global, items: &Vec<Value>) -> Result<Vec<RangeBasedDocumentS
     ensures read { IfOk result
         (λ v. read_items (read range_based_document_symbol_shape) (items_view items.now.items)
         ≡ Some (parts_of (map show_range_based_document_symbol v.items))) }
-    ensures unfit { IsErrOf result Misfit.Unfit
-        → read_items (read range_based_document_symbol_shape) (items_view items.now.items) ≡ None }
+    ensures unfit { IfUnfit result
+        (λ why. Refuses (list range_based_document_symbol_shape)
+        (array (items_view items.now.items)) why) }
 {
     let mut all = Vec::with_capacity(alloc, items.len())?;
     for item in items {
-        all.push(read_symbol(alloc, item)?)?;
+        all.push(told_item(all.len(), read_symbol(alloc, item))?)?;
     }
     Ok(all)
 }

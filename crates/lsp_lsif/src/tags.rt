@@ -3,7 +3,7 @@ ghost use Rattle.lsp_lsif.specs.Tags.{range_tag_row, definition_tag_row, declara
 
 use lsp_base::Range;
 use lsp_kinds::SymbolKind;
-use lsp_shape::{Misfit, NoMemory, Reader, Wire, Writer, put_tag, tag};
+use lsp_shape::{Misfit, NoMemory, Reader, Wanted, Wire, Writer, form, put_tag, tag};
 use serde_json::Value;
 use std::alloc::Global;
 
@@ -29,13 +29,11 @@ impl Wire for RangeTag {
 
     fn from_value(alloc: Global, value: &Value) -> Result<RangeTag, Misfit> {
         match tag(value, "type") {
-            Some("definition") => DefinitionTag::from_value(alloc, value).map(RangeTag::Definition),
-            Some("declaration") => DeclarationTag::from_value(alloc, value).map(
-                RangeTag::Declaration,
-            ),
-            Some("reference") => ReferenceTag::from_value(alloc, value).map(RangeTag::Reference),
-            Some("unknown") => UnknownTag::from_value(alloc, value).map(RangeTag::Unknown),
-            _ => Err(Misfit::Unfit),
+            Some("definition") => form(alloc, value).map(RangeTag::Definition),
+            Some("declaration") => form(alloc, value).map(RangeTag::Declaration),
+            Some("reference") => form(alloc, value).map(RangeTag::Reference),
+            Some("unknown") => form(alloc, value).map(RangeTag::Unknown),
+            _ => Err(Misfit::wanted(Wanted::Form)),
         }
     }
 

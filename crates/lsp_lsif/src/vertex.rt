@@ -1,12 +1,14 @@
 // Vertices.
-ghost use Rattle.std.specs.Prelude.{◌≡◌, IfOk, OnOk, IsErrOf, Some, None, true, codes};
-ghost use Rattle.serde_json.specs.Data.{object as object_of, put as with_member, string, no_members};
+ghost use Rattle.std.specs.Prelude.{◌≡◌, IfOk, OnOk, Some, None, option_map, true, codes};
+ghost use Rattle.serde_json.specs.Data.{Data, object as object_of, put as with_member, string, no_members};
 ghost use Rattle.serde_json.specs.View.{view};
-ghost use Rattle.lsp_shape.specs.Plain.{parts, part, no_parts};
+ghost use Rattle.lsp_shape.specs.Plain.{choice, parts, part, no_parts};
 ghost use Rattle.lsp_shape.specs.Read.{read};
+ghost use Rattle.lsp_shape.specs.Shape.{Shape};
+ghost use Rattle.lsp_shape.specs.Why.{IfUnfit, Lacks, Refuses};
 ghost use Rattle.lsp_shape.specs.Write.{write};
 ghost use Rattle.lsp_shape.specs.Values.{is_of};
-ghost use Rattle.lsp_lsif.specs.Vertex.{vertex_row, meta_data_row, encoding_row, tool_info_row, project_row, repository_row, document_row, result_set_row, package_information_row, event_row, event_kind_row, event_scope_row, document_symbol_or_range_based_vec_row, result_alone};
+ghost use Rattle.lsp_lsif.specs.Vertex.{vertex_row, meta_data_row, encoding_row, tool_info_row, project_row, repository_row, document_row, result_set_row, package_information_row, event_row, event_kind_row, event_scope_row, document_symbol_or_range_based_vec_row, result_alone, vertex_range_row};
 
 use crate::entry::Id;
 use crate::labels::VertexLabel;
@@ -14,7 +16,9 @@ use crate::symbols::RangeBasedDocumentSymbol;
 use crate::tags::RangeTag;
 use lsp_base::{Diagnostic, Range};
 use lsp_lang_goto::{DocumentLink, DocumentSymbol, Hover};
-use lsp_shape::{Misfit, NoMemory, Reader, Wire, Writer, attempt, put_tag};
+use lsp_shape::{
+    Misfit, NoMemory, Reader, Wanted, Wire, Writer, as_form, attempt, flat, form, put_tag,
+};
 use lsp_tokens::{FoldingRange, Moniker};
 use lsp_uri::Uri;
 use serde_json::Value;
@@ -97,25 +101,17 @@ impl Wire for Vertex {
 
     fn from_value(alloc: Global, value: &Value) -> Result<Vertex, Misfit> {
         let Some(label) = VertexLabel::of(value) else {
-            return Err(Misfit::Unfit);
+            return Err(Misfit::wanted(Wanted::Form));
         };
         match label {
-            VertexLabel::MetaData => MetaData::from_value(alloc, value).map(Vertex::MetaData),
-            VertexLabel::Project => Project::from_value(alloc, value).map(Vertex::Project),
-            VertexLabel::Document => Document::from_value(alloc, value).map(Vertex::Document),
-            VertexLabel::Range => {
-                let object = Reader::new(alloc, value)?;
-                Ok(Vertex::Range {
-                    range: Range::from_value(alloc, value)?,
-                    tag: object.optional("tag")?,
-                })
-            }
-            VertexLabel::ResultSet => ResultSet::from_value(alloc, value).map(Vertex::ResultSet),
-            VertexLabel::Moniker => Moniker::from_value(alloc, value).map(Vertex::Moniker),
-            VertexLabel::PackageInformation => PackageInformation::from_value(alloc, value).map(
-                Vertex::PackageInformation,
-            ),
-            VertexLabel::Event => Event::from_value(alloc, value).map(Vertex::Event),
+            VertexLabel::MetaData => form(alloc, value).map(Vertex::MetaData),
+            VertexLabel::Project => form(alloc, value).map(Vertex::Project),
+            VertexLabel::Document => form(alloc, value).map(Vertex::Document),
+            VertexLabel::Range => as_form(range_of(alloc, value)),
+            VertexLabel::ResultSet => form(alloc, value).map(Vertex::ResultSet),
+            VertexLabel::Moniker => form(alloc, value).map(Vertex::Moniker),
+            VertexLabel::PackageInformation => form(alloc, value).map(Vertex::PackageInformation),
+            VertexLabel::Event => form(alloc, value).map(Vertex::Event),
             VertexLabel::DefinitionResult => Ok(Vertex::DefinitionResult),
             VertexLabel::DeclarationResult => Ok(Vertex::DeclarationResult),
             VertexLabel::TypeDefinitionResult => Ok(Vertex::TypeDefinitionResult),
@@ -198,11 +194,35 @@ impl Vertex {
 fn result_of<T: Wire>(alloc: Global, value: &Value) -> Result<T, Misfit>
     ensures read { IfOk result (λ x. read (result_alone T.shape) (view value.now)
         ≡ Some (parts (part (T.shown x) no_parts))) }
-    ensures unfit { IsErrOf result Misfit.Unfit
-        → read (result_alone T.shape) (view value.now) ≡ None }
+    ensures unfit { IfUnfit result (λ _. read (result_alone T.shape) (view value.now) ≡ None) }
+    ensures refuses { IfUnfit result
+        (λ why. (s : Shape) (d : Data) → Lacks s d Wanted.Form → Refuses s d why) }
+{
+    as_form(result_in(alloc, value))
+}
+
+/// The same, told by the place where something else is wanted.
+fn result_in<T: Wire>(alloc: Global, value: &Value) -> Result<T, Misfit>
+    ensures read { IfOk result (λ x. read (result_alone T.shape) (view value.now)
+        ≡ Some (parts (part (T.shown x) no_parts))) }
+    ensures unfit { IfUnfit result (λ why. Refuses (result_alone T.shape) (view value.now) why) }
 {
     let object = Reader::new(alloc, value)?;
     object.field("result")
+}
+
+/// The members of the vertex `range`.
+#[tactic(auto, unfolding(crate::specs::Vertex::vertex_row))]
+fn range_of(alloc: Global, value: &Value) -> Result<Vertex, Misfit>
+    ensures read { IfOk result (λ x. option_map (choice 3)
+        (read vertex_range_row.shape (view value.now)) ≡ Some (vertex_row.shown x)) }
+    ensures unfit { IfUnfit result (λ why. Refuses vertex_range_row.shape (view value.now) why) }
+{
+    let object = Reader::new(alloc, value)?;
+    Ok(Vertex::Range {
+        range: flat(alloc, value)?,
+        tag: object.optional("tag")?,
+    })
 }
 
 /// What is written for a vertex that has the member `result` alone.
@@ -284,7 +304,7 @@ impl Wire for Encoding {
     fn from_value(_alloc: Global, value: &Value) -> Result<Encoding, Misfit> {
         match value.as_str() {
             Some("utf-16") => Ok(Encoding::Utf16),
-            _ => Err(Misfit::Unfit),
+            _ => Err(Misfit::wanted(Wanted::Name)),
         }
     }
 
@@ -566,7 +586,7 @@ impl Wire for EventKind {
         match value.as_str() {
             Some("begin") => Ok(EventKind::Begin),
             Some("end") => Ok(EventKind::End),
-            _ => Err(Misfit::Unfit),
+            _ => Err(Misfit::wanted(Wanted::Name)),
         }
     }
 
@@ -598,7 +618,7 @@ impl Wire for EventScope {
         match value.as_str() {
             Some("document") => Ok(EventScope::Document),
             Some("project") => Ok(EventScope::Project),
-            _ => Err(Misfit::Unfit),
+            _ => Err(Misfit::wanted(Wanted::Name)),
         }
     }
 
@@ -631,7 +651,7 @@ impl Wire for DocumentSymbolOrRangeBasedVec {
         if let Some(symbol) = attempt(alloc, value)? {
             return Ok(DocumentSymbolOrRangeBasedVec::DocumentSymbol(symbol));
         }
-        Ok(DocumentSymbolOrRangeBasedVec::RangeBased(Vec::from_value(alloc, value)?))
+        Ok(DocumentSymbolOrRangeBasedVec::RangeBased(form(alloc, value)?))
     }
 
     fn to_value(&self, alloc: Global) -> Result<Value, NoMemory> {

@@ -1,7 +1,7 @@
 // What is folded, of section "Folding Range Request".
 ghost use Rattle.lsp_names.specs.Folding.{folding_range_kind_row};
 
-use lsp_shape::{Misfit, Wire};
+use lsp_shape::{Misfit, Wanted, Wire};
 use no_memory::NoMemory;
 use serde_json::Value;
 use std::alloc::Global;
@@ -29,7 +29,7 @@ impl Wire for FoldingRangeKind {
             Some("comment") => Ok(FoldingRangeKind::Comment),
             Some("imports") => Ok(FoldingRangeKind::Imports),
             Some("region") => Ok(FoldingRangeKind::Region),
-            _ => Err(Misfit::Unfit),
+            _ => Err(Misfit::wanted(Wanted::Name)),
         }
     }
 

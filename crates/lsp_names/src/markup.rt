@@ -2,7 +2,7 @@
 ghost use Rattle.std.specs.Prelude.{◌≡◌};
 ghost use Rattle.lsp_names.specs.Markup.{markup_kind_row, markup_content_row, language_string_row, marked_string_row, documentation_row};
 
-use lsp_shape::{Misfit, Reader, Wire, Writer, attempt};
+use lsp_shape::{Misfit, Reader, Wanted, Wire, Writer, attempt, form};
 use no_memory::NoMemory;
 use serde_json::Value;
 use std::alloc::Global;
@@ -26,7 +26,7 @@ impl Wire for MarkupKind {
         match value.as_str() {
             Some("plaintext") => Ok(MarkupKind::PlainText),
             Some("markdown") => Ok(MarkupKind::Markdown),
-            _ => Err(Misfit::Unfit),
+            _ => Err(Misfit::wanted(Wanted::Name)),
         }
     }
 
@@ -141,7 +141,7 @@ impl Wire for MarkedString {
         if let Some(markdown) = attempt(alloc, value)? {
             return Ok(MarkedString::String(markdown));
         }
-        Ok(MarkedString::LanguageString(LanguageString::from_value(alloc, value)?))
+        Ok(MarkedString::LanguageString(form(alloc, value)?))
     }
 
     fn to_value(&self, alloc: Global) -> Result<Value, NoMemory> {
@@ -172,7 +172,7 @@ impl Wire for Documentation {
         if let Some(text) = attempt(alloc, value)? {
             return Ok(Documentation::String(text));
         }
-        Ok(Documentation::MarkupContent(MarkupContent::from_value(alloc, value)?))
+        Ok(Documentation::MarkupContent(form(alloc, value)?))
     }
 
     fn to_value(&self, alloc: Global) -> Result<Value, NoMemory> {

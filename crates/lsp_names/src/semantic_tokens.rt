@@ -4,7 +4,7 @@ ghost use Rattle.lsp_names.specs.KindText.{text_kind_row};
 ghost use Rattle.lsp_names.specs.SemanticTokens.{semantic_tokens_full_options_delta_row, semantic_tokens_full_options_row};
 
 use crate::kind_text::KindText;
-use lsp_shape::{Misfit, Reader, Wire, Writer, attempt};
+use lsp_shape::{Misfit, Reader, Wire, Writer, attempt, form};
 use no_memory::NoMemory;
 use serde_json::Value;
 use std::alloc::Global;
@@ -480,7 +480,7 @@ impl Wire for SemanticTokensFullOptions {
         if let Some(whole) = attempt(alloc, value)? {
             return Ok(SemanticTokensFullOptions::Bool(whole));
         }
-        let x = SemanticTokensFullOptionsDelta::from_value(alloc, value)?;
+        let x = form::<SemanticTokensFullOptionsDelta>(alloc, value)?;
         Ok(SemanticTokensFullOptions::Delta { delta: x.delta })
     }
 

@@ -3,7 +3,7 @@ ghost use Rattle.std.specs.Prelude.{◌≡◌};
 ghost use Rattle.lsp_names.specs.Trace.{trace_value_row};
 ghost use Rattle.lsp_names.specs.declared.trace.TraceValue.TheVariants as values;
 
-use lsp_shape::{Misfit, Wire};
+use lsp_shape::{Misfit, Wanted, Wire};
 use no_memory::NoMemory;
 use serde_json::Value;
 use std::alloc::Global;
@@ -39,7 +39,7 @@ impl Wire for TraceValue {
             Some("off") => Ok(TraceValue::Off),
             Some("messages") => Ok(TraceValue::Messages),
             Some("verbose") => Ok(TraceValue::Verbose),
-            _ => Err(Misfit::Unfit),
+            _ => Err(Misfit::wanted(Wanted::Name)),
         }
     }
 

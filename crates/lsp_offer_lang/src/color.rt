@@ -5,7 +5,7 @@ ghost use Rattle.lsp_offer_lang.specs.declared.color.ColorProviderCapability.The
 ghost use Rattle.lsp_offer_lang.specs.declared.color.FoldingRangeProviderCapability.TheVariants as folding_range_provider_capability;
 
 use lsp_base::DocumentSelector;
-use lsp_shape::{Misfit, NoMemory, Reader, Wire, Writer, attempt};
+use lsp_shape::{Misfit, NoMemory, Reader, Wire, Writer, attempt, form};
 use serde_json::Value;
 use std::alloc::Global;
 
@@ -36,9 +36,7 @@ impl Wire for ColorProviderCapability {
         if let Some(provider) = attempt(alloc, value)? {
             return Ok(ColorProviderCapability::ColorProvider(provider));
         }
-        Ok(ColorProviderCapability::Options(StaticTextDocumentColorProviderOptions::from_value(
-            alloc, value,
-        )?))
+        Ok(ColorProviderCapability::Options(form(alloc, value)?))
     }
 
     fn to_value(&self, alloc: Global) -> Result<Value, NoMemory> {
@@ -160,9 +158,7 @@ impl Wire for FoldingRangeProviderCapability {
         if let Some(provider) = attempt(alloc, value)? {
             return Ok(FoldingRangeProviderCapability::FoldingProvider(provider));
         }
-        Ok(FoldingRangeProviderCapability::Options(
-            StaticTextDocumentColorProviderOptions::from_value(alloc, value)?,
-        ))
+        Ok(FoldingRangeProviderCapability::Options(form(alloc, value)?))
     }
 
     fn to_value(&self, alloc: Global) -> Result<Value, NoMemory> {

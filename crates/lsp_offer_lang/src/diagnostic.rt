@@ -3,7 +3,7 @@ ghost use Rattle.lsp_offer_lang.specs.Diagnostic.{diagnostic_server_capabilities
 
 use lsp_base::{StaticRegistrationOptions, TextDocumentRegistrationOptions};
 use lsp_names::WorkDoneProgressOptions;
-use lsp_shape::{Misfit, NoMemory, Reader, Wire, Writer, attempt};
+use lsp_shape::{Misfit, NoMemory, Reader, Wire, Writer, attempt, flat, form};
 use serde_json::Value;
 use std::alloc::Global;
 
@@ -29,9 +29,7 @@ impl Wire for DiagnosticServerCapabilities {
         if let Some(options) = attempt(alloc, value)? {
             return Ok(DiagnosticServerCapabilities::Options(options));
         }
-        Ok(DiagnosticServerCapabilities::RegistrationOptions(
-            DiagnosticRegistrationOptions::from_value(alloc, value)?,
-        ))
+        Ok(DiagnosticServerCapabilities::RegistrationOptions(form(alloc, value)?))
     }
 
     fn to_value(&self, alloc: Global) -> Result<Value, NoMemory> {
@@ -69,7 +67,7 @@ impl Wire for DiagnosticOptions {
             identifier: object.optional("identifier")?,
             inter_file_dependencies: object.field("interFileDependencies")?,
             workspace_diagnostics: object.field("workspaceDiagnostics")?,
-            work_done_progress_options: WorkDoneProgressOptions::from_value(alloc, value)?,
+            work_done_progress_options: flat(alloc, value)?,
         })
     }
 
@@ -104,11 +102,9 @@ impl Wire for DiagnosticRegistrationOptions {
 
     fn from_value(alloc: Global, value: &Value) -> Result<DiagnosticRegistrationOptions, Misfit> {
         Ok(DiagnosticRegistrationOptions {
-            text_document_registration_options: TextDocumentRegistrationOptions::from_value(
-                alloc, value,
-            )?,
-            diagnostic_options: DiagnosticOptions::from_value(alloc, value)?,
-            static_registration_options: StaticRegistrationOptions::from_value(alloc, value)?,
+            text_document_registration_options: flat(alloc, value)?,
+            diagnostic_options: flat(alloc, value)?,
+            static_registration_options: flat(alloc, value)?,
         })
     }
 

@@ -5,7 +5,7 @@ ghost use Rattle.lsp_offer_lang.specs.declared.hierarchy.CallHierarchyServerCapa
 
 use lsp_base::{StaticRegistrationOptions, TextDocumentRegistrationOptions};
 use lsp_names::WorkDoneProgressOptions;
-use lsp_shape::{Misfit, NoMemory, Reader, Wire, Writer, attempt};
+use lsp_shape::{Misfit, NoMemory, Reader, Wire, Writer, attempt, flat, form};
 use serde_json::Value;
 use std::alloc::Global;
 
@@ -30,7 +30,7 @@ impl Wire for CallHierarchyServerCapability {
         if let Some(simple) = attempt(alloc, value)? {
             return Ok(CallHierarchyServerCapability::Simple(simple));
         }
-        Ok(CallHierarchyServerCapability::Options(CallHierarchyOptions::from_value(alloc, value)?))
+        Ok(CallHierarchyServerCapability::Options(form(alloc, value)?))
     }
 
     fn to_value(&self, alloc: Global) -> Result<Value, NoMemory> {
@@ -73,7 +73,7 @@ impl Wire for CallHierarchyOptions {
 
     fn from_value(alloc: Global, value: &Value) -> Result<CallHierarchyOptions, Misfit> {
         Ok(CallHierarchyOptions {
-            work_done_progress_options: WorkDoneProgressOptions::from_value(alloc, value)?,
+            work_done_progress_options: flat(alloc, value)?,
         })
     }
 
@@ -100,7 +100,7 @@ impl Wire for TypeHierarchyOptions {
 
     fn from_value(alloc: Global, value: &Value) -> Result<TypeHierarchyOptions, Misfit> {
         Ok(TypeHierarchyOptions {
-            work_done_progress_options: WorkDoneProgressOptions::from_value(alloc, value)?,
+            work_done_progress_options: flat(alloc, value)?,
         })
     }
 
@@ -136,11 +136,9 @@ impl Wire for TypeHierarchyRegistrationOptions {
         value: &Value,
     ) -> Result<TypeHierarchyRegistrationOptions, Misfit> {
         Ok(TypeHierarchyRegistrationOptions {
-            text_document_registration_options: TextDocumentRegistrationOptions::from_value(
-                alloc, value,
-            )?,
-            type_hierarchy_options: TypeHierarchyOptions::from_value(alloc, value)?,
-            static_registration_options: StaticRegistrationOptions::from_value(alloc, value)?,
+            text_document_registration_options: flat(alloc, value)?,
+            type_hierarchy_options: flat(alloc, value)?,
+            static_registration_options: flat(alloc, value)?,
         })
     }
 

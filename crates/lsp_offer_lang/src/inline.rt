@@ -3,7 +3,7 @@ ghost use Rattle.lsp_offer_lang.specs.Inline.{inlay_hint_server_capabilities_row
 
 use lsp_base::{StaticRegistrationOptions, TextDocumentRegistrationOptions};
 use lsp_names::WorkDoneProgressOptions;
-use lsp_shape::{Misfit, NoMemory, Reader, Wire, Writer, attempt};
+use lsp_shape::{Misfit, NoMemory, Reader, Wire, Writer, attempt, flat, form};
 use serde_json::Value;
 use std::alloc::Global;
 
@@ -28,9 +28,7 @@ impl Wire for InlayHintServerCapabilities {
         if let Some(options) = attempt(alloc, value)? {
             return Ok(InlayHintServerCapabilities::Options(options));
         }
-        Ok(InlayHintServerCapabilities::RegistrationOptions(
-            InlayHintRegistrationOptions::from_value(alloc, value)?,
-        ))
+        Ok(InlayHintServerCapabilities::RegistrationOptions(form(alloc, value)?))
     }
 
     fn to_value(&self, alloc: Global) -> Result<Value, NoMemory> {
@@ -60,7 +58,7 @@ impl Wire for InlayHintOptions {
     fn from_value(alloc: Global, value: &Value) -> Result<InlayHintOptions, Misfit> {
         let object = Reader::new(alloc, value)?;
         Ok(InlayHintOptions {
-            work_done_progress_options: WorkDoneProgressOptions::from_value(alloc, value)?,
+            work_done_progress_options: flat(alloc, value)?,
             resolve_provider: object.optional("resolveProvider")?,
         })
     }
@@ -94,11 +92,9 @@ impl Wire for InlayHintRegistrationOptions {
 
     fn from_value(alloc: Global, value: &Value) -> Result<InlayHintRegistrationOptions, Misfit> {
         Ok(InlayHintRegistrationOptions {
-            inlay_hint_options: InlayHintOptions::from_value(alloc, value)?,
-            text_document_registration_options: TextDocumentRegistrationOptions::from_value(
-                alloc, value,
-            )?,
-            static_registration_options: StaticRegistrationOptions::from_value(alloc, value)?,
+            inlay_hint_options: flat(alloc, value)?,
+            text_document_registration_options: flat(alloc, value)?,
+            static_registration_options: flat(alloc, value)?,
         })
     }
 
@@ -132,9 +128,7 @@ impl Wire for InlineValueServerCapabilities {
         if let Some(options) = attempt(alloc, value)? {
             return Ok(InlineValueServerCapabilities::Options(options));
         }
-        Ok(InlineValueServerCapabilities::RegistrationOptions(
-            InlineValueRegistrationOptions::from_value(alloc, value)?,
-        ))
+        Ok(InlineValueServerCapabilities::RegistrationOptions(form(alloc, value)?))
     }
 
     fn to_value(&self, alloc: Global) -> Result<Value, NoMemory> {
@@ -160,7 +154,7 @@ impl Wire for InlineValueOptions {
 
     fn from_value(alloc: Global, value: &Value) -> Result<InlineValueOptions, Misfit> {
         Ok(InlineValueOptions {
-            work_done_progress_options: WorkDoneProgressOptions::from_value(alloc, value)?,
+            work_done_progress_options: flat(alloc, value)?,
         })
     }
 
@@ -192,11 +186,9 @@ impl Wire for InlineValueRegistrationOptions {
 
     fn from_value(alloc: Global, value: &Value) -> Result<InlineValueRegistrationOptions, Misfit> {
         Ok(InlineValueRegistrationOptions {
-            inline_value_options: InlineValueOptions::from_value(alloc, value)?,
-            text_document_registration_options: TextDocumentRegistrationOptions::from_value(
-                alloc, value,
-            )?,
-            static_registration_options: StaticRegistrationOptions::from_value(alloc, value)?,
+            inline_value_options: flat(alloc, value)?,
+            text_document_registration_options: flat(alloc, value)?,
+            static_registration_options: flat(alloc, value)?,
         })
     }
 

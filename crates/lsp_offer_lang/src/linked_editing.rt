@@ -3,7 +3,7 @@ ghost use Rattle.lsp_offer_lang.specs.LinkedEditing.{linked_editing_range_server
 
 use lsp_base::{StaticRegistrationOptions, TextDocumentRegistrationOptions};
 use lsp_names::WorkDoneProgressOptions;
-use lsp_shape::{Misfit, NoMemory, Reader, Wire, Writer, attempt};
+use lsp_shape::{Misfit, NoMemory, Reader, Wire, Writer, attempt, flat, form};
 use serde_json::Value;
 use std::alloc::Global;
 
@@ -36,9 +36,7 @@ impl Wire for LinkedEditingRangeServerCapabilities {
         if let Some(options) = attempt(alloc, value)? {
             return Ok(LinkedEditingRangeServerCapabilities::Options(options));
         }
-        Ok(LinkedEditingRangeServerCapabilities::RegistrationOptions(
-            LinkedEditingRangeRegistrationOptions::from_value(alloc, value)?,
-        ))
+        Ok(LinkedEditingRangeServerCapabilities::RegistrationOptions(form(alloc, value)?))
     }
 
     fn to_value(&self, alloc: Global) -> Result<Value, NoMemory> {
@@ -67,7 +65,7 @@ impl Wire for LinkedEditingRangeOptions {
 
     fn from_value(alloc: Global, value: &Value) -> Result<LinkedEditingRangeOptions, Misfit> {
         Ok(LinkedEditingRangeOptions {
-            work_done_progress_options: WorkDoneProgressOptions::from_value(alloc, value)?,
+            work_done_progress_options: flat(alloc, value)?,
         })
     }
 
@@ -102,11 +100,9 @@ impl Wire for LinkedEditingRangeRegistrationOptions {
         value: &Value,
     ) -> Result<LinkedEditingRangeRegistrationOptions, Misfit> {
         Ok(LinkedEditingRangeRegistrationOptions {
-            text_document_registration_options: TextDocumentRegistrationOptions::from_value(
-                alloc, value,
-            )?,
-            linked_editing_range_options: LinkedEditingRangeOptions::from_value(alloc, value)?,
-            static_registration_options: StaticRegistrationOptions::from_value(alloc, value)?,
+            text_document_registration_options: flat(alloc, value)?,
+            linked_editing_range_options: flat(alloc, value)?,
+            static_registration_options: flat(alloc, value)?,
         })
     }
 

@@ -3,7 +3,7 @@ ghost use Rattle.lsp_offer_lang.specs.Moniker.{moniker_server_capabilities_row, 
 
 use lsp_base::TextDocumentRegistrationOptions;
 use lsp_names::WorkDoneProgressOptions;
-use lsp_shape::{Misfit, NoMemory, Reader, Wire, Writer, attempt};
+use lsp_shape::{Misfit, NoMemory, Reader, Wire, Writer, attempt, flat, form};
 use serde_json::Value;
 use std::alloc::Global;
 
@@ -28,9 +28,7 @@ impl Wire for MonikerServerCapabilities {
         if let Some(options) = attempt(alloc, value)? {
             return Ok(MonikerServerCapabilities::Options(options));
         }
-        Ok(MonikerServerCapabilities::RegistrationOptions(MonikerRegistrationOptions::from_value(
-            alloc, value,
-        )?))
+        Ok(MonikerServerCapabilities::RegistrationOptions(form(alloc, value)?))
     }
 
     fn to_value(&self, alloc: Global) -> Result<Value, NoMemory> {
@@ -56,7 +54,7 @@ impl Wire for MonikerOptions {
 
     fn from_value(alloc: Global, value: &Value) -> Result<MonikerOptions, Misfit> {
         Ok(MonikerOptions {
-            work_done_progress_options: WorkDoneProgressOptions::from_value(alloc, value)?,
+            work_done_progress_options: flat(alloc, value)?,
         })
     }
 
@@ -85,10 +83,8 @@ impl Wire for MonikerRegistrationOptions {
 
     fn from_value(alloc: Global, value: &Value) -> Result<MonikerRegistrationOptions, Misfit> {
         Ok(MonikerRegistrationOptions {
-            text_document_registration_options: TextDocumentRegistrationOptions::from_value(
-                alloc, value,
-            )?,
-            moniker_options: MonikerOptions::from_value(alloc, value)?,
+            text_document_registration_options: flat(alloc, value)?,
+            moniker_options: flat(alloc, value)?,
         })
     }
 

@@ -7,7 +7,7 @@ use lsp_base::{StaticRegistrationOptions, TextDocumentRegistrationOptions};
 use lsp_names::{
     SemanticTokenModifier, SemanticTokenType, SemanticTokensFullOptions, WorkDoneProgressOptions,
 };
-use lsp_shape::{Misfit, NoMemory, Reader, Wire, Writer, attempt};
+use lsp_shape::{Misfit, NoMemory, Reader, Wire, Writer, attempt, flat, form};
 use serde_json::Value;
 use std::alloc::Global;
 
@@ -35,11 +35,7 @@ impl Wire for SemanticTokensServerCapabilities {
         if let Some(options) = attempt(alloc, value)? {
             return Ok(SemanticTokensServerCapabilities::SemanticTokensOptions(options));
         }
-        Ok(
-            SemanticTokensServerCapabilities::SemanticTokensRegistrationOptions(
-                SemanticTokensRegistrationOptions::from_value(alloc, value)?,
-            ),
-        )
+        Ok(SemanticTokensServerCapabilities::SemanticTokensRegistrationOptions(form(alloc, value)?))
     }
 
     fn to_value(&self, alloc: Global) -> Result<Value, NoMemory> {
@@ -113,7 +109,7 @@ impl Wire for SemanticTokensOptions {
     fn from_value(alloc: Global, value: &Value) -> Result<SemanticTokensOptions, Misfit> {
         let object = Reader::new(alloc, value)?;
         Ok(SemanticTokensOptions {
-            work_done_progress_options: WorkDoneProgressOptions::from_value(alloc, value)?,
+            work_done_progress_options: flat(alloc, value)?,
             legend: object.field("legend")?,
             range: object.optional("range")?,
             full: object.optional("full")?,
@@ -154,11 +150,9 @@ impl Wire for SemanticTokensRegistrationOptions {
         value: &Value,
     ) -> Result<SemanticTokensRegistrationOptions, Misfit> {
         Ok(SemanticTokensRegistrationOptions {
-            text_document_registration_options: TextDocumentRegistrationOptions::from_value(
-                alloc, value,
-            )?,
-            semantic_tokens_options: SemanticTokensOptions::from_value(alloc, value)?,
-            static_registration_options: StaticRegistrationOptions::from_value(alloc, value)?,
+            text_document_registration_options: flat(alloc, value)?,
+            semantic_tokens_options: flat(alloc, value)?,
+            static_registration_options: flat(alloc, value)?,
         })
     }
 

@@ -4,7 +4,7 @@ ghost use Rattle.lsp_offer_text.specs.CodeAction.{code_action_provider_capabilit
 ghost use Rattle.lsp_offer_text.specs.declared.code_action.CodeActionProviderCapability.TheVariants as code_action_provider_capability;
 
 use lsp_names::{CodeActionKind, WorkDoneProgressOptions};
-use lsp_shape::{Misfit, NoMemory, Reader, Wire, Writer, attempt};
+use lsp_shape::{Misfit, NoMemory, Reader, Wire, Writer, attempt, flat, form};
 use serde_json::Value;
 use std::alloc::Global;
 
@@ -29,7 +29,7 @@ impl Wire for CodeActionProviderCapability {
         if let Some(simple) = attempt(alloc, value)? {
             return Ok(CodeActionProviderCapability::Simple(simple));
         }
-        Ok(CodeActionProviderCapability::Options(CodeActionOptions::from_value(alloc, value)?))
+        Ok(CodeActionProviderCapability::Options(form(alloc, value)?))
     }
 
     fn to_value(&self, alloc: Global) -> Result<Value, NoMemory> {
@@ -81,7 +81,7 @@ impl Wire for CodeActionOptions {
         let object = Reader::new(alloc, value)?;
         Ok(CodeActionOptions {
             code_action_kinds: object.optional("codeActionKinds")?,
-            work_done_progress_options: WorkDoneProgressOptions::from_value(alloc, value)?,
+            work_done_progress_options: flat(alloc, value)?,
             resolve_provider: object.optional("resolveProvider")?,
         })
     }
@@ -146,7 +146,7 @@ impl Wire for DocumentLinkOptions {
         let object = Reader::new(alloc, value)?;
         Ok(DocumentLinkOptions {
             resolve_provider: object.optional("resolveProvider")?,
-            work_done_progress_options: WorkDoneProgressOptions::from_value(alloc, value)?,
+            work_done_progress_options: flat(alloc, value)?,
         })
     }
 

@@ -3,7 +3,7 @@ ghost use Rattle.lsp_offer_text.specs.Completion.{completion_options_row, comple
 
 use lsp_base::TextDocumentRegistrationOptions;
 use lsp_names::WorkDoneProgressOptions;
-use lsp_shape::{Misfit, NoMemory, Reader, Wire, Writer};
+use lsp_shape::{Misfit, NoMemory, Reader, Wire, Writer, flat};
 use serde_json::Value;
 use std::alloc::Global;
 
@@ -38,7 +38,7 @@ impl Wire for CompletionOptions {
             resolve_provider: object.optional("resolveProvider")?,
             trigger_characters: object.optional("triggerCharacters")?,
             all_commit_characters: object.optional("allCommitCharacters")?,
-            work_done_progress_options: WorkDoneProgressOptions::from_value(alloc, value)?,
+            work_done_progress_options: flat(alloc, value)?,
             completion_item: object.optional("completionItem")?,
         })
     }
@@ -101,10 +101,8 @@ impl Wire for CompletionRegistrationOptions {
 
     fn from_value(alloc: Global, value: &Value) -> Result<CompletionRegistrationOptions, Misfit> {
         Ok(CompletionRegistrationOptions {
-            text_document_registration_options: TextDocumentRegistrationOptions::from_value(
-                alloc, value,
-            )?,
-            completion_options: CompletionOptions::from_value(alloc, value)?,
+            text_document_registration_options: flat(alloc, value)?,
+            completion_options: flat(alloc, value)?,
         })
     }
 

@@ -4,7 +4,7 @@ ghost use Rattle.lsp_offer_text.specs.Formatting.{document_formatting_options_ro
 
 use lsp_base::DocumentSelector;
 use lsp_names::WorkDoneProgressOptions;
-use lsp_shape::{Misfit, NoMemory, Reader, Wire, Writer};
+use lsp_shape::{Misfit, NoMemory, Reader, Wire, Writer, flat};
 use serde_json::Value;
 use std::alloc::Global;
 
@@ -25,7 +25,7 @@ impl Wire for DocumentFormattingOptions {
 
     fn from_value(alloc: Global, value: &Value) -> Result<DocumentFormattingOptions, Misfit> {
         Ok(DocumentFormattingOptions {
-            work_done_progress_options: WorkDoneProgressOptions::from_value(alloc, value)?,
+            work_done_progress_options: flat(alloc, value)?,
         })
     }
 
@@ -53,7 +53,7 @@ impl Wire for DocumentRangeFormattingOptions {
 
     fn from_value(alloc: Global, value: &Value) -> Result<DocumentRangeFormattingOptions, Misfit> {
         Ok(DocumentRangeFormattingOptions {
-            work_done_progress_options: WorkDoneProgressOptions::from_value(alloc, value)?,
+            work_done_progress_options: flat(alloc, value)?,
         })
     }
 
@@ -187,7 +187,7 @@ impl Wire for RenameOptions {
         let object = Reader::new(alloc, value)?;
         Ok(RenameOptions {
             prepare_provider: object.optional("prepareProvider")?,
-            work_done_progress_options: WorkDoneProgressOptions::from_value(alloc, value)?,
+            work_done_progress_options: flat(alloc, value)?,
         })
     }
 

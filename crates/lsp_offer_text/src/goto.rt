@@ -6,7 +6,7 @@ ghost use Rattle.lsp_offer_text.specs.declared.goto.TypeDefinitionProviderCapabi
 
 use lsp_base::{DocumentSelector, StaticRegistrationOptions, TextDocumentRegistrationOptions};
 use lsp_names::WorkDoneProgressOptions;
-use lsp_shape::{Misfit, NoMemory, Reader, Wire, Writer, attempt};
+use lsp_shape::{Misfit, NoMemory, Reader, Wire, Writer, attempt, flat, form};
 use serde_json::Value;
 use std::alloc::Global;
 
@@ -70,9 +70,7 @@ impl Wire for ImplementationProviderCapability {
         if let Some(simple) = attempt(alloc, value)? {
             return Ok(ImplementationProviderCapability::Simple(simple));
         }
-        Ok(ImplementationProviderCapability::Options(
-            StaticTextDocumentRegistrationOptions::from_value(alloc, value)?,
-        ))
+        Ok(ImplementationProviderCapability::Options(form(alloc, value)?))
     }
 
     fn to_value(&self, alloc: Global) -> Result<Value, NoMemory> {
@@ -122,9 +120,7 @@ impl Wire for TypeDefinitionProviderCapability {
         if let Some(simple) = attempt(alloc, value)? {
             return Ok(TypeDefinitionProviderCapability::Simple(simple));
         }
-        Ok(TypeDefinitionProviderCapability::Options(
-            StaticTextDocumentRegistrationOptions::from_value(alloc, value)?,
-        ))
+        Ok(TypeDefinitionProviderCapability::Options(form(alloc, value)?))
     }
 
     fn to_value(&self, alloc: Global) -> Result<Value, NoMemory> {
@@ -177,7 +173,7 @@ impl Wire for DeclarationCapability {
         if let Some(options) = attempt(alloc, value)? {
             return Ok(DeclarationCapability::RegistrationOptions(options));
         }
-        Ok(DeclarationCapability::Options(DeclarationOptions::from_value(alloc, value)?))
+        Ok(DeclarationCapability::Options(form(alloc, value)?))
     }
 
     fn to_value(&self, alloc: Global) -> Result<Value, NoMemory> {
@@ -210,11 +206,9 @@ impl Wire for DeclarationRegistrationOptions {
 
     fn from_value(alloc: Global, value: &Value) -> Result<DeclarationRegistrationOptions, Misfit> {
         Ok(DeclarationRegistrationOptions {
-            declaration_options: DeclarationOptions::from_value(alloc, value)?,
-            text_document_registration_options: TextDocumentRegistrationOptions::from_value(
-                alloc, value,
-            )?,
-            static_registration_options: StaticRegistrationOptions::from_value(alloc, value)?,
+            declaration_options: flat(alloc, value)?,
+            text_document_registration_options: flat(alloc, value)?,
+            static_registration_options: flat(alloc, value)?,
         })
     }
 
@@ -244,7 +238,7 @@ impl Wire for DeclarationOptions {
 
     fn from_value(alloc: Global, value: &Value) -> Result<DeclarationOptions, Misfit> {
         Ok(DeclarationOptions {
-            work_done_progress_options: WorkDoneProgressOptions::from_value(alloc, value)?,
+            work_done_progress_options: flat(alloc, value)?,
         })
     }
 
@@ -272,7 +266,7 @@ impl Wire for DefinitionOptions {
 
     fn from_value(alloc: Global, value: &Value) -> Result<DefinitionOptions, Misfit> {
         Ok(DefinitionOptions {
-            work_done_progress_options: WorkDoneProgressOptions::from_value(alloc, value)?,
+            work_done_progress_options: flat(alloc, value)?,
         })
     }
 
@@ -300,7 +294,7 @@ impl Wire for ReferencesOptions {
 
     fn from_value(alloc: Global, value: &Value) -> Result<ReferencesOptions, Misfit> {
         Ok(ReferencesOptions {
-            work_done_progress_options: WorkDoneProgressOptions::from_value(alloc, value)?,
+            work_done_progress_options: flat(alloc, value)?,
         })
     }
 
@@ -328,7 +322,7 @@ impl Wire for DocumentHighlightOptions {
 
     fn from_value(alloc: Global, value: &Value) -> Result<DocumentHighlightOptions, Misfit> {
         Ok(DocumentHighlightOptions {
-            work_done_progress_options: WorkDoneProgressOptions::from_value(alloc, value)?,
+            work_done_progress_options: flat(alloc, value)?,
         })
     }
 
@@ -360,11 +354,9 @@ impl Wire for GenericRegistrationOptions {
 
     fn from_value(alloc: Global, value: &Value) -> Result<GenericRegistrationOptions, Misfit> {
         Ok(GenericRegistrationOptions {
-            text_document_registration_options: TextDocumentRegistrationOptions::from_value(
-                alloc, value,
-            )?,
-            options: GenericOptions::from_value(alloc, value)?,
-            static_registration_options: StaticRegistrationOptions::from_value(alloc, value)?,
+            text_document_registration_options: flat(alloc, value)?,
+            options: flat(alloc, value)?,
+            static_registration_options: flat(alloc, value)?,
         })
     }
 
@@ -394,7 +386,7 @@ impl Wire for GenericOptions {
 
     fn from_value(alloc: Global, value: &Value) -> Result<GenericOptions, Misfit> {
         Ok(GenericOptions {
-            work_done_progress_options: WorkDoneProgressOptions::from_value(alloc, value)?,
+            work_done_progress_options: flat(alloc, value)?,
         })
     }
 

@@ -5,7 +5,7 @@ ghost use Rattle.lsp_offer_text.specs.declared.hover.HoverProviderCapability.The
 
 use lsp_base::TextDocumentRegistrationOptions;
 use lsp_names::WorkDoneProgressOptions;
-use lsp_shape::{Misfit, NoMemory, Reader, Wire, Writer, attempt};
+use lsp_shape::{Misfit, NoMemory, Reader, Wire, Writer, attempt, flat, form};
 use serde_json::Value;
 use std::alloc::Global;
 
@@ -29,7 +29,7 @@ impl Wire for HoverProviderCapability {
         if let Some(simple) = attempt(alloc, value)? {
             return Ok(HoverProviderCapability::Simple(simple));
         }
-        Ok(HoverProviderCapability::Options(HoverOptions::from_value(alloc, value)?))
+        Ok(HoverProviderCapability::Options(form(alloc, value)?))
     }
 
     fn to_value(&self, alloc: Global) -> Result<Value, NoMemory> {
@@ -72,7 +72,7 @@ impl Wire for HoverOptions {
 
     fn from_value(alloc: Global, value: &Value) -> Result<HoverOptions, Misfit> {
         Ok(HoverOptions {
-            work_done_progress_options: WorkDoneProgressOptions::from_value(alloc, value)?,
+            work_done_progress_options: flat(alloc, value)?,
         })
     }
 
@@ -100,10 +100,8 @@ impl Wire for HoverRegistrationOptions {
 
     fn from_value(alloc: Global, value: &Value) -> Result<HoverRegistrationOptions, Misfit> {
         Ok(HoverRegistrationOptions {
-            text_document_registration_options: TextDocumentRegistrationOptions::from_value(
-                alloc, value,
-            )?,
-            hover_options: HoverOptions::from_value(alloc, value)?,
+            text_document_registration_options: flat(alloc, value)?,
+            hover_options: flat(alloc, value)?,
         })
     }
 

@@ -5,7 +5,7 @@ ghost use Rattle.lsp_offer_text.specs.declared.selection.SelectionRangeProviderC
 
 use crate::goto::StaticTextDocumentRegistrationOptions;
 use lsp_names::WorkDoneProgressOptions;
-use lsp_shape::{Misfit, NoMemory, Reader, Wire, Writer, attempt};
+use lsp_shape::{Misfit, NoMemory, Reader, Wire, Writer, attempt, flat, form};
 use serde_json::Value;
 use std::alloc::Global;
 
@@ -38,9 +38,7 @@ impl Wire for SelectionRangeProviderCapability {
         if let Some(options) = attempt(alloc, value)? {
             return Ok(SelectionRangeProviderCapability::Options(options));
         }
-        Ok(SelectionRangeProviderCapability::RegistrationOptions(
-            SelectionRangeRegistrationOptions::from_value(alloc, value)?,
-        ))
+        Ok(SelectionRangeProviderCapability::RegistrationOptions(form(alloc, value)?))
     }
 
     fn to_value(&self, alloc: Global) -> Result<Value, NoMemory> {
@@ -96,7 +94,7 @@ impl Wire for SelectionRangeOptions {
 
     fn from_value(alloc: Global, value: &Value) -> Result<SelectionRangeOptions, Misfit> {
         Ok(SelectionRangeOptions {
-            work_done_progress_options: WorkDoneProgressOptions::from_value(alloc, value)?,
+            work_done_progress_options: flat(alloc, value)?,
         })
     }
 
@@ -128,8 +126,8 @@ impl Wire for SelectionRangeRegistrationOptions {
         value: &Value,
     ) -> Result<SelectionRangeRegistrationOptions, Misfit> {
         Ok(SelectionRangeRegistrationOptions {
-            selection_range_options: SelectionRangeOptions::from_value(alloc, value)?,
-            registration_options: StaticTextDocumentRegistrationOptions::from_value(alloc, value)?,
+            selection_range_options: flat(alloc, value)?,
+            registration_options: flat(alloc, value)?,
         })
     }
 

@@ -3,7 +3,7 @@ ghost use Rattle.lsp_offer_text.specs.SignatureHelp.{signature_help_options_row,
 
 use lsp_base::TextDocumentRegistrationOptions;
 use lsp_names::WorkDoneProgressOptions;
-use lsp_shape::{Misfit, NoMemory, Reader, Wire, Writer};
+use lsp_shape::{Misfit, NoMemory, Reader, Wire, Writer, flat};
 use serde_json::Value;
 use std::alloc::Global;
 
@@ -32,7 +32,7 @@ impl Wire for SignatureHelpOptions {
         Ok(SignatureHelpOptions {
             trigger_characters: object.optional("triggerCharacters")?,
             retrigger_characters: object.optional("retriggerCharacters")?,
-            work_done_progress_options: WorkDoneProgressOptions::from_value(alloc, value)?,
+            work_done_progress_options: flat(alloc, value)?,
         })
     }
 
@@ -65,9 +65,7 @@ impl Wire for SignatureHelpRegistrationOptions {
         value: &Value,
     ) -> Result<SignatureHelpRegistrationOptions, Misfit> {
         Ok(SignatureHelpRegistrationOptions {
-            text_document_registration_options: TextDocumentRegistrationOptions::from_value(
-                alloc, value,
-            )?,
+            text_document_registration_options: flat(alloc, value)?,
         })
     }
 

@@ -2,7 +2,7 @@
 ghost use Rattle.lsp_offer_text.specs.Symbols.{document_symbol_options_row, workspace_symbol_options_row};
 
 use lsp_names::WorkDoneProgressOptions;
-use lsp_shape::{Misfit, NoMemory, Reader, Wire, Writer};
+use lsp_shape::{Misfit, NoMemory, Reader, Wire, Writer, flat};
 use serde_json::Value;
 use std::alloc::Global;
 
@@ -28,7 +28,7 @@ impl Wire for DocumentSymbolOptions {
         let object = Reader::new(alloc, value)?;
         Ok(DocumentSymbolOptions {
             label: object.optional("label")?,
-            work_done_progress_options: WorkDoneProgressOptions::from_value(alloc, value)?,
+            work_done_progress_options: flat(alloc, value)?,
         })
     }
 
@@ -61,7 +61,7 @@ impl Wire for WorkspaceSymbolOptions {
     fn from_value(alloc: Global, value: &Value) -> Result<WorkspaceSymbolOptions, Misfit> {
         let object = Reader::new(alloc, value)?;
         Ok(WorkspaceSymbolOptions {
-            work_done_progress_options: WorkDoneProgressOptions::from_value(alloc, value)?,
+            work_done_progress_options: flat(alloc, value)?,
             resolve_provider: object.optional("resolveProvider")?,
         })
     }

@@ -6,7 +6,7 @@ ghost use Rattle.lsp_offer_text.specs.declared.sync.TextDocumentSyncSaveOptions.
 
 use lsp_base::{DocumentSelector, TextDocumentRegistrationOptions};
 use lsp_kinds::TextDocumentSyncKind;
-use lsp_shape::{Misfit, NoMemory, Reader, Wire, Writer, attempt};
+use lsp_shape::{Misfit, NoMemory, Reader, Wire, Writer, attempt, flat, form};
 use serde_json::Value;
 use std::alloc::Global;
 
@@ -31,7 +31,7 @@ impl Wire for TextDocumentSyncCapability {
         if let Some(kind) = attempt(alloc, value)? {
             return Ok(TextDocumentSyncCapability::Kind(kind));
         }
-        Ok(TextDocumentSyncCapability::Options(TextDocumentSyncOptions::from_value(alloc, value)?))
+        Ok(TextDocumentSyncCapability::Options(form(alloc, value)?))
     }
 
     fn to_value(&self, alloc: Global) -> Result<Value, NoMemory> {
@@ -122,7 +122,7 @@ impl Wire for TextDocumentSyncSaveOptions {
         if let Some(supported) = attempt(alloc, value)? {
             return Ok(TextDocumentSyncSaveOptions::Supported(supported));
         }
-        Ok(TextDocumentSyncSaveOptions::SaveOptions(SaveOptions::from_value(alloc, value)?))
+        Ok(TextDocumentSyncSaveOptions::SaveOptions(form(alloc, value)?))
     }
 
     fn to_value(&self, alloc: Global) -> Result<Value, NoMemory> {
@@ -236,9 +236,7 @@ impl Wire for TextDocumentSaveRegistrationOptions {
         let object = Reader::new(alloc, value)?;
         Ok(TextDocumentSaveRegistrationOptions {
             include_text: object.optional("includeText")?,
-            text_document_registration_options: TextDocumentRegistrationOptions::from_value(
-                alloc, value,
-            )?,
+            text_document_registration_options: flat(alloc, value)?,
         })
     }
 

@@ -3,7 +3,7 @@ ghost use Rattle.std.specs.Prelude.{◌≡◌, None, []};
 ghost use Rattle.lsp_offer_work.specs.Command.{execute_command_options_row, execute_command_registration_options_row};
 
 use lsp_names::WorkDoneProgressOptions;
-use lsp_shape::{Misfit, NoMemory, Reader, Wire, Writer};
+use lsp_shape::{Misfit, NoMemory, Reader, Wire, Writer, flat};
 use serde_json::Value;
 use std::alloc::Global;
 
@@ -40,7 +40,7 @@ impl Wire for ExecuteCommandOptions {
         let object = Reader::new(alloc, value)?;
         Ok(ExecuteCommandOptions {
             commands: object.field("commands")?,
-            work_done_progress_options: WorkDoneProgressOptions::from_value(alloc, value)?,
+            work_done_progress_options: flat(alloc, value)?,
         })
     }
 
@@ -75,7 +75,7 @@ impl Wire for ExecuteCommandRegistrationOptions {
         let object = Reader::new(alloc, value)?;
         Ok(ExecuteCommandRegistrationOptions {
             commands: object.field("commands")?,
-            work_done_progress_options: WorkDoneProgressOptions::from_value(alloc, value)?,
+            work_done_progress_options: flat(alloc, value)?,
         })
     }
 

@@ -2,7 +2,7 @@
 ghost use Rattle.std.specs.Prelude.{◌≡◌, None, [], string_bytes};
 ghost use Rattle.lsp_offer_work.specs.Files.{workspace_file_operations_server_capabilities_row, file_operation_registration_options_row, file_operation_filter_row, file_operation_pattern_kind_row, file_operation_pattern_options_row, file_operation_pattern_row};
 
-use lsp_shape::{Copies, Misfit, NoMemory, Reader, Wire, Writer};
+use lsp_shape::{Copies, Misfit, NoMemory, Reader, Wanted, Wire, Writer};
 use serde_json::Value;
 use std::alloc::{AllocError, Global};
 
@@ -198,7 +198,7 @@ impl Wire for FileOperationPatternKind {
         match value.as_str() {
             Some("file") => Ok(FileOperationPatternKind::File),
             Some("folder") => Ok(FileOperationPatternKind::Folder),
-            _ => Err(Misfit::Unfit),
+            _ => Err(Misfit::wanted(Wanted::Name)),
         }
     }
 

@@ -1,7 +1,7 @@
 // Notebooks.
 ghost use Rattle.lsp_offer_work.specs.Notebook.{notebook_document_sync_options_row, notebook_document_sync_registration_options_row, notebook_cell_text_document_filter_row, notebook_selector_by_notebook_row, notebook_selector_by_cells_row, notebook_selector_row, notebook_cell_selector_row, notebook_row, notebook_document_filter_by_type_row, notebook_document_filter_by_scheme_row, notebook_document_filter_by_pattern_row, notebook_document_filter_row};
 
-use lsp_shape::{Misfit, NoMemory, Reader, Wire, Writer, attempt};
+use lsp_shape::{Misfit, NoMemory, Reader, Wire, Writer, attempt, form};
 use serde_json::Value;
 use std::alloc::Global;
 
@@ -205,7 +205,7 @@ impl Wire for NotebookSelector {
                 cells: x.cells,
             });
         }
-        let x = NotebookSelectorByCells::from_value(alloc, value)?;
+        let x = form::<NotebookSelectorByCells>(alloc, value)?;
         Ok(NotebookSelector::ByCells {
             notebook: x.notebook,
             cells: x.cells,
@@ -278,7 +278,7 @@ impl Wire for Notebook {
         if let Some(string) = attempt(alloc, value)? {
             return Ok(Notebook::String(string));
         }
-        Ok(Notebook::NotebookDocumentFilter(NotebookDocumentFilter::from_value(alloc, value)?))
+        Ok(Notebook::NotebookDocumentFilter(form(alloc, value)?))
     }
 
     fn to_value(&self, alloc: Global) -> Result<Value, NoMemory> {
@@ -440,7 +440,7 @@ impl Wire for NotebookDocumentFilter {
                 pattern: x.pattern,
             });
         }
-        let x = NotebookDocumentFilterByPattern::from_value(alloc, value)?;
+        let x = form::<NotebookDocumentFilterByPattern>(alloc, value)?;
         Ok(NotebookDocumentFilter::ByPattern {
             notebook_type: x.notebook_type,
             scheme: x.scheme,

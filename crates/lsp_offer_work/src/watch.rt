@@ -5,7 +5,7 @@ ghost use Rattle.lsp_offer_work.specs.declared.watch.GlobPattern.TheVariants as 
 
 use crate::watch_kind::WatchKind;
 use lsp_base::{OneOf, WorkspaceFolder};
-use lsp_shape::{Misfit, NoMemory, Reader, Wire, Writer, attempt};
+use lsp_shape::{Misfit, NoMemory, Reader, Wire, Writer, attempt, form};
 use lsp_uri::Uri;
 use serde_json::Value;
 use std::alloc::Global;
@@ -95,7 +95,7 @@ impl Wire for GlobPattern {
         if let Some(string) = attempt(alloc, value)? {
             return Ok(GlobPattern::String(string));
         }
-        Ok(GlobPattern::Relative(RelativePattern::from_value(alloc, value)?))
+        Ok(GlobPattern::Relative(form(alloc, value)?))
     }
 
     fn to_value(&self, alloc: Global) -> Result<Value, NoMemory> {

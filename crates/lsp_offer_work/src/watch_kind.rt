@@ -1,10 +1,12 @@
 // What is watched of a file.
-ghost use Rattle.std.specs.Prelude.{⊤, ◌≡◌, ◌<◌, ◌↔◌, IfSome, IsNone};
+ghost use Rattle.std.specs.Prelude.{⊤, ◌≡◌, ◌<◌, ◌↔◌, IfOk, IfSome, IsNone, option_map};
 ghost use Rattle.std.specs.Int.RustNames.{bit_or};
+ghost use Rattle.serde_json.specs.View.{view};
+ghost use Rattle.lsp_shape.specs.Read.{read};
 ghost use Rattle.lsp_offer_work.specs.WatchKind.{bits_of, watch_kind_row, watch_kinds};
 
 use bitflags::{Flag, Flags};
-use lsp_shape::{Misfit, NoMemory, Wire};
+use lsp_shape::{Misfit, NoMemory, Wanted, Wire, attempt};
 use serde_json::Value;
 use std::alloc::Global;
 use std::ops::BitOr;
@@ -89,6 +91,18 @@ impl BitOr for WatchKind {
     }
 }
 
+// The set whose bits the value is.
+#[tactic(auto, unfolding(crate::specs::WatchKind::watch_kind_row))]
+fn kind_of(alloc: Global, value: &Value) -> Result<Option<WatchKind>, NoMemory>
+    ensures { IfOk result
+        (λ o. option_map watch_kind_row.shown o ≡ read watch_kind_row.shape (view value.now)) }
+{
+    match attempt(alloc, value)? {
+        Some(bits) => Ok(WatchKind::from_bits(bits)),
+        None => Ok(None),
+    }
+}
+
 #[tactic(auto, unfolding(crate::specs::WatchKind::watch_kind_row))]
 impl Wire for WatchKind {
     ghost shape = { watch_kind_row.shape };
@@ -96,8 +110,10 @@ impl Wire for WatchKind {
     ghost shown = { watch_kind_row.shown };
 
     fn from_value(alloc: Global, value: &Value) -> Result<WatchKind, Misfit> {
-        let bits = u8::from_value(alloc, value)?;
-        WatchKind::from_bits(bits).ok_or(Misfit::Unfit)
+        match kind_of(alloc, value)? {
+            Some(kind) => Ok(kind),
+            None => Err(Misfit::wanted(Wanted::Unsigned)),
+        }
     }
 
     fn to_value(&self, _alloc: Global) -> Result<Value, NoMemory> {

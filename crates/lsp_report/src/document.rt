@@ -6,7 +6,9 @@ ghost use Rattle.lsp_report.specs.declared.document.DocumentDiagnosticReportKind
 ghost use Rattle.lsp_report.specs.declared.document.DocumentDiagnosticReportResult.TheVariants as document_diagnostic_report_result;
 
 use lsp_base::{Diagnostic, PartialResultParams, TextDocumentIdentifier, WorkDoneProgressParams};
-use lsp_shape::{Copies, Misfit, NoMemory, Reader, Wire, Writer, attempt, put_tag, tag};
+use lsp_shape::{
+    Copies, Misfit, NoMemory, Reader, Wanted, Wire, Writer, attempt, flat, form, put_tag, tag,
+};
 use lsp_uri::Uri;
 use serde_json::Value;
 use std::alloc::{AllocError, Global};
@@ -67,8 +69,8 @@ impl Wire for DocumentDiagnosticParams {
             text_document: object.field("textDocument")?,
             identifier: object.optional("identifier")?,
             previous_result_id: object.optional("previousResultId")?,
-            work_done_progress_params: WorkDoneProgressParams::from_value(alloc, value)?,
-            partial_result_params: PartialResultParams::from_value(alloc, value)?,
+            work_done_progress_params: flat(alloc, value)?,
+            partial_result_params: flat(alloc, value)?,
         })
     }
 
@@ -103,9 +105,7 @@ impl Wire for DocumentDiagnosticReportResult {
         if let Some(report) = attempt(alloc, value)? {
             return Ok(DocumentDiagnosticReportResult::Report(report));
         }
-        Ok(DocumentDiagnosticReportResult::Partial(
-            DocumentDiagnosticReportPartialResult::from_value(alloc, value)?,
-        ))
+        Ok(DocumentDiagnosticReportResult::Partial(form(alloc, value)?))
     }
 
     fn to_value(&self, alloc: Global) -> Result<Value, NoMemory> {
@@ -150,13 +150,9 @@ impl Wire for DocumentDiagnosticReport {
 
     fn from_value(alloc: Global, value: &Value) -> Result<DocumentDiagnosticReport, Misfit> {
         match tag(value, "kind") {
-            Some("full") => Ok(DocumentDiagnosticReport::Full(
-                RelatedFullDocumentDiagnosticReport::from_value(alloc, value)?,
-            )),
-            Some("unchanged") => Ok(DocumentDiagnosticReport::Unchanged(
-                RelatedUnchangedDocumentDiagnosticReport::from_value(alloc, value)?,
-            )),
-            _ => Err(Misfit::Unfit),
+            Some("full") => Ok(DocumentDiagnosticReport::Full(form(alloc, value)?)),
+            Some("unchanged") => Ok(DocumentDiagnosticReport::Unchanged(form(alloc, value)?)),
+            _ => Err(Misfit::wanted(Wanted::Form)),
         }
     }
 
@@ -207,13 +203,9 @@ impl Wire for DocumentDiagnosticReportKind {
 
     fn from_value(alloc: Global, value: &Value) -> Result<DocumentDiagnosticReportKind, Misfit> {
         match tag(value, "kind") {
-            Some("full") => Ok(DocumentDiagnosticReportKind::Full(
-                FullDocumentDiagnosticReport::from_value(alloc, value)?,
-            )),
-            Some("unchanged") => Ok(DocumentDiagnosticReportKind::Unchanged(
-                UnchangedDocumentDiagnosticReport::from_value(alloc, value)?,
-            )),
-            _ => Err(Misfit::Unfit),
+            Some("full") => Ok(DocumentDiagnosticReportKind::Full(form(alloc, value)?)),
+            Some("unchanged") => Ok(DocumentDiagnosticReportKind::Unchanged(form(alloc, value)?)),
+            _ => Err(Misfit::wanted(Wanted::Form)),
         }
     }
 
@@ -284,9 +276,7 @@ impl Wire for RelatedFullDocumentDiagnosticReport {
         let object = Reader::new(alloc, value)?;
         Ok(RelatedFullDocumentDiagnosticReport {
             related_documents: object.optional("relatedDocuments")?,
-            full_document_diagnostic_report: FullDocumentDiagnosticReport::from_value(
-                alloc, value,
-            )?,
+            full_document_diagnostic_report: flat(alloc, value)?,
         })
     }
 
@@ -322,9 +312,7 @@ impl Wire for RelatedUnchangedDocumentDiagnosticReport {
         let object = Reader::new(alloc, value)?;
         Ok(RelatedUnchangedDocumentDiagnosticReport {
             related_documents: object.optional("relatedDocuments")?,
-            unchanged_document_diagnostic_report: UnchangedDocumentDiagnosticReport::from_value(
-                alloc, value,
-            )?,
+            unchanged_document_diagnostic_report: flat(alloc, value)?,
         })
     }
 

@@ -6,7 +6,9 @@ ghost use Rattle.lsp_report.specs.declared.workspace.WorkspaceDocumentDiagnostic
 
 use crate::document::{FullDocumentDiagnosticReport, UnchangedDocumentDiagnosticReport};
 use lsp_base::{PartialResultParams, WorkDoneProgressParams};
-use lsp_shape::{Misfit, NoMemory, Reader, Wire, Writer, attempt, put_tag, tag};
+use lsp_shape::{
+    Misfit, NoMemory, Reader, Wanted, Wire, Writer, attempt, flat, form, put_tag, tag,
+};
 use lsp_uri::Uri;
 use serde_json::Value;
 use std::alloc::Global;
@@ -40,8 +42,8 @@ impl Wire for WorkspaceDiagnosticParams {
         Ok(WorkspaceDiagnosticParams {
             identifier: object.optional("identifier")?,
             previous_result_ids: object.field("previousResultIds")?,
-            work_done_progress_params: WorkDoneProgressParams::from_value(alloc, value)?,
-            partial_result_params: PartialResultParams::from_value(alloc, value)?,
+            work_done_progress_params: flat(alloc, value)?,
+            partial_result_params: flat(alloc, value)?,
         })
     }
 
@@ -107,9 +109,7 @@ impl Wire for WorkspaceDiagnosticReportResult {
         if let Some(report) = attempt(alloc, value)? {
             return Ok(WorkspaceDiagnosticReportResult::Report(report));
         }
-        Ok(WorkspaceDiagnosticReportResult::Partial(
-            WorkspaceDiagnosticReportPartialResult::from_value(alloc, value)?,
-        ))
+        Ok(WorkspaceDiagnosticReportResult::Partial(form(alloc, value)?))
     }
 
     fn to_value(&self, alloc: Global) -> Result<Value, NoMemory> {
@@ -196,13 +196,11 @@ impl Wire for WorkspaceDocumentDiagnosticReport {
         value: &Value,
     ) -> Result<WorkspaceDocumentDiagnosticReport, Misfit> {
         match tag(value, "kind") {
-            Some("full") => Ok(WorkspaceDocumentDiagnosticReport::Full(
-                WorkspaceFullDocumentDiagnosticReport::from_value(alloc, value)?,
-            )),
-            Some("unchanged") => Ok(WorkspaceDocumentDiagnosticReport::Unchanged(
-                WorkspaceUnchangedDocumentDiagnosticReport::from_value(alloc, value)?,
-            )),
-            _ => Err(Misfit::Unfit),
+            Some("full") => Ok(WorkspaceDocumentDiagnosticReport::Full(form(alloc, value)?)),
+            Some("unchanged") => Ok(WorkspaceDocumentDiagnosticReport::Unchanged(form(
+                alloc, value,
+            )?)),
+            _ => Err(Misfit::wanted(Wanted::Form)),
         }
     }
 
@@ -265,9 +263,7 @@ impl Wire for WorkspaceFullDocumentDiagnosticReport {
         Ok(WorkspaceFullDocumentDiagnosticReport {
             uri: object.field("uri")?,
             version: object.optional("version")?,
-            full_document_diagnostic_report: FullDocumentDiagnosticReport::from_value(
-                alloc, value,
-            )?,
+            full_document_diagnostic_report: flat(alloc, value)?,
         })
     }
 
@@ -307,9 +303,7 @@ impl Wire for WorkspaceUnchangedDocumentDiagnosticReport {
         Ok(WorkspaceUnchangedDocumentDiagnosticReport {
             uri: object.field("uri")?,
             version: object.optional("version")?,
-            unchanged_document_diagnostic_report: UnchangedDocumentDiagnosticReport::from_value(
-                alloc, value,
-            )?,
+            unchanged_document_diagnostic_report: flat(alloc, value)?,
         })
     }
 

@@ -6,7 +6,7 @@
 //!     TEXT            the text is read, and the same value is written
 //!     TEXT => TEXT    the first is read, and the second is written
 //!     TEXT :: SHOWN   the text is read and written, and Debug shows this of what it is read as
-//!     ! TEXT          the text does not fit
+//!     ! TEXT :: WHY   the text does not fit, and `why_unfit` says that of it
 //!     ? WORDS         what the first text is without each of its members in turn: it does not fit
 //!                     without a MEMBER of the words, is written with VALUE as the member for
 //!                     MEMBER=VALUE, and without it for any other
@@ -27,7 +27,7 @@ ghost use Rattle.lsp_shape.specs.Write.{write};
 
 pub use error::RowError;
 use error::{compare, untrue};
-use lsp_shape::{NoMemory, Wire, attempt, write_text};
+use lsp_shape::{NoMemory, Wire, attempt, why_unfit, write_text};
 use members::members_hold;
 use serde_json::Value;
 use std::alloc::Global;
@@ -53,17 +53,17 @@ fn json(alloc: Global, line: &str, text: &str) -> Result<Value, RowError>
     }
 }
 
-// The text of that line does not fit.
-fn is_refused<T: Wire + fmt::Debug>(alloc: Global, line: &str, text: &str) -> Result<(), RowError>
+// The text of that line does not fit, for that reason.
+fn is_refused<T: Wire>(alloc: Global, line: &str, text: &str, why: &str) -> Result<(), RowError>
     ensures { OnOk result
         ((d : Data) × (json_text.read text.now ≡ Some d) × (read T.shape d ≡ None)) }
 {
-    match attempt::<T>(alloc, &json(alloc, line, text)?)? {
-        None => Ok(()),
-        Some(value) => {
-            let shown = format!(in alloc; "{value:?}")?;
-            Err(untrue(alloc, line, "a text that does not fit", shown.as_str())?)
+    match why_unfit::<T>(alloc, &json(alloc, line, text)?)? {
+        Some(unfit) => {
+            let found = format!(in alloc; "{unfit}")?;
+            compare(alloc, line, why, found.as_str())
         }
+        None => Err(untrue(alloc, line, "a text that does not fit", text)?),
     }
 }
 
@@ -87,8 +87,9 @@ fn parts(line: &str) -> (&str, &str, &str) {
 }
 
 fn line_holds<T: Wire + fmt::Debug>(alloc: Global, line: &str) -> Result<(), RowError> {
-    if let Some(text) = line.strip_prefix("! ") {
-        return is_refused::<T>(alloc, line, text);
+    if let Some(refused) = line.strip_prefix("! ") {
+        let (text, why) = refused.split_once(" :: ").unwrap_or((refused, ""));
+        return is_refused::<T>(alloc, line, text, why);
     }
     let (text, written, shown) = parts(line);
     let value: T = read_as(alloc, line, text)?;

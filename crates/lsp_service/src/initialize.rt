@@ -7,7 +7,7 @@ ghost use Rattle.lsp_service.specs.Data.{fits};
 
 use lsp_initialize::{InitializeParams, InitializeResult, ServerCapabilities};
 use lsp_rpc::NoMemory;
-use lsp_shape::{Misfit, Wire};
+use lsp_shape::{Wire, attempt};
 use serde_json::Value;
 use std::alloc::Global;
 
@@ -32,10 +32,9 @@ impl InitializeCall {
         ensures { IfOk result (λ params. initialize_params_row.shown params
             ≡ show_initialize self.now) }
     {
-        match InitializeParams::from_value(alloc, &self.params) {
-            Ok(params) => Ok(params),
-            Err(Misfit::NoMemory) => Err(NoMemory),
-            Err(Misfit::Unfit) => unreachable!(),
+        match attempt(alloc, &self.params)? {
+            Some(params) => Ok(params),
+            None => unreachable!(),
         }
     }
 }

@@ -1,8 +1,7 @@
 // Params of a method, read by its shape.
-ghost use Rattle.std.specs.Prelude.{◌≡◌, true, IfOk, OnOk, IfErr, IsErrOf, Some, None, option_map};
+ghost use Rattle.std.specs.Prelude.{◌≡◌, true, IfOk, IfErr, IfSome, Some, None, is_some, option_map};
 ghost use Rattle.serde_json.specs.View.{view};
 ghost use Rattle.lsp_session.specs.Semantics.{call as call_read};
-ghost use Rattle.lsp_shape.specs.Read.{read};
 ghost use Rattle.lsp_methods.specs.Shapes.{params_shape};
 ghost use Rattle.lsp_initialize.specs.Client.{initialize_params_row};
 ghost use Rattle.lsp_service.specs.Calls.{show_initialize};
@@ -13,7 +12,7 @@ use crate::initialize::InitializeCall;
 use lsp_initialize::InitializeParams;
 use lsp_methods::{LifeMethod, Method};
 use lsp_session::CallMisfit;
-use lsp_shape::{Misfit, Wire};
+use lsp_shape::{NoMemory, Wire, attempt};
 use serde_json::Value;
 use std::alloc::Global;
 
@@ -31,10 +30,10 @@ pub(crate) fn params_of<T: Wire>(
 {
     match params {
         None => Err(CallMisfit::Missing),
-        Some(value) => match T::from_value(alloc, value) {
-            Ok(read) => Ok(read),
-            Err(Misfit::Unfit) => Err(CallMisfit::Unfit),
-            Err(Misfit::NoMemory) => Err(CallMisfit::NoMemory),
+        Some(value) => match attempt(alloc, value) {
+            Ok(Some(read)) => Ok(read),
+            Ok(None) => Err(CallMisfit::Unfit),
+            Err(NoMemory) => Err(CallMisfit::NoMemory),
         },
     }
 }
@@ -53,26 +52,24 @@ pub(crate) fn initialize_call(
     match params {
         None => Err(CallMisfit::Missing),
         Some(value) => match fitting(alloc, value) {
-            Ok(params) => Ok(InitializeCall { params }),
-            Err(Misfit::Unfit) => Err(CallMisfit::Unfit),
-            Err(Misfit::NoMemory) => Err(CallMisfit::NoMemory),
+            Ok(Some(params)) => Ok(InitializeCall { params }),
+            Ok(None) => Err(CallMisfit::Unfit),
+            Err(NoMemory) => Err(CallMisfit::NoMemory),
         },
     }
 }
 
-// A copy of params that fit.
-fn fitting(alloc: Global, value: &Value) -> Result<Value, Misfit>
-    ensures same { IfOk result (λ copy. view copy ≡ view value.now) }
-    ensures ok { OnOk result (fits initialize_params_row.shape (view value.now) ≡ true) }
-    ensures unfit { IsErrOf result Misfit.Unfit
-        → read initialize_params_row.shape (view value.now) ≡ None }
+// A copy of params that fit, and none of others.
+fn fitting(alloc: Global, value: &Value) -> Result<Option<Value>, NoMemory>
+    ensures same { IfOk result (λ o. IfSome o (λ copy. view copy ≡ view value.now)) }
+    ensures fits { IfOk result
+        (λ o. is_some o ≡ fits initialize_params_row.shape (view value.now)) }
 {
-    let params = InitializeParams::from_value(alloc, value)?;
-    drop(params);
-    match value.clone() {
-        Ok(copy) => Ok(copy),
-        Err(_) => Err(Misfit::NoMemory),
+    match attempt::<InitializeParams>(alloc, value)? {
+        Some(params) => drop(params),
+        None => return Ok(None),
     }
+    Ok(Some(value.clone()?))
 }
 
 /// A method without params has none.

@@ -1,15 +1,17 @@
 -- Entries of maps, and the members that they are read from and written as.
-use Rattle.std.proofs.Common.{◌≡◌, ℕ, List, [], ◌∷◌, Bool, true, false, cond, Option, Some, None, option_map, string_bytes, string_cmp, String, Global, Less, Greater, nat_cmp, refl, sym, ap, ◌∙◌}
-use Rattle.std.proofs.lemmas.Cmp.{nat_list_cmp_total}
+use Rattle.std.proofs.Common.{◌≡◌, ℕ, List, [], ◌∷◌, Bool, true, false, cond, Option, Some, None, option_map, string_bytes, string_cmp, String, Global, Ordering, Less, Equal, Greater, nat_cmp, refl, sym, ap, ◌∙◌}
+use Rattle.std.proofs.lemmas.Cmp.{nat_list_cmp_total, tied_itself}
+use Rattle.std.proofs.lemmas.Option.{none-some}
 use Rattle.std.specs.Cmp.Lexicographic.{slice_cmp}
 use Rattle.std.specs.List.{AllByRecursion}
 use Rattle.std.specs.List.Sorted.{IsStrictlySortedBy}
 use Rattle.std.specs.Map.{keys_of}
-use Rattle.std.specs.Ordering.{ordering_reverse}
+use Rattle.std.specs.Ordering.{match_ordering, ordering_reverse}
 use Rattle.std.specs.BTreeMap.{BTreeMap}
 use Rattle.std.specs.List.{AllZip}
 use Rattle.serde_json.proofs.Views.{view-Object}
 use Rattle.serde_json.specs.Data.{Data, object, Members, no_members, member}
+use Rattle.serde_json.specs.Find.{get_member}
 use Rattle.serde_json.specs.View.{view, members_view}
 use Rattle.serde_json.specs.declared.value.Value.{Value, Object}
 use Rattle.lsp_shape.specs.Plain.{Plain, leaf, absent, present, entry, parts, choice, parts_of, Parts, no_parts, part, put_entry}
@@ -18,7 +20,7 @@ use Rattle.lsp_shape.specs.Read.{read, read_entries, read_entry, and_part}
 use Rattle.lsp_shape.specs.Write.{write, write_leaf, write_entries}
 use Rattle.lsp_shape.specs.Values.{every, is_entry, is_leaf}
 use Rattle.lsp_shape.specs.Shown.{show_members, show_object}
-use Rattle.lsp_shape.proofs.Ascending.{Below, Ascending}
+use Rattle.lsp_shape.proofs.Ascending.{Below, Ascending, text_order}
 
 pub read_entries-members : (es : List (String Global × Value)) → read_entries [] every_text (read any) (members_view es) ≡ Some (parts_of (show_members es))
 read_entries-members [] = refl
@@ -39,8 +41,8 @@ members-clone [] (f ∷ fs) z = absurd z
 members-clone (e ∷ es) [] z = absurd z
 members-clone (e ∷ es) (f ∷ fs) z = rw (z.0.0, z.0.1, members-clone es fs z.1) refl
 
-pub object_read : (m n : BTreeMap (String Global) Value) (v : Value) → v ≡ Object m → members_view m.entries ≡ members_view n.entries → read object_shape (view v) ≡ Some (show_object n)
-object_read m n v e same = rw (e, view-Object m, same, read_entries-members n.entries) refl
+pub object_read : (m n : BTreeMap (String Global) Value) (d : Data) → d ≡ object (members_view m.entries) → members_view m.entries ≡ members_view n.entries → read object_shape d ≡ Some (show_object n)
+object_read m n d e same = rw (e, same, read_entries-members n.entries) refl
 
 pub object_written : (m n : BTreeMap (String Global) Value) → members_view m.entries ≡ members_view n.entries → view (Object n) ≡ write object_shape (show_object m)
 object_written m n same = view-Object n ∙ ap object (sym same ∙ sym (write_entries-members m.entries))
@@ -112,15 +114,34 @@ unfolding IsStrictlySortedBy
 ascending_members [] a = tt
 ascending_members (e ∷ es) a = (below_members e.0 es a.0, ascending_members es a.1)
 
+-- ---- members that are found
+
+below_none : (k : List ℕ) (ms : Members) → Below k ms → get_member k ms ≡ None
+below_none k no_members b = refl
+below_none k (member l d ms) b = rw b.0 (below_none k ms b.1)
+
+-- a member that is found behind the first is found
+found_behind : (q k : List ℕ) (d x : Data) (ms : Members) → Below k ms → get_member q ms ≡ Some x → get_member q (member k d ms) ≡ Some x
+found_behind q k d x ms b is = at (slice_cmp nat_cmp q k) refl
+  where
+    at : (o : Ordering) → slice_cmp nat_cmp q k ≡ o → match_ordering o (get_member q ms) (Some d) (get_member q ms) ≡ Some x
+    at Less e = is
+    at Equal e = absurd (none-some x (sym (below_none k ms b) ∙ ap (λ n. get_member n ms) (sym (text_order q k e)) ∙ is))
+    at Greater e = is
+
+found_here : (k : List ℕ) (d : Data) (ms : Members) → get_member k (member k d ms) ≡ Some d
+found_here k d ms = rw (tied_itself nat_list_cmp_total k) refl
+
 -- the members that are left, while a map is read
 pub record IsReadSoFar (ns : List (List ℕ)) (test : List ℕ → Bool) (f : Data → Option Plain) (all left : Members) (done : Parts) : Type 0 where
   pub same : read_entries ns test f all ≡ after_parts done (read_entries ns test f left)
   pub before : Before done left
   pub ascending : Ascending left
+  pub found : (q : List ℕ) (x : Data) → get_member q left ≡ Some x → get_member q all ≡ Some x
 
 module _ (ns : List (List ℕ)) (test : List ℕ → Bool) (f : Data → Option Plain) (all : Members) where
   pub begun : Ascending all → IsReadSoFar ns test f all all no_parts
-  begun a = record { same = refl; before = tt; ascending = a }
+  begun a = record { same = refl; before = tt; ascending = a; found = λ q x is. is }
 
   -- a member that is named is passed over
   pub passed_over : (k : List ℕ) (d : Data) (left : Members) (done : Parts) → has_name k ns ≡ true → IsReadSoFar ns test f all (member k d left) done → IsReadSoFar ns test f all left done
@@ -128,6 +149,7 @@ module _ (ns : List (List ℕ)) (test : List ℕ → Bool) (f : Data → Option 
     same = s.same ∙ ap (after_parts done) (cond_true (has_name k ns) _ _ h);
     before = before_later done k d left s.before;
     ascending = s.ascending.1;
+    found = λ q x is. s.found q x (found_behind q k d x left s.ascending.0 is);
   }
     where
       cond_true : (b : Bool) (x y : Option Parts) → b ≡ true → cond b x y ≡ x
@@ -146,24 +168,21 @@ module _ (ns : List (List ℕ)) (test : List ℕ → Bool) (f : Data → Option 
     same = s.same ∙ ap (after_parts done) (next_is k d left h ∙ ap (λ o. and_part o (read_entries ns test f left)) (one_entry k d p t e)) ∙ sym (after_parts-put k p d left done _ s.before);
     before = before_put k p d left done s.before s.ascending.0;
     ascending = s.ascending.1;
+    found = λ q x is. s.found q x (found_behind q k d x left s.ascending.0 is);
   }
 
   no_key : (k : List ℕ) (d : Data) → test k ≡ false → read_entry test f k d ≡ None
   no_key k d t = rw t refl
 
-  no_value : (k : List ℕ) (d : Data) (b : Bool) → f d ≡ None → cond b (option_map (entry k) (f d)) None ≡ None
-  no_value k d true e = rw e refl
-  no_value k d false e = refl
-
   not_read : (k : List ℕ) (d : Data) (left : Members) (done : Parts) → has_name k ns ≡ false → read_entry test f k d ≡ None → IsReadSoFar ns test f all (member k d left) done → read_entries ns test f all ≡ None
   not_read k d left done h e s = s.same ∙ ap (after_parts done) (next_is k d left h ∙ ap (λ o. and_part o (read_entries ns test f left)) e) ∙ after_parts-None done
 
-  -- a member whose key or value does not fit
+  -- a member whose key does not fit
   pub key_unfit : (k : List ℕ) (d : Data) (left : Members) (done : Parts) → has_name k ns ≡ false → test k ≡ false → IsReadSoFar ns test f all (member k d left) done → read_entries ns test f all ≡ None
   key_unfit k d left done h t s = not_read k d left done h (no_key k d t) s
 
-  pub value_unfit : (k : List ℕ) (d : Data) (left : Members) (done : Parts) → has_name k ns ≡ false → f d ≡ None → IsReadSoFar ns test f all (member k d left) done → read_entries ns test f all ≡ None
-  value_unfit k d left done h e s = not_read k d left done h (no_value k d (test k) e) s
+  pub next_found : (k : List ℕ) (d : Data) (left : Members) (done : Parts) → IsReadSoFar ns test f all (member k d left) done → get_member k all ≡ Some d
+  next_found k d left done s = s.found k d (found_here k d left)
 
   pub ended : (done : Parts) → IsReadSoFar ns test f all no_members done → read_entries ns test f all ≡ Some done
   ended done s = s.same ∙ after_parts-end done

@@ -81,14 +81,8 @@ pub not_empty : {A : Type 0} (show : A → Plain) (xs : List A) → false ≡ (l
 not_empty show [] e = sym e
 not_empty show (x ∷ xs) e = refl
 
-items_counted : (xs : List Value) → item_count (items_view xs) ≡ length xs
+pub items_counted : (xs : List Value) → item_count (items_view xs) ≡ length xs
 items_counted [] = refl
 items_counted (x ∷ xs) = ap (λ n. n + 1) (items_counted xs) ∙ (omega arith)
-
--- a list of another length is no pair
-pub not_two : (f : Data → Option Plain) (v : Value) (a : Vec Value Global) (xs : List Value) → v ≡ Array a → xs ≡ a.items → (length xs ≡ 2 → ⊥) → read_list (λ n. n == 2) f (view v) ≡ None
-not_two f v a xs e is other =
-    let count : (item_count (items_view xs) == 2) ≡ false = ap (λ n. n == 2) (items_counted xs) ∙ ne_eqb (length xs) 2 other in
-    rw (e, view-Array a, ← is, count) refl
 
 pub ruleset item_lemmas = (after-None, after-push, after-end, items_of-written)

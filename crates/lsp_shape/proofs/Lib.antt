@@ -1,5 +1,8 @@
 pub mod Clones
 pub mod Items
+pub mod Pairs
+pub mod Refusals
+pub mod Told
 pub mod Parts
 pub mod Names
 pub mod Ascending
@@ -11,8 +14,11 @@ pub mod Lists
 pub mod Recursive
 pub mod ReadsBack
 pub mod Settled
+pub mod Steps
 pub mod Entries
 pub mod Tables
 pub mod NotNull
 pub mod ReadClear
 pub mod Tested
+pub mod Maybe
+pub mod Firsts

@@ -11,18 +11,14 @@ use Rattle.lsp_shape.specs.Values.{is_of, are_fields, by_rule, is_none, is_maybe
 use Rattle.lsp_shape.specs.Object.{members_of, misfit_of, Takes, written_to, is_whole, Puts}
 use Rattle.lsp_shape.specs.declared.object.WideReader.{WideReader}
 use Rattle.lsp_shape.specs.declared.object.Writer.{Writer}
-use Rattle.lsp_shape.specs.declared.wire.Misfit.{Misfit}
-use Rattle.lsp_shape.specs.declared.wire.Misfit.TheVariants.{Unfit}
+use Rattle.lsp_shape.specs.Why.{Refuses, AnyRefuses, one_field, one_supported}
+use Rattle.lsp_shape.specs.declared.why.Misfit.{Misfit}
+use Rattle.lsp_shape.specs.declared.why.Misfit.TheVariants.{Unfit}
+use Rattle.lsp_shape.specs.declared.why.Why.{Why}
+use Rattle.lsp_shape.proofs.Refusals.{record_refuses}
 
 pub and_part-Some : {o : Option Plain} {r : Option Parts} {p : Plain} {ps : Parts} → o ≡ Some p → r ≡ Some ps → and_part o r ≡ Some (part p ps)
 and_part-Some {o} {r} {p} {ps} a b = rw (a, b) refl
-
-none_right : (o : Option Plain) (r : Option Parts) → r ≡ None → and_part o r ≡ None
-none_right None r a = refl
-none_right (Some p) r a = rw a refl
-
-pub none_left : (o : Option Plain) (r : Option Parts) → o ≡ None → and_part o r ≡ None
-none_left o r a = rw a refl
 
 -- the value is an object with these members, whose fields are read as these parts
 pub fields_some : (fs : Fields) (d : Data) (ms : Members) (ps : Parts) → d ≡ object ms → read_fields fs reads_none (object ms) ≡ Some ps → read (fields fs) d ≡ Some (parts ps)
@@ -46,13 +42,13 @@ later : (old new : WideReader) (fs : Fields) → members_of new ≡ members_of o
 later old new fs e = ap (λ (ms : Members). read_fields fs reads_none (object ms)) (sym e)
 
 -- a member whose misfit is told at the end
-pub reads_member : {old : WideReader} {name : List ℕ} {r : Rule} {s : Shape} {p : Plain} {fs : Fields} {ps : Parts} (new : WideReader) → Takes old new (read_member r (read s) (get_member name (members_of old))) p → Reads new fs ps → Reads old (field name r s fs) (part p ps)
+pub reads_member : {old : WideReader} {name : List ℕ} {r : Rule} {s : Shape} {p : Plain} {fs : Fields} {ps : Parts} (new : WideReader) → Takes old new (one_field name r s) (read_member r (read s) (get_member name (members_of old))) p → Reads new fs ps → Reads old (field name r s fs) (part p ps)
 reads_member {old} {name} {r} {s} {p} {fs} {ps} new t a = record {
   fits = t.1 a.fits;
   read = and_part-Some {o = read_member r (read s) (get_member name (members_of old))} (t.2 a.fits) (later old new fs t.0 ∙ a.read);
 }
 
-pub reads_supported : {old : WideReader} {name : List ℕ} {s : Shape} {p : Plain} {fs : Fields} {ps : Parts} (new : WideReader) → Takes old new (read_supported (read s) (get_member name (members_of old))) p → Reads new fs ps → Reads old (supported name s fs) (part p ps)
+pub reads_supported : {old : WideReader} {name : List ℕ} {s : Shape} {p : Plain} {fs : Fields} {ps : Parts} (new : WideReader) → Takes old new (one_supported name s) (read_supported (read s) (get_member name (members_of old))) p → Reads new fs ps → Reads old (supported name s fs) (part p ps)
 reads_supported {old} {name} {s} {p} {fs} {ps} new t a = record {
   fits = t.1 a.fits;
   read = and_part-Some {o = read_supported (read s) (get_member name (members_of old))} (t.2 a.fits) (later old new fs t.0 ∙ a.read);
@@ -68,48 +64,48 @@ reads_required {now} {name} {s} {p} {fs} {ps} e a = record {
 pub record_read : (fs : Fields) (ps : Parts) (now : WideReader) (d : Data) → d ≡ object (members_of now) → Reads now fs ps → read (fields fs) d ≡ Some (parts ps)
 record_read fs ps now d e a = fields_some fs d (members_of now) ps e a.read
 
--- from here on the fields are not read, or `Unfit` is to be told
-pub record Unread (now : WideReader) (fs : Fields) : Type 0 where
-  why : (misfit_of now ≡ Some Unfit) ⊎ (read_fields fs reads_none (object (members_of now)) ≡ None)
+-- from here on a field's reason is to be told, or that one was kept
+pub record Unread (now : WideReader) (fs : Fields) (reason : Why) : Type 0 where
+  why : (misfit_of now ≡ Some (Unfit reason)) ⊎ AnyRefuses fs (object (members_of now)) reason
 
-pub unread_end : (now : WideReader) → misfit_of now ≡ Some Unfit → Unread now no_fields
+pub unread_end : (now : WideReader) {reason : Why} → misfit_of now ≡ Some (Unfit reason) → Unread now no_fields reason
 unread_end now a = record { why = inl a }
 
-one_of_them : {A B : Type 0} (o : Option Plain) (r : Option Parts) → (A → (o ≡ None) ⊎ B) → A ⊎ (r ≡ None) → B ⊎ (and_part o r ≡ None)
-one_of_them {A} {B} o r f (inl a) = case (f a)
+earlier : (old new : WideReader) (fs : Fields) (reason : Why) → members_of new ≡ members_of old → AnyRefuses fs (object (members_of new)) reason → AnyRefuses fs (object (members_of old)) reason
+earlier old new fs reason e a = let P : Members → Type 0 = λ ms. AnyRefuses fs (object ms) reason in subst P e a
+
+one_of_them : {A B C D E : Type 0} → (A → B ⊎ C) → (D → E) → A ⊎ D → C ⊎ (B ⊎ E)
+one_of_them {A} {B} {C} {D} {E} f g (inl a) = case (f a)
   where
-    case : (o ≡ None) ⊎ B → B ⊎ (and_part o r ≡ None)
-    case (inl e) = inr (none_left o r e)
-    case (inr b) = inl b
-one_of_them o r f (inr e) = inr (none_right o r e)
+    case : B ⊎ C → C ⊎ (B ⊎ E)
+    case (inl b) = inr (inl b)
+    case (inr c) = inl c
+one_of_them f g (inr d) = inr (inr (g d))
 
-earlier : {A : Type 0} (old new : WideReader) (fs : Fields) → members_of new ≡ members_of old → A ⊎ (read_fields fs reads_none (object (members_of new)) ≡ None) → A ⊎ (read_fields fs reads_none (object (members_of old)) ≡ None)
-earlier old new fs e (inl a) = inl a
-earlier old new fs e (inr a) = inr (later old new fs e ∙ a)
+-- a member whose misfit is told at the end
+pub unread_member : {old : WideReader} {name : List ℕ} {r : Rule} {s : Shape} {p : Plain} {fs : Fields} {reason : Why} (new : WideReader) → Takes old new (one_field name r s) (read_member r (read s) (get_member name (members_of old))) p → Unread new fs reason → Unread old (field name r s fs) reason
+unread_member {old} {name} {r} {s} {p} {fs} {reason} new t a = record { why = one_of_them (t.3 reason) (earlier old new fs reason t.0) a.why }
 
-pub unread_member : {old : WideReader} {name : List ℕ} {r : Rule} {s : Shape} {p : Plain} {fs : Fields} (new : WideReader) → Takes old new (read_member r (read s) (get_member name (members_of old))) p → Unread new fs → Unread old (field name r s fs)
-unread_member {old} {name} {r} {s} {p} {fs} new t a = record { why = one_of_them (read_member r (read s) (get_member name (members_of old))) _ t.3 (earlier old new fs t.0 a.why) }
+pub unread_supported : {old : WideReader} {name : List ℕ} {s : Shape} {p : Plain} {fs : Fields} {reason : Why} (new : WideReader) → Takes old new (one_supported name s) (read_supported (read s) (get_member name (members_of old))) p → Unread new fs reason → Unread old (supported name s fs) reason
+unread_supported {old} {name} {s} {p} {fs} {reason} new t a = record { why = one_of_them (t.3 reason) (earlier old new fs reason t.0) a.why }
 
-pub unread_supported : {old : WideReader} {name : List ℕ} {s : Shape} {p : Plain} {fs : Fields} (new : WideReader) → Takes old new (read_supported (read s) (get_member name (members_of old))) p → Unread new fs → Unread old (supported name s fs)
-unread_supported {old} {name} {s} {p} {fs} new t a = record { why = one_of_them (read_supported (read s) (get_member name (members_of old))) _ t.3 (earlier old new fs t.0 a.why) }
-
-behind : {A : Type 0} (o : Option Plain) (r : Option Parts) → A ⊎ (r ≡ None) → A ⊎ (and_part o r ≡ None)
-behind o r (inl a) = inl a
-behind o r (inr e) = inr (none_right o r e)
+behind : {A B D : Type 0} → A ⊎ D → A ⊎ (B ⊎ D)
+behind (inl a) = inl a
+behind (inr d) = inr (inr d)
 
 -- a member that was read at once
-pub unread_required : {now : WideReader} {name : List ℕ} {s : Shape} {fs : Fields} → Unread now fs → Unread now (field name required s fs)
-unread_required {now} {name} {s} {fs} a = record { why = behind (read_member required (read s) (get_member name (members_of now))) _ a.why }
+pub unread_required : {now : WideReader} {name : List ℕ} {s : Shape} {fs : Fields} {reason : Why} → Unread now fs reason → Unread now (field name required s fs) reason
+unread_required {now} {name} {s} {fs} {reason} a = record { why = behind a.why }
 
-never : {A : Type 0} (m : Option Misfit) → m ≡ None → m ≡ Some Unfit → A
-never m a b = absurd (cc)
+never : {A : Type 0} (o : Option Misfit) (m : Misfit) → o ≡ None → o ≡ Some m → A
+never o m a b = absurd (cc)
 
-pub record_unread : (fs : Fields) (now : WideReader) (d : Data) → d ≡ object (members_of now) → misfit_of now ≡ None → Unread now fs → read (fields fs) d ≡ None
-record_unread fs now d e a u = fields_none fs d (members_of now) e (none u.why)
+pub record_unread : (fs : Fields) (now : WideReader) (d : Data) {reason : Why} → d ≡ object (members_of now) → misfit_of now ≡ None → Unread now fs reason → Refuses (fields fs) d reason
+record_unread fs now d {reason} e a u = let P : Data → Type 0 = λ x. Refuses (fields fs) x reason in subst P (sym e) (record_refuses fs (object (members_of now)) reason (told u.why))
   where
-    none : (misfit_of now ≡ Some Unfit) ⊎ (read_fields fs reads_none (object (members_of now)) ≡ None) → read_fields fs reads_none (object (members_of now)) ≡ None
-    none (inl b) = never (misfit_of now) a b
-    none (inr b) = b
+    told : (misfit_of now ≡ Some (Unfit reason)) ⊎ AnyRefuses fs (object (members_of now)) reason → AnyRefuses fs (object (members_of now)) reason
+    told (inl b) = never (misfit_of now) (Unfit reason) a b
+    told (inr b) = b
 
 -- ---- a record that is written, in the same way
 

@@ -10,3 +10,5 @@ pub mod Row
 pub mod FloatsRead
 pub mod FloatsWritten
 pub mod Object
+pub mod Why
+pub mod Unfit

@@ -1,13 +1,16 @@
 -- An object that is read, and one that is written.
 use Rattle.std.specs.Prelude.{◌≡◌, ◌⊎◌, Bool, true, Option, Some, None}
-use Rattle.serde_json.specs.Data.{Members}
+use Rattle.serde_json.specs.Data.{Members, object}
 use Rattle.serde_json.specs.View.{members_view}
 use Rattle.lsp_shape.specs.Plain.{Plain}
+use Rattle.lsp_shape.specs.Shape.{Shape}
+use Rattle.lsp_shape.specs.Why.{Refuses}
 use Rattle.lsp_shape.specs.declared.object.Reader.{Reader}
 use Rattle.lsp_shape.specs.declared.object.WideReader.{WideReader}
 use Rattle.lsp_shape.specs.declared.object.Writer.{Writer}
-use Rattle.lsp_shape.specs.declared.wire.Misfit.{Misfit}
-use Rattle.lsp_shape.specs.declared.wire.Misfit.TheVariants.{Unfit}
+use Rattle.lsp_shape.specs.declared.why.Misfit.{Misfit}
+use Rattle.lsp_shape.specs.declared.why.Misfit.TheVariants.{Unfit}
+use Rattle.lsp_shape.specs.declared.why.Why.{Why}
 
 -- the members of an object that is read
 abbrev pub read_from : Reader → Members
@@ -21,13 +24,14 @@ members_of reader = read_from reader.object
 abbrev pub misfit_of : WideReader → Option Misfit
 misfit_of reader = reader.misfit
 
--- A call took p for a member that is read as r. The first misfit is kept, and it is `Unfit` only where r is None.
-abbrev pub Takes : WideReader → WideReader → Option Plain → Plain → Type 0
-Takes old new r p =
+-- A call took p for a member that is read as r. The first misfit is kept, and another one says why a record of the member alone does
+-- not fit.
+abbrev pub Takes : WideReader → WideReader → Shape → Option Plain → Plain → Type 0
+Takes old new alone r p =
     (members_of new ≡ members_of old)
     × (misfit_of new ≡ None → misfit_of old ≡ None)
     × (misfit_of new ≡ None → r ≡ Some p)
-    × (misfit_of new ≡ Some Unfit → (r ≡ None) ⊎ (misfit_of old ≡ Some Unfit))
+    × ((why : Why) → misfit_of new ≡ Some (Unfit why) → Refuses alone (object (members_of old)) why ⊎ (misfit_of old ≡ Some (Unfit why)))
     × ((m : Misfit) → misfit_of old ≡ Some m → misfit_of new ≡ Some m)
 
 -- the members of an object that is written

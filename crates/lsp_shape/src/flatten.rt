@@ -1,14 +1,17 @@
 // Values whose members stand among others, and values that are told apart by how they are written.
-ghost use Rattle.std.specs.Prelude.{◌≡◌, IfOk, OnOk, true, option_map, option_and_then};
-ghost use Rattle.serde_json.specs.Data.{object as object_of, put as with_member, string};
+ghost use Rattle.std.specs.Prelude.{◌≡◌, IfOk, OnOk, true, Some, None, option_map, option_and_then};
+ghost use Rattle.serde_json.specs.Data.{Data, object as object_of, put as with_member, string};
 ghost use Rattle.serde_json.specs.Find.{get, as_str};
 ghost use Rattle.serde_json.specs.View.{view, members_view};
 ghost use Rattle.lsp_shape.specs.Read.{read};
+ghost use Rattle.lsp_shape.specs.Shape.{Shape};
 ghost use Rattle.lsp_shape.specs.Write.{write, put_all, members_in};
 ghost use Rattle.lsp_shape.specs.Values.{is_of};
+ghost use Rattle.lsp_shape.specs.Why.{Refuses, Lacks, IfUnfit, IsUnfit, HasFlat, fields_of};
 
 use crate::member::put_value;
-use crate::wire::{Misfit, Wire};
+use crate::why::{Misfit, Wanted, told_whole};
+use crate::wire::Wire;
 use no_memory::NoMemory;
 use serde_json::{Map, Value};
 use std::alloc::Global;
@@ -19,9 +22,40 @@ pub fn attempt<T: Wire>(alloc: Global, value: &Value) -> Result<Option<T>, NoMem
 {
     match T::from_value(alloc, value) {
         Ok(x) => Ok(Some(x)),
-        Err(Misfit::Unfit) => Ok(None),
+        Err(Misfit::Unfit(_)) => Ok(None),
         Err(Misfit::NoMemory) => Err(NoMemory),
     }
+}
+
+/// The value read as this type, which is one of several. Where it does not fit, one of several
+/// forms is wanted of it as a whole.
+pub fn form<T: Wire>(alloc: Global, value: &Value) -> Result<T, Misfit>
+    ensures read { IfOk result (λ x. read T.shape (view value.now) ≡ Some (T.shown x)) }
+    ensures unfit { IfUnfit result (λ why. read T.shape (view value.now) ≡ None) }
+    ensures refuses { IfUnfit result
+        (λ why. (s : Shape) (d : Data) → Lacks s d Wanted.Form → Refuses s d why) }
+{
+    as_form(T::from_value(alloc, value))
+}
+
+/// What was read of a value as one of several forms. Where it does not fit, one of these is wanted
+/// of it as a whole.
+pub fn as_form<T: Drop>(read: Result<T, Misfit>) -> Result<T, Misfit>
+    ensures ok { IfOk result (λ x. read ≡ Ok x) }
+    ensures unfit { IfUnfit result (λ _. IsUnfit read) }
+    ensures refuses { IfUnfit result
+        (λ why. (s : Shape) (d : Data) → Lacks s d Wanted.Form → Refuses s d why) }
+{
+    told_whole(read, Wanted::Form)
+}
+
+/// The value read as a type whose members stand among those of another.
+pub fn flat<T: Wire>(alloc: Global, value: &Value) -> Result<T, Misfit>
+    ensures read { IfOk result (λ x. read T.shape (view value.now) ≡ Some (T.shown x)) }
+    ensures unfit { IfUnfit result
+        (λ why. (t : Shape) → HasFlat T.shape (fields_of t) → Refuses t (view value.now) why) }
+{
+    T::from_value(alloc, value)
 }
 
 fn put_each(object: &mut Map<String, Value>, members: Map<String, Value>) -> Result<(), NoMemory>

@@ -10,10 +10,12 @@ mod object;
 mod std_types;
 mod text;
 mod tokens;
+mod unfit;
+mod why;
 mod wire;
 
 pub use copies::Copies;
-pub use flatten::{attempt, members_written, put_flat, put_tag, tag};
+pub use flatten::{as_form, attempt, flat, form, members_written, put_flat, put_tag, tag};
 pub use law::{read_value, reads_back, trimmed, write_value};
 pub use map::{Key, rest};
 pub use member::{
@@ -24,4 +26,6 @@ pub use no_memory::NoMemory;
 pub use object::{Reader, WideReader, Writer};
 pub use text::{TextMisfit, read_text, write_text};
 pub use tokens::TokenNumbers;
-pub use wire::{Misfit, Wire};
+pub use unfit::{Step, Unfit, why_unfit};
+pub use why::{MemberName, Misfit, Wanted, Why, told_item, told_member};
+pub use wire::Wire;

@@ -1,15 +1,18 @@
 // Maps: objects of any members, and maps from keys that are texts.
-ghost use Rattle.std.specs.Prelude.{◌≡◌, ◌↔◌, map, ℕ, List, Bool, bytes_eq, true, false, IfOk, OnOk, IsErrOf, Some, None, string_bytes};
+ghost use Rattle.std.specs.Prelude.{◌≡◌, ◌↔◌, map, ℕ, List, Bool, bytes_eq, true, false, IfOk, OnOk, Some, string_bytes};
 ghost use Rattle.std.proofs.Common.{rules};
 ghost use Rattle.std.specs.List.{list_any};
+ghost use Rattle.serde_json.specs.Data.{object as object_of};
 ghost use Rattle.serde_json.specs.View.{members_view};
 ghost use Rattle.lsp_shape.specs.Plain.{entries_of};
 ghost use Rattle.lsp_shape.specs.Shape.{map_of, object_shape, every_text};
 ghost use Rattle.lsp_shape.specs.Shown.{show_map, show_object};
-ghost use Rattle.lsp_shape.specs.Read.{read, read_entries};
+ghost use Rattle.lsp_shape.specs.Read.{read, read_entries, read_map};
+ghost use Rattle.lsp_shape.specs.Why.{Fails, IfUnfit, IsUnfit, IsWhole};
 
 use crate::member::put;
-use crate::wire::{Misfit, Wire};
+use crate::why::{Misfit, Wanted, told_member};
+use crate::wire::Wire;
 use no_memory::NoMemory;
 use serde_json::{Map, Value};
 use std::alloc::Global;
@@ -23,9 +26,9 @@ impl Wire for Map<String, Value> {
     ghost shown = { show_object };
 
     fn from_value(_alloc: Global, value: &Value) -> Result<Map<String, Value>, Misfit> {
-        match value {
-            Value::Object(members) => Ok(members.clone()?),
-            _ => Err(Misfit::Unfit),
+        match value.as_object() {
+            Some(members) => Ok(members.clone()?),
+            None => Err(Misfit::wanted(Wanted::Object)),
         }
     }
 
@@ -46,7 +49,7 @@ pub trait Key: Eq + Hash + Drop {
     fn from_text(alloc: Global, text: &str) -> Result<Self, Misfit>
         ensures read { IfOk result (λ k. key_text k ≡ text.now) }
         ensures fits { OnOk result (is_key text.now ≡ true) }
-        ensures unfit { IsErrOf result Misfit.Unfit ↔ (is_key text.now ≡ false) };
+        ensures unfit { IsUnfit result ↔ (is_key text.now ≡ false) };
 
     fn as_text(&self) -> &str
         ensures shown { result.now ≡ key_text self.now }
@@ -78,9 +81,9 @@ impl<K: Key, T: Wire> Wire for HashMap<K, T> {
     ghost shown = { show_map K.key_text T.shown };
 
     fn from_value(alloc: Global, value: &Value) -> Result<HashMap<K, T>, Misfit> {
-        match value {
-            Value::Object(members) => rest(alloc, members, &[]),
-            _ => Err(Misfit::Unfit),
+        match value.as_object() {
+            Some(members) => rest(alloc, members, &[]),
+            None => Err(Misfit::wanted(Wanted::Object)),
         }
     }
 
@@ -102,20 +105,34 @@ pub fn rest<K: Key, T: Wire>(
     ensures read { IfOk result
         (λ m. read_entries (map (λ n. n.now) names.now) K.is_key (read T.shape)
         (members_view members.now.entries) ≡ Some (entries_of K.key_text T.shown m.entries)) }
-    ensures unfit { IsErrOf result Misfit.Unfit
-        → read_entries (map (λ n. n.now) names.now) K.is_key (read T.shape)
-        (members_view members.now.entries) ≡ None }
+    ensures unfit { IfUnfit result
+        (λ why. Fails
+        (read_map (read_entries (map (λ n. n.now) names.now) K.is_key (read T.shape)))
+        (object_of (members_view members.now.entries)) why) }
 {
     let mut entries = HashMap::new(alloc);
     for (name, member) in members.iter() {
         if is_named(names, name.as_str()) {
             continue;
         }
-        let key = K::from_text(alloc, name.as_str())?;
-        let value = T::from_value(alloc, member)?;
+        let key = key_of(alloc, name.as_str())?;
+        let value = told_member(members, name.as_str(), T::from_value(alloc, member))?;
         drop(entries.insert(key, value)?);
     }
     Ok(entries)
+}
+
+// The key of that text. Where it is none, the map has a member of another name than is wanted.
+fn key_of<K: Key>(alloc: Global, text: &str) -> Result<K, Misfit>
+    ensures read { IfOk result (λ k. K.key_text k ≡ text.now) }
+    ensures fits { OnOk result (K.is_key text.now ≡ true) }
+    ensures unfit { IfUnfit result (λ why. K.is_key text.now ≡ false) }
+    ensures whole { IfUnfit result (λ why. IsWhole Wanted.Keys why) }
+{
+    match K::from_text(alloc, text) {
+        Ok(key) => Ok(key),
+        Err(misfit) => Err(misfit.whole(Wanted::Keys)),
+    }
 }
 
 fn is_named(names: &[&str], name: &str) -> bool

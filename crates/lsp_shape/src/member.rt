@@ -1,17 +1,19 @@
 // Members of an object, read and written.
-ghost use Rattle.std.specs.Prelude.{◌≡◌, IfOk, OnOk, OnErr, true, IsErrOf, Some, None, option_map};
-ghost use Rattle.serde_json.specs.Data.{put as with_member, string};
+ghost use Rattle.std.specs.Prelude.{◌≡◌, IfOk, OnOk, OnErr, true, Some, None, option_map};
+ghost use Rattle.serde_json.specs.Data.{object as object_of, put as with_member, string};
 ghost use Rattle.serde_json.specs.Find.{get_member};
 ghost use Rattle.serde_json.specs.View.{view, members_view};
 ghost use Rattle.lsp_shape.specs.Plain.{maybe_of};
-ghost use Rattle.lsp_shape.specs.Shape.{required, omitted, or_empty, or_false, list, truth};
+ghost use Rattle.lsp_shape.specs.Shape.{Shape, required, omitted, or_empty, or_false, list, truth};
 ghost use Rattle.lsp_shape.specs.Shown.{show_list, show_bool};
-ghost use Rattle.lsp_shape.specs.Read.{read, read_member, read_supported, empty_set};
+ghost use Rattle.lsp_shape.specs.Read.{read, read_member, read_supported, read_or_truth, or_absent, empty_set};
 ghost use Rattle.lsp_shape.specs.Write.{write, write_member, write_maybe, put_present};
 ghost use Rattle.lsp_shape.specs.Shape.{unless_empty, unless_false};
 ghost use Rattle.lsp_shape.specs.Values.{is_of, is_maybe};
+ghost use Rattle.lsp_shape.specs.Why.{Refuses, Fails, IfUnfit, IsUnfit, IsWhole, fields_of, named_field, named_supported, one_field, one_supported};
 
-use crate::wire::{Misfit, Wire};
+use crate::why::{Misfit, Wanted, told_member, told_whole};
+use crate::wire::Wire;
 use no_memory::NoMemory;
 use serde_json::{Map, Value};
 use std::alloc::Global;
@@ -29,15 +31,15 @@ pub fn field<T: Wire>(alloc: Global, object: &Map<String, Value>, name: &str) ->
     ensures read { IfOk result
         (λ x. read_member required (read T.shape)
         (get_member name.now (members_view object.now.entries)) ≡ Some (T.shown x)) }
-    ensures unfit { IsErrOf result Misfit.Unfit
-        → read_member required (read T.shape)
-        (get_member name.now (members_view object.now.entries)) ≡ None }
+    ensures unfit { IfUnfit result
+        (λ why. (t : Shape) → named_field name.now (fields_of t) ≡ Some (required, T.shape)
+        → Refuses t (object_of (members_view object.now.entries)) why) }
     ensures missing { get_member name.now (members_view object.now.entries) ≡ None
-        → IsErrOf result Misfit.Unfit }
+        → IsUnfit result }
 {
     match find(object, name) {
-        Some(value) => T::from_value(alloc, value),
-        None => Err(Misfit::Unfit),
+        Some(value) => told_member(object, name, T::from_value(alloc, value)),
+        None => Err(Misfit::wanted(Wanted::member(name))),
     }
 }
 
@@ -51,12 +53,15 @@ pub fn optional<T: Wire>(
         (λ o. read_member omitted (read T.shape)
         (get_member name.now (members_view object.now.entries))
         ≡ Some (maybe_of (option_map T.shown o))) }
-    ensures unfit { IsErrOf result Misfit.Unfit
-        → read_member omitted (read T.shape) (get_member name.now (members_view object.now.entries))
-        ≡ None }
+    ensures alone { IfUnfit result
+        (λ why. Refuses (one_field name.now omitted T.shape)
+        (object_of (members_view object.now.entries)) why) }
+    ensures unfit { IfUnfit result
+        (λ why. (t : Shape) → named_field name.now (fields_of t) ≡ Some (omitted, T.shape)
+        → Refuses t (object_of (members_view object.now.entries)) why) }
 {
     match find(object, name) {
-        Some(value) => Option::<T>::from_value(alloc, value),
+        Some(value) => told_member(object, name, Option::<T>::from_value(alloc, value)),
         None => Ok(None),
     }
 }
@@ -71,17 +76,56 @@ pub fn supported<T: Wire>(
     ensures read { IfOk result
         (λ o. read_supported (read T.shape) (get_member name.now (members_view object.now.entries))
         ≡ Some (maybe_of (option_map T.shown o))) }
-    ensures unfit { IsErrOf result Misfit.Unfit
-        → read_supported (read T.shape) (get_member name.now (members_view object.now.entries))
-        ≡ None }
+    ensures alone { IfUnfit result
+        (λ why. Refuses (one_supported name.now T.shape)
+        (object_of (members_view object.now.entries)) why) }
+    ensures unfit { IfUnfit result
+        (λ why. (t : Shape) → named_supported name.now (fields_of t) ≡ Some T.shape
+        → Refuses t (object_of (members_view object.now.entries)) why) }
 {
     match find(object, name) {
+        Some(value) => told_member(object, name, supported_value(alloc, value)),
         None => Ok(None),
-        Some(Value::Null) => Ok(None),
-        Some(Value::Bool(false)) => Ok(None),
-        Some(Value::Bool(true)) => Ok(Some(T::from_value(alloc, &empty_value_set(alloc)?)?)),
-        Some(value) => Ok(Some(T::from_value(alloc, value)?)),
     }
+}
+
+// What the value is read as, where it may be null, true or false too.
+fn supported_value<T: Wire>(alloc: Global, value: &Value) -> Result<Option<T>, Misfit>
+    ensures read { IfOk result
+        (λ o. read_or_truth (read T.shape) (view value.now)
+        ≡ Some (maybe_of (option_map T.shown o))) }
+    ensures unfit { IfUnfit result
+        (λ why. Fails (read_or_truth (read T.shape)) (view value.now) why) }
+{
+    match value.as_bool() {
+        Some(is_supported) => truth_supported(alloc, is_supported),
+        None => Option::<T>::from_value(alloc, value),
+    }
+}
+
+// What false is read as, and true.
+fn truth_supported<T: Wire>(alloc: Global, is_supported: bool) -> Result<Option<T>, Misfit>
+    ensures read { IfOk result
+        (λ o. or_absent is_supported (read T.shape) ≡ Some (maybe_of (option_map T.shown o))) }
+    ensures unfit { IfUnfit result (λ why. or_absent is_supported (read T.shape) ≡ None) }
+    ensures whole { IfUnfit result (λ why. IsWhole Wanted.Form why) }
+{
+    if is_supported {
+        set_supported(alloc)
+    } else {
+        Ok(None)
+    }
+}
+
+// What true is read as.
+fn set_supported<T: Wire>(alloc: Global) -> Result<Option<T>, Misfit>
+    ensures read { IfOk result
+        (λ o. or_absent true (read T.shape) ≡ Some (maybe_of (option_map T.shown o))) }
+    ensures unfit { IfUnfit result (λ why. or_absent true (read T.shape) ≡ None) }
+    ensures whole { IfUnfit result (λ why. IsWhole Wanted.Form why) }
+{
+    let set = empty_value_set(alloc)?;
+    Ok(Some(told_whole(T::from_value(alloc, &set), Wanted::Form)?))
 }
 
 fn empty_value_set(alloc: Global) -> Result<Value, NoMemory>
@@ -106,12 +150,12 @@ pub fn list_or_empty<T: Wire>(
     ensures read { IfOk result
         (λ x. read_member or_empty (read (list T.shape))
         (get_member name.now (members_view object.now.entries)) ≡ Some (show_list T.shown x)) }
-    ensures unfit { IsErrOf result Misfit.Unfit
-        → read_member or_empty (read (list T.shape))
-        (get_member name.now (members_view object.now.entries)) ≡ None }
+    ensures unfit { IfUnfit result
+        (λ why. (t : Shape) → named_field name.now (fields_of t) ≡ Some (or_empty, (list T.shape))
+        → Refuses t (object_of (members_view object.now.entries)) why) }
 {
     match find(object, name) {
-        Some(value) => Vec::<T>::from_value(alloc, value),
+        Some(value) => told_member(object, name, Vec::<T>::from_value(alloc, value)),
         None => Ok(Vec::new(alloc)),
     }
 }
@@ -125,12 +169,12 @@ pub fn truth_or_false(
     ensures read { IfOk result
         (λ b. read_member or_false (read truth)
         (get_member name.now (members_view object.now.entries)) ≡ Some (show_bool b)) }
-    ensures unfit { IsErrOf result Misfit.Unfit
-        → read_member or_false (read truth) (get_member name.now (members_view object.now.entries))
-        ≡ None }
+    ensures unfit { IfUnfit result
+        (λ why. (t : Shape) → named_field name.now (fields_of t) ≡ Some (or_false, truth)
+        → Refuses t (object_of (members_view object.now.entries)) why) }
 {
     match find(object, name) {
-        Some(value) => bool::from_value(alloc, value),
+        Some(value) => told_member(object, name, bool::from_value(alloc, value)),
         None => Ok(false),
     }
 }

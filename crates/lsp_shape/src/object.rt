@@ -1,20 +1,23 @@
 // An object that is read, and one that is written. A writer, and the reader of a wide record, tell at
 // their end what failed, so that a record with many members is written or read line by line, with no
 // test after each.
-ghost use Rattle.std.specs.Prelude.{◌≡◌, IfOk, OnOk, IsOk, true, IsErrOf, Some, None, option_map, Option, List, ℕ, map};
-ghost use Rattle.serde_json.specs.Data.{Data, Members, object as object_of, put as with_member, no_members, string};
+ghost use Rattle.std.specs.Prelude.{◌≡◌, IfOk, OnOk, IsOk, IsErrOf, true, Some, None, option_map, List, ℕ, map};
+ghost use Rattle.serde_json.specs.Data.{object as object_of, put as with_member, no_members, string};
 ghost use Rattle.serde_json.specs.Find.{get_member};
 ghost use Rattle.serde_json.specs.View.{view};
 ghost use Rattle.lsp_shape.specs.Object.{read_from, members_of, misfit_of, Takes, written_to, is_whole, Puts};
-ghost use Rattle.lsp_shape.specs.Plain.{maybe_of, Parts, entries_of};
-ghost use Rattle.lsp_shape.specs.Shape.{required, omitted, or_empty, or_false, list, truth, unless_empty, unless_false};
+ghost use Rattle.lsp_shape.specs.Plain.{maybe_of, entries_of};
+ghost use Rattle.lsp_shape.specs.Shape.{Shape, required, omitted, or_empty, or_false, list, truth, unless_empty, unless_false};
 ghost use Rattle.lsp_shape.specs.Shown.{show_list, show_bool};
-ghost use Rattle.lsp_shape.specs.Read.{read, read_member, read_record, read_supported, read_entries, read_with_rest};
+ghost use Rattle.lsp_shape.specs.Read.{read, read_member, read_supported, read_entries};
 ghost use Rattle.lsp_shape.specs.Write.{write, write_member, write_maybe, put_present, put_all, members_in};
 ghost use Rattle.lsp_shape.specs.Values.{is_of, is_maybe};
+ghost use Rattle.lsp_shape.specs.Why.{Refuses, IfUnfit, IsUnfit, suits, fields_of, named_field, named_supported, IsMapBeside, one_field, one_supported};
+ghost use Rattle.lsp_shape.specs.declared.why.Misfit.TheVariants as misfits;
 
 use crate::map::{self, Key};
-use crate::wire::{Misfit, Wire};
+use crate::why::{Misfit, Wanted};
+use crate::wire::Wire;
 use crate::{flatten, member};
 use no_memory::NoMemory;
 use serde_json::{Map, Value};
@@ -32,15 +35,12 @@ impl<'v> Reader<'v> {
     /// The members of the object that the value is. `Unfit` comes only where it is none.
     pub fn new(alloc: Global, value: &'v Value) -> Result<Reader<'v>, Misfit>
         ensures ok { IfOk result (λ r. view value.now ≡ object_of (read_from r)) }
-        ensures unfit { IsErrOf result Misfit.Unfit → (f : Data → Option Parts)
-            → read_record f (view value.now) ≡ None }
-        ensures unfit_rest { IsErrOf result Misfit.Unfit
-            → (f : Members → Option Parts) (g : Data → Option Parts)
-            → read_with_rest f g (view value.now) ≡ None }
+        ensures unfit { IfUnfit result
+            (λ why. (t : Shape) → suits t Wanted.Object ≡ true → Refuses t (view value.now) why) }
     {
-        match value {
-            Value::Object(object) => Ok(Reader { alloc, object }),
-            _ => Err(Misfit::Unfit),
+        match value.as_object() {
+            Some(object) => Ok(Reader { alloc, object }),
+            None => Err(Misfit::wanted(Wanted::Object)),
         }
     }
 
@@ -49,11 +49,11 @@ impl<'v> Reader<'v> {
         ensures read { IfOk result
             (λ x. read_member required (read T.shape) (get_member name.now (read_from self.now))
             ≡ Some (T.shown x)) }
-        ensures unfit { IsErrOf result Misfit.Unfit
-            → read_member required (read T.shape) (get_member name.now (read_from self.now))
-            ≡ None }
+        ensures unfit { IfUnfit result
+            (λ why. (t : Shape) → named_field name.now (fields_of t) ≡ Some (required, T.shape)
+            → Refuses t (object_of (read_from self.now)) why) }
         ensures missing { get_member name.now (read_from self.now) ≡ None
-            → IsErrOf result Misfit.Unfit }
+            → IsUnfit result }
     {
         member::field(self.alloc, self.object, name)
     }
@@ -63,8 +63,11 @@ impl<'v> Reader<'v> {
         ensures read { IfOk result
             (λ o. read_member omitted (read T.shape) (get_member name.now (read_from self.now))
             ≡ Some (maybe_of (option_map T.shown o))) }
-        ensures unfit { IsErrOf result Misfit.Unfit
-            → read_member omitted (read T.shape) (get_member name.now (read_from self.now)) ≡ None }
+        ensures alone { IfUnfit result
+            (λ why. Refuses (one_field name.now omitted T.shape) (object_of (read_from self.now)) why) }
+        ensures unfit { IfUnfit result
+            (λ why. (t : Shape) → named_field name.now (fields_of t) ≡ Some (omitted, T.shape)
+            → Refuses t (object_of (read_from self.now)) why) }
     {
         member::optional(self.alloc, self.object, name)
     }
@@ -74,8 +77,11 @@ impl<'v> Reader<'v> {
         ensures read { IfOk result
             (λ o. read_supported (read T.shape) (get_member name.now (read_from self.now))
             ≡ Some (maybe_of (option_map T.shown o))) }
-        ensures unfit { IsErrOf result Misfit.Unfit
-            → read_supported (read T.shape) (get_member name.now (read_from self.now)) ≡ None }
+        ensures alone { IfUnfit result
+            (λ why. Refuses (one_supported name.now T.shape) (object_of (read_from self.now)) why) }
+        ensures unfit { IfUnfit result
+            (λ why. (t : Shape) → named_supported name.now (fields_of t) ≡ Some T.shape
+            → Refuses t (object_of (read_from self.now)) why) }
     {
         member::supported(self.alloc, self.object, name)
     }
@@ -85,9 +91,9 @@ impl<'v> Reader<'v> {
         ensures read { IfOk result
             (λ x. read_member or_empty (read (list T.shape))
             (get_member name.now (read_from self.now)) ≡ Some (show_list T.shown x)) }
-        ensures unfit { IsErrOf result Misfit.Unfit
-            → read_member or_empty (read (list T.shape)) (get_member name.now (read_from self.now))
-            ≡ None }
+        ensures unfit { IfUnfit result
+            (λ why. (t : Shape) → named_field name.now (fields_of t) ≡ Some (or_empty, (list T.shape))
+            → Refuses t (object_of (read_from self.now)) why) }
     {
         member::list_or_empty(self.alloc, self.object, name)
     }
@@ -97,8 +103,9 @@ impl<'v> Reader<'v> {
         ensures read { IfOk result
             (λ b. read_member or_false (read truth) (get_member name.now (read_from self.now))
             ≡ Some (show_bool b)) }
-        ensures unfit { IsErrOf result Misfit.Unfit
-            → read_member or_false (read truth) (get_member name.now (read_from self.now)) ≡ None }
+        ensures unfit { IfUnfit result
+            (λ why. (t : Shape) → named_field name.now (fields_of t) ≡ Some (or_false, truth)
+            → Refuses t (object_of (read_from self.now)) why) }
     {
         member::truth_or_false(self.alloc, self.object, name)
     }
@@ -108,9 +115,9 @@ impl<'v> Reader<'v> {
         ensures read { IfOk result
             (λ m. read_entries (map (λ n. n.now) names.now) K.is_key (read T.shape)
             (read_from self.now) ≡ Some (entries_of K.key_text T.shown m.entries)) }
-        ensures unfit { IsErrOf result Misfit.Unfit
-            → read_entries (map (λ n. n.now) names.now) K.is_key (read T.shape) (read_from self.now)
-            ≡ None }
+        ensures unfit { IfUnfit result
+            (λ why. (t : Shape) → IsMapBeside T.shape (map (λ n. n.now) names.now) t
+            → ((k : List ℕ) → K.is_key k ≡ true) → Refuses t (object_of (read_from self.now)) why) }
     {
         map::rest(self.alloc, self.object, names)
     }
@@ -131,8 +138,8 @@ impl<'v> WideReader<'v> {
     pub fn new(alloc: Global, value: &'v Value) -> Result<WideReader<'v>, Misfit>
         ensures ok { IfOk result (λ r. view value.now ≡ object_of (members_of r)) }
         ensures fits { IfOk result (λ r. misfit_of r ≡ None) }
-        ensures unfit { IsErrOf result Misfit.Unfit → (f : Data → Option Parts)
-            → read_record f (view value.now) ≡ None }
+        ensures unfit { IfUnfit result
+            (λ why. (t : Shape) → suits t Wanted.Object ≡ true → Refuses t (view value.now) why) }
     {
         Ok(WideReader {
             object: Reader::new(alloc, value)?,
@@ -145,11 +152,11 @@ impl<'v> WideReader<'v> {
         ensures read { IfOk result
             (λ x. read_member required (read T.shape) (get_member name.now (members_of self.now))
             ≡ Some (T.shown x)) }
-        ensures unfit { IsErrOf result Misfit.Unfit
-            → read_member required (read T.shape) (get_member name.now (members_of self.now))
-            ≡ None }
+        ensures unfit { IfUnfit result
+            (λ why. (t : Shape) → named_field name.now (fields_of t) ≡ Some (required, T.shape)
+            → Refuses t (object_of (members_of self.now)) why) }
         ensures missing { get_member name.now (members_of self.now) ≡ None
-            → IsErrOf result Misfit.Unfit }
+            → IsUnfit result }
     {
         self.object.field(name)
     }
@@ -157,6 +164,7 @@ impl<'v> WideReader<'v> {
     /// The member of that name, and None where it is missing or null.
     pub fn optional<T: Wire>(&mut self, name: &str) -> Option<T>
         ensures { Takes self.old self.new
+            (one_field name.now omitted T.shape)
             (read_member omitted (read T.shape) (get_member name.now (members_of self.old)))
             (maybe_of (option_map T.shown result)) }
     {
@@ -175,6 +183,7 @@ impl<'v> WideReader<'v> {
     /// The same, but false is None too, and true is read as `{"valueSet": []}` is.
     pub fn supported<T: Wire>(&mut self, name: &str) -> Option<T>
         ensures { Takes self.old self.new
+            (one_supported name.now T.shape)
             (read_supported (read T.shape) (get_member name.now (members_of self.old)))
             (maybe_of (option_map T.shown result)) }
     {
@@ -194,7 +203,7 @@ impl<'v> WideReader<'v> {
     pub fn end<T: Drop>(self, read: T) -> Result<T, Misfit>
         ensures value { IfOk result (λ x. x ≡ read) }
         ensures fits { OnOk result (misfit_of self.entry ≡ None) }
-        ensures unfit { IsErrOf result Misfit.Unfit → misfit_of self.entry ≡ Some Misfit.Unfit }
+        ensures unfit { IfUnfit result (λ why. misfit_of self.entry ≡ Some (misfits.Unfit why)) }
         ensures no_memory { IsErrOf result Misfit.NoMemory
             → misfit_of self.entry ≡ Some Misfit.NoMemory }
     {

@@ -10,7 +10,8 @@ ghost use Rattle.lsp_shape.specs.Write.{write};
 ghost use Rattle.lsp_shape.specs.Values.{is_of};
 ghost use Rattle.lsp_shape.specs.declared.text.TextMisfit.TheVariants as misfits;
 
-use crate::wire::{Misfit, Wire};
+use crate::why::Misfit;
+use crate::wire::Wire;
 use no_memory::NoMemory;
 use serde_json::Value;
 use std::alloc::Global;
@@ -62,7 +63,7 @@ pub fn read_text<T: Wire>(alloc: Global, text: &str) -> Result<T, TextMisfit>
     let value = parse(alloc, text)?;
     match T::from_value(alloc, &value) {
         Ok(read) => Ok(read),
-        Err(Misfit::Unfit) => Err(TextMisfit::Unfit),
+        Err(Misfit::Unfit(_)) => Err(TextMisfit::Unfit),
         Err(Misfit::NoMemory) => Err(TextMisfit::NoMemory),
     }
 }

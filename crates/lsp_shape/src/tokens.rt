@@ -1,9 +1,12 @@
 // The numbers of a list of tokens.
 ghost use Rattle.std.specs.Prelude.{◌≡◌, ◌≢◌, ◌%◌, IfOk, OnOk, IsErrOf, length};
-ghost use Rattle.lsp_shape.specs.Shape.{tokens};
+ghost use Rattle.serde_json.specs.Data.{Data};
+ghost use Rattle.lsp_shape.specs.Shape.{Shape, tokens};
 ghost use Rattle.lsp_shape.specs.Shown.{show_tokens};
+ghost use Rattle.lsp_shape.specs.Why.{Refuses, Lacks, IfUnfit, IsUnfit};
 
-use crate::wire::{Misfit, Wire};
+use crate::why::{Misfit, Wanted};
+use crate::wire::Wire;
 use no_memory::NoMemory;
 use serde_json::Value;
 use std::alloc::Global;
@@ -38,13 +41,15 @@ impl TokenNumbers {
     pub fn try_new(numbers: Vec<u32>) -> Result<TokenNumbers, Misfit>
         ensures numbers { IfOk result (λ t. t ≡ numbers.items) }
         ensures fives { OnOk result (length numbers.items % 5 ≡ 0) }
-        ensures unfit { IsErrOf result Misfit.Unfit → length numbers.items % 5 ≢ 0 }
+        ensures unfit { IsUnfit result → length numbers.items % 5 ≢ 0 }
+        ensures refuses { IfUnfit result
+            (λ why. (s : Shape) (d : Data) → Lacks s d Wanted.Length → Refuses s d why) }
         ensures no_memory { ¬ IsErrOf result Misfit.NoMemory }
     {
         if numbers.len() % 5 == 0 {
             Ok(TokenNumbers { numbers })
         } else {
-            Err(Misfit::Unfit)
+            Err(Misfit::wanted(Wanted::Length))
         }
     }
 

@@ -1,4 +1,4 @@
-ghost use Rattle.std.specs.Prelude.{◌≡◌, IfOk, OnOk, true, false, IsErrOf, Some, None};
+ghost use Rattle.std.specs.Prelude.{◌≡◌, IfOk, OnOk, true, false, Some};
 ghost use Rattle.serde_json.specs.Data.{Data};
 ghost use Rattle.serde_json.specs.View.{view};
 ghost use Rattle.serde_json.specs.Written.{has_float};
@@ -7,46 +7,14 @@ ghost use Rattle.lsp_shape.specs.Shape.{Shape};
 ghost use Rattle.lsp_shape.specs.Read.{read};
 ghost use Rattle.lsp_shape.specs.Write.{write};
 ghost use Rattle.lsp_shape.specs.Values.{is_of};
-ghost use Rattle.lsp_shape.specs.declared.wire.Misfit.TheVariants as misfits;
+ghost use Rattle.lsp_shape.specs.Why.{Refuses, IfUnfit};
 ghost use Rattle.lsp_shape.specs.FloatsRead.{read_floatless};
 ghost use Rattle.lsp_shape.specs.FloatsWritten.{write_floatless};
 
+use crate::why::Misfit;
 use no_memory::NoMemory;
 use serde_json::Value;
-use std::alloc::{AllocError, AllocFailed, Global};
-
-/// Why a value is not read.
-#[derive(Clone, Copy, Debug, PartialEq, Eq)]
-pub enum Misfit {
-    /// The value does not fit the shape of the type.
-    Unfit,
-    /// Out of memory.
-    NoMemory,
-}
-
-impl From<AllocError> for Misfit {
-    ghost from_gives = { λ _ m. m ≡ misfits.NoMemory };
-
-    fn from(_error: AllocError) -> Misfit {
-        Misfit::NoMemory
-    }
-}
-
-impl From<NoMemory> for Misfit {
-    ghost from_gives = { λ _ m. m ≡ misfits.NoMemory };
-
-    fn from(_error: NoMemory) -> Misfit {
-        Misfit::NoMemory
-    }
-}
-
-impl<T: Drop> From<AllocFailed<T>> for Misfit {
-    ghost from_gives = { λ _ m. m ≡ misfits.NoMemory };
-
-    fn from(_error: AllocFailed<T>) -> Misfit {
-        Misfit::NoMemory
-    }
-}
+use std::alloc::Global;
 
 /// A type that is read from a JSON value, and written as one.
 ///
@@ -59,10 +27,11 @@ pub trait Wire: Drop {
     /// What a value of the type is, as plain data.
     ghost shown: { Self → Plain };
 
-    /// The value that the JSON value is read as. `Unfit` comes only where it does not fit.
+    /// The value that the JSON value is read as. `Unfit` comes only where it does not fit, and says
+    /// why.
     fn from_value(alloc: Global, value: &Value) -> Result<Self, Misfit>
         ensures read { IfOk result (λ x. read shape (view value.now) ≡ Some (shown x)) }
-        ensures unfit { IsErrOf result Misfit.Unfit → read shape (view value.now) ≡ None };
+        ensures unfit { IfUnfit result (λ why. Refuses shape (view value.now) why) };
 
     /// What is written for the value: its plain data, by the shape. The one error is out of memory.
     fn to_value(&self, alloc: Global) -> Result<Value, NoMemory>

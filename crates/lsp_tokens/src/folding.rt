@@ -3,7 +3,7 @@ ghost use Rattle.lsp_tokens.specs.Folding.{folding_range_params_row, folding_ran
 
 use lsp_base::{PartialResultParams, TextDocumentIdentifier, WorkDoneProgressParams};
 use lsp_names::FoldingRangeKind;
-use lsp_shape::{Misfit, NoMemory, Reader, Wire, Writer};
+use lsp_shape::{Misfit, NoMemory, Reader, Wire, Writer, flat};
 use serde_json::Value;
 use std::alloc::Global;
 
@@ -31,8 +31,8 @@ impl Wire for FoldingRangeParams {
         let object = Reader::new(alloc, value)?;
         Ok(FoldingRangeParams {
             text_document: object.field("textDocument")?,
-            work_done_progress_params: WorkDoneProgressParams::from_value(alloc, value)?,
-            partial_result_params: PartialResultParams::from_value(alloc, value)?,
+            work_done_progress_params: flat(alloc, value)?,
+            partial_result_params: flat(alloc, value)?,
         })
     }
 

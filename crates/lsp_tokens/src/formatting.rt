@@ -3,7 +3,7 @@ ghost use Rattle.std.specs.Prelude.{◌≡◌, None, [], false};
 ghost use Rattle.lsp_tokens.specs.Formatting.{document_formatting_params_row, formatting_options_row, formatting_property_row, document_range_formatting_params_row, document_on_type_formatting_params_row};
 
 use lsp_base::{Range, TextDocumentIdentifier, TextDocumentPositionParams, WorkDoneProgressParams};
-use lsp_shape::{Misfit, NoMemory, Reader, Wire, Writer, attempt};
+use lsp_shape::{Misfit, NoMemory, Reader, Wire, Writer, attempt, flat, form};
 use serde_json::Value;
 use std::alloc::Global;
 use std::collections::HashMap;
@@ -32,7 +32,7 @@ impl Wire for DocumentFormattingParams {
         Ok(DocumentFormattingParams {
             text_document: object.field("textDocument")?,
             options: object.field("options")?,
-            work_done_progress_params: WorkDoneProgressParams::from_value(alloc, value)?,
+            work_done_progress_params: flat(alloc, value)?,
         })
     }
 
@@ -146,7 +146,7 @@ impl Wire for FormattingProperty {
         if let Some(number) = attempt(alloc, value)? {
             return Ok(FormattingProperty::Number(number));
         }
-        Ok(FormattingProperty::String(String::from_value(alloc, value)?))
+        Ok(FormattingProperty::String(form(alloc, value)?))
     }
 
     fn to_value(&self, alloc: Global) -> Result<Value, NoMemory> {
@@ -185,7 +185,7 @@ impl Wire for DocumentRangeFormattingParams {
             text_document: object.field("textDocument")?,
             range: object.field("range")?,
             options: object.field("options")?,
-            work_done_progress_params: WorkDoneProgressParams::from_value(alloc, value)?,
+            work_done_progress_params: flat(alloc, value)?,
         })
     }
 
@@ -223,7 +223,7 @@ impl Wire for DocumentOnTypeFormattingParams {
     fn from_value(alloc: Global, value: &Value) -> Result<DocumentOnTypeFormattingParams, Misfit> {
         let object = Reader::new(alloc, value)?;
         Ok(DocumentOnTypeFormattingParams {
-            text_document_position: TextDocumentPositionParams::from_value(alloc, value)?,
+            text_document_position: flat(alloc, value)?,
             ch: object.field("ch")?,
             options: object.field("options")?,
         })

@@ -2,7 +2,7 @@
 ghost use Rattle.lsp_tokens.specs.Moniker.{moniker_params_row, moniker_row, uniqueness_level_row, moniker_kind_row};
 
 use lsp_base::{PartialResultParams, TextDocumentPositionParams, WorkDoneProgressParams};
-use lsp_shape::{Misfit, NoMemory, Reader, Wire, Writer};
+use lsp_shape::{Misfit, NoMemory, Reader, Wanted, Wire, Writer, flat};
 use serde_json::Value;
 use std::alloc::Global;
 
@@ -28,9 +28,9 @@ impl Wire for MonikerParams {
 
     fn from_value(alloc: Global, value: &Value) -> Result<MonikerParams, Misfit> {
         Ok(MonikerParams {
-            text_document_position_params: TextDocumentPositionParams::from_value(alloc, value)?,
-            work_done_progress_params: WorkDoneProgressParams::from_value(alloc, value)?,
-            partial_result_params: PartialResultParams::from_value(alloc, value)?,
+            text_document_position_params: flat(alloc, value)?,
+            work_done_progress_params: flat(alloc, value)?,
+            partial_result_params: flat(alloc, value)?,
         })
     }
 
@@ -113,7 +113,7 @@ impl Wire for UniquenessLevel {
             Some("group") => Ok(UniquenessLevel::Group),
             Some("scheme") => Ok(UniquenessLevel::Scheme),
             Some("global") => Ok(UniquenessLevel::Global),
-            _ => Err(Misfit::Unfit),
+            _ => Err(Misfit::wanted(Wanted::Name)),
         }
     }
 
@@ -151,7 +151,7 @@ impl Wire for MonikerKind {
             Some("import") => Ok(MonikerKind::Import),
             Some("export") => Ok(MonikerKind::Export),
             Some("local") => Ok(MonikerKind::Local),
-            _ => Err(Misfit::Unfit),
+            _ => Err(Misfit::wanted(Wanted::Name)),
         }
     }
 

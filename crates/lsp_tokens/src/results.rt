@@ -7,7 +7,7 @@ ghost use Rattle.lsp_tokens.specs.declared.results.SemanticTokensResult.TheVaria
 
 use crate::tokens::{SemanticTokens, SemanticTokensEdit, SemanticTokensPartialResult};
 use lsp_base::{PartialResultParams, Range, TextDocumentIdentifier, WorkDoneProgressParams};
-use lsp_shape::{Misfit, NoMemory, Reader, Wire, Writer, attempt};
+use lsp_shape::{Misfit, NoMemory, Reader, Wire, Writer, attempt, flat, form};
 use serde_json::Value;
 use std::alloc::Global;
 
@@ -35,8 +35,8 @@ impl Wire for SemanticTokensParams {
     fn from_value(alloc: Global, value: &Value) -> Result<SemanticTokensParams, Misfit> {
         let object = Reader::new(alloc, value)?;
         Ok(SemanticTokensParams {
-            work_done_progress_params: WorkDoneProgressParams::from_value(alloc, value)?,
-            partial_result_params: PartialResultParams::from_value(alloc, value)?,
+            work_done_progress_params: flat(alloc, value)?,
+            partial_result_params: flat(alloc, value)?,
             text_document: object.field("textDocument")?,
         })
     }
@@ -77,8 +77,8 @@ impl Wire for SemanticTokensDeltaParams {
     fn from_value(alloc: Global, value: &Value) -> Result<SemanticTokensDeltaParams, Misfit> {
         let object = Reader::new(alloc, value)?;
         Ok(SemanticTokensDeltaParams {
-            work_done_progress_params: WorkDoneProgressParams::from_value(alloc, value)?,
-            partial_result_params: PartialResultParams::from_value(alloc, value)?,
+            work_done_progress_params: flat(alloc, value)?,
+            partial_result_params: flat(alloc, value)?,
             text_document: object.field("textDocument")?,
             previous_result_id: object.field("previousResultId")?,
         })
@@ -120,8 +120,8 @@ impl Wire for SemanticTokensRangeParams {
     fn from_value(alloc: Global, value: &Value) -> Result<SemanticTokensRangeParams, Misfit> {
         let object = Reader::new(alloc, value)?;
         Ok(SemanticTokensRangeParams {
-            work_done_progress_params: WorkDoneProgressParams::from_value(alloc, value)?,
-            partial_result_params: PartialResultParams::from_value(alloc, value)?,
+            work_done_progress_params: flat(alloc, value)?,
+            partial_result_params: flat(alloc, value)?,
             text_document: object.field("textDocument")?,
             range: object.field("range")?,
         })
@@ -158,7 +158,7 @@ impl Wire for SemanticTokensResult {
         if let Some(tokens) = attempt(alloc, value)? {
             return Ok(SemanticTokensResult::Tokens(tokens));
         }
-        Ok(SemanticTokensResult::Partial(SemanticTokensPartialResult::from_value(alloc, value)?))
+        Ok(SemanticTokensResult::Partial(form(alloc, value)?))
     }
 
     fn to_value(&self, alloc: Global) -> Result<Value, NoMemory> {
@@ -243,7 +243,7 @@ impl Wire for SemanticTokensFullDeltaResult {
         if let Some(delta) = attempt(alloc, value)? {
             return Ok(SemanticTokensFullDeltaResult::TokensDelta(delta));
         }
-        let x = SemanticTokensFullDeltaResultPartialTokensDelta::from_value(alloc, value)?;
+        let x = form::<SemanticTokensFullDeltaResultPartialTokensDelta>(alloc, value)?;
         Ok(SemanticTokensFullDeltaResult::PartialTokensDelta { edits: x.edits })
     }
 
@@ -344,9 +344,7 @@ impl Wire for SemanticTokensRangeResult {
         if let Some(tokens) = attempt(alloc, value)? {
             return Ok(SemanticTokensRangeResult::Tokens(tokens));
         }
-        Ok(SemanticTokensRangeResult::Partial(SemanticTokensPartialResult::from_value(
-            alloc, value,
-        )?))
+        Ok(SemanticTokensRangeResult::Partial(form(alloc, value)?))
     }
 
     fn to_value(&self, alloc: Global) -> Result<Value, NoMemory> {

@@ -5,7 +5,7 @@ use lsp_base::{
     PartialResultParams, Position, Range, TextDocumentIdentifier, TextDocumentPositionParams,
     WorkDoneProgressParams,
 };
-use lsp_shape::{Misfit, NoMemory, Reader, Wire, Writer};
+use lsp_shape::{Misfit, NoMemory, Reader, Wire, Writer, flat};
 use serde_json::Value;
 use std::alloc::Global;
 
@@ -37,8 +37,8 @@ impl Wire for SelectionRangeParams {
         Ok(SelectionRangeParams {
             text_document: object.field("textDocument")?,
             positions: object.field("positions")?,
-            work_done_progress_params: WorkDoneProgressParams::from_value(alloc, value)?,
-            partial_result_params: PartialResultParams::from_value(alloc, value)?,
+            work_done_progress_params: flat(alloc, value)?,
+            partial_result_params: flat(alloc, value)?,
         })
     }
 
@@ -71,8 +71,8 @@ impl Wire for LinkedEditingRangeParams {
 
     fn from_value(alloc: Global, value: &Value) -> Result<LinkedEditingRangeParams, Misfit> {
         Ok(LinkedEditingRangeParams {
-            text_document_position_params: TextDocumentPositionParams::from_value(alloc, value)?,
-            work_done_progress_params: WorkDoneProgressParams::from_value(alloc, value)?,
+            text_document_position_params: flat(alloc, value)?,
+            work_done_progress_params: flat(alloc, value)?,
         })
     }
 

@@ -1,17 +1,19 @@
 // A range that can be selected, in one that can be selected.
-ghost use Rattle.std.specs.Prelude.{◌≡◌, true, codes, IfOk, IsErrOf, OnOk, Some, None};
+ghost use Rattle.std.specs.Prelude.{◌≡◌, true, codes, IfOk, OnOk, Some, None};
+ghost use Rattle.serde_json.specs.Data.{object as object_of};
 ghost use Rattle.serde_json.specs.Find.{get_member};
 ghost use Rattle.serde_json.specs.View.{view, members_view};
 ghost use Rattle.lsp_shape.specs.Read.{read, read_maybe, read_member};
-ghost use Rattle.lsp_shape.specs.Shape.{omitted};
+ghost use Rattle.lsp_shape.specs.Shape.{Shape, maybe, omitted};
 ghost use Rattle.lsp_shape.specs.Shown.{show_option};
 ghost use Rattle.lsp_shape.specs.Values.{is_of, is_maybe};
+ghost use Rattle.lsp_shape.specs.Why.{Refuses, IfUnfit, fields_of, named_field};
 ghost use Rattle.lsp_shape.specs.Write.{write, put_present};
 ghost use Rattle.lsp_tokens.specs.declared.selection_range.SelectionRange.{out-SelectionRange};
 ghost use Rattle.lsp_tokens.specs.SelectionRange.{selection_range_shape, selection_range_level, show_selection_range, show_parent};
 
 use lsp_base::Range;
-use lsp_shape::{Misfit, NoMemory, Wire, field, find, put, put_value};
+use lsp_shape::{Misfit, NoMemory, Wanted, Wire, field, find, put, put_value, told_member};
 use serde_json::{Map, Value};
 use std::alloc::Global;
 
@@ -57,16 +59,28 @@ impl Wire for SelectionRange {
 
 // By the row of one level.
 #[cycle(reading)]
-#[tactic(auto, unfolding(crate::specs::SelectionRange::selection_range_level, crate::specs::SelectionRange::show_selection_range))]
 fn read_selection(alloc: Global, value: &Value) -> Result<SelectionRange, Misfit>
     ensures read { IfOk result
         (λ x. read selection_range_level.shape (view value.now) ≡ Some (show_selection_range x)) }
-    ensures unfit { IsErrOf result Misfit.Unfit
-        → read selection_range_level.shape (view value.now) ≡ None }
+    ensures unfit { IfUnfit result
+        (λ why. Refuses selection_range_level.shape (view value.now) why) }
 {
-    let Value::Object(object) = value else {
-        return Err(Misfit::Unfit);
-    };
+    match value.as_object() {
+        Some(object) => read_members(alloc, object),
+        None => Err(Misfit::wanted(Wanted::Object)),
+    }
+}
+
+#[cycle(reading)]
+#[tactic(auto, unfolding(crate::specs::SelectionRange::selection_range_level, crate::specs::SelectionRange::show_selection_range))]
+fn read_members(alloc: Global, object: &Map<String, Value>) -> Result<SelectionRange, Misfit>
+    ensures read { IfOk result
+        (λ x. read selection_range_level.shape (object_of (members_view object.now.entries))
+        ≡ Some (show_selection_range x)) }
+    ensures unfit { IfUnfit result
+        (λ why. Refuses selection_range_level.shape
+        (object_of (members_view object.now.entries)) why) }
+{
     Ok(SelectionRange {
         range: field(alloc, object, "range")?,
         parent: read_parent(alloc, object)?,
@@ -83,12 +97,13 @@ fn read_parent(
         (λ o. read_member omitted (read selection_range_shape)
         (get_member (codes "parent") (members_view object.now.entries))
         ≡ Some (show_option show_parent o)) }
-    ensures unfit { IsErrOf result Misfit.Unfit
-        → read_member omitted (read selection_range_shape)
-        (get_member (codes "parent") (members_view object.now.entries)) ≡ None }
+    ensures unfit { IfUnfit result
+        (λ why. (t : Shape) → named_field (codes "parent") (fields_of t)
+        ≡ Some (omitted, selection_range_shape)
+        → Refuses t (object_of (members_view object.now.entries)) why) }
 {
     match find(object, "parent") {
-        Some(value) => read_outer(alloc, value),
+        Some(value) => told_member(object, "parent", read_outer(alloc, value)),
         None => Ok(None),
     }
 }
@@ -99,8 +114,8 @@ fn read_outer(alloc: Global, value: &Value) -> Result<Option<Box<SelectionRange>
     ensures read { IfOk result
         (λ o. read_maybe (read selection_range_shape) (view value.now)
         ≡ Some (show_option show_parent o)) }
-    ensures unfit { IsErrOf result Misfit.Unfit
-        → read_maybe (read selection_range_shape) (view value.now) ≡ None }
+    ensures unfit { IfUnfit result
+        (λ why. Refuses (maybe selection_range_shape) (view value.now) why) }
 {
     if value.is_null() {
         return Ok(None);

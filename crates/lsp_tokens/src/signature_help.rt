@@ -4,7 +4,7 @@ ghost use Rattle.lsp_tokens.specs.SignatureHelp.{signature_help_params_row, sign
 use lsp_base::{TextDocumentPositionParams, WorkDoneProgressParams};
 use lsp_kinds::SignatureHelpTriggerKind;
 use lsp_names::Documentation;
-use lsp_shape::{Misfit, NoMemory, Reader, Wire, Writer, attempt};
+use lsp_shape::{Misfit, NoMemory, Reader, Wire, Writer, attempt, flat, form};
 use serde_json::Value;
 use std::alloc::Global;
 
@@ -32,8 +32,8 @@ impl Wire for SignatureHelpParams {
         let object = Reader::new(alloc, value)?;
         Ok(SignatureHelpParams {
             context: object.optional("context")?,
-            text_document_position_params: TextDocumentPositionParams::from_value(alloc, value)?,
-            work_done_progress_params: WorkDoneProgressParams::from_value(alloc, value)?,
+            text_document_position_params: flat(alloc, value)?,
+            work_done_progress_params: flat(alloc, value)?,
         })
     }
 
@@ -218,7 +218,7 @@ impl Wire for ParameterLabel {
         if let Some(simple) = attempt(alloc, value)? {
             return Ok(ParameterLabel::Simple(simple));
         }
-        Ok(ParameterLabel::LabelOffsets(<[u32; 2]>::from_value(alloc, value)?))
+        Ok(ParameterLabel::LabelOffsets(form(alloc, value)?))
     }
 
     fn to_value(&self, alloc: Global) -> Result<Value, NoMemory> {

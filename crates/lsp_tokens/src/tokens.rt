@@ -1,9 +1,10 @@
 // Semantic tokens: lists of numbers, five for a token.
-ghost use Rattle.std.specs.Prelude.{◌≡◌, ◌≢◌, ◌++◌, ◌*◌, ◌%◌, IfOk, IsErrOf, OnOk, List, None, [], length, option_map};
+ghost use Rattle.std.specs.Prelude.{◌≡◌, ◌≢◌, ◌++◌, ◌*◌, ◌%◌, IfOk, OnOk, List, None, [], length, option_map};
+ghost use Rattle.lsp_shape.specs.Why.{IfUnfit, IsUnfit};
 ghost use Rattle.lsp_tokens.specs.Tokens.{token_numbers, numbers_of as numbers, semantic_tokens_row, semantic_tokens_partial_result_row, semantic_tokens_edit_row};
 ghost use Rattle.lsp_tokens.specs.declared.tokens.SemanticToken.{SemanticToken as Token};
 
-use lsp_shape::{Misfit, NoMemory, Reader, TokenNumbers, Wire, Writer};
+use lsp_shape::{Misfit, NoMemory, Reader, TokenNumbers, Wanted, Wire, Writer};
 use serde_json::Value;
 use std::alloc::Global;
 
@@ -45,12 +46,12 @@ fn token_of(numbers: &[u32; 5]) -> SemanticToken
 pub fn tokens_of(alloc: Global, list: &[u32]) -> Result<Vec<SemanticToken>, Misfit>
     ensures numbers { IfOk result (λ v. numbers v.items ≡ list.now) }
     ensures fives { IfOk result (λ v. length v.items * 5 ≡ length list.now) }
-    ensures unfit { IsErrOf result Misfit.Unfit → length list.now % 5 ≡ 0 → ⊥ }
-    ensures ragged { length list.now % 5 ≢ 0 → IsErrOf result Misfit.Unfit }
+    ensures unfit { IsUnfit result → length list.now % 5 ≡ 0 → ⊥ }
+    ensures ragged { length list.now % 5 ≢ 0 → IsUnfit result }
     ensures back { IfOk result (λ v. (ts : List Token) → numbers ts ≡ list.now → v.items ≡ ts) }
 {
     if list.len() % 5 != 0 {
-        return Err(Misfit::Unfit);
+        return Err(Misfit::wanted(Wanted::Length));
     }
     let mut tokens = Vec::with_capacity(alloc, list.len() / 5)?;
     let mut rest = list;
@@ -89,7 +90,7 @@ fn push_token(list: &mut Vec<u32>, token: &SemanticToken) -> Result<(), NoMemory
 // The tokens that were read.
 fn read_tokens(alloc: Global, list: &TokenNumbers) -> Result<Vec<SemanticToken>, Misfit>
     ensures numbers { IfOk result (λ v. numbers v.items ≡ list.now) }
-    ensures fits { IsErrOf result Misfit.Unfit → ⊥ }
+    ensures fits { IfUnfit result (λ _. ⊥) }
 {
     tokens_of(alloc, list.as_slice())
 }
@@ -204,7 +205,7 @@ fn read_inserted(
     list: &Option<TokenNumbers>,
 ) -> Result<Option<Vec<SemanticToken>>, Misfit>
     ensures numbers { IfOk result (λ o. option_map (λ v. numbers v.items) o ≡ list.now) }
-    ensures fits { IsErrOf result Misfit.Unfit → ⊥ }
+    ensures fits { IfUnfit result (λ _. ⊥) }
 {
     match list {
         Some(list) => Ok(Some(read_tokens(alloc, list)?)),

@@ -3,3 +3,4 @@ pub mod Segments
 pub mod Groups
 pub mod Addresses
 pub mod Recomposed
+pub mod Told

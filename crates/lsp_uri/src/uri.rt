@@ -9,7 +9,7 @@ ghost use Rattle.lsp_uri.specs.Grammar.{is_uri_reference};
 ghost use Rattle.lsp_uri.specs.declared.uri.UriError.TheVariants as errors;
 
 use crate::parts::{is_uri_reference, split};
-use lsp_shape::{Key, Misfit, Wire};
+use lsp_shape::{Key, Misfit, Wanted, Wire};
 use no_memory::NoMemory;
 use serde_json::Value;
 use std::alloc::{AllocError, AllocFailed, Global};
@@ -211,6 +211,25 @@ impl fmt::Display for Uri {
     }
 }
 
+impl Uri {
+    ghost use Rattle.lsp_shape.specs.Why.{IsUnfit, IfUnfit, IsWhole};
+    ghost use Rattle.lsp_uri.specs.Uri.{uri_text};
+
+    // The URI that the text is. Where it is none, a URI is wanted.
+    fn of_text(alloc: Global, text: &str) -> Result<Uri, Misfit>
+        ensures read { IfOk result (λ uri. uri_text uri ≡ text.now) }
+        ensures fits { OnOk result (is_uri_reference text.now ≡ true) }
+        ensures unfit { IsUnfit result ↔ (is_uri_reference text.now ≡ false) }
+        ensures whole { IfUnfit result (λ why. IsWhole Wanted.Uri why) }
+    {
+        match Uri::parse(alloc, text) {
+            Ok(uri) => Ok(uri),
+            Err(UriError::NotUri) => Err(Misfit::wanted(Wanted::Uri)),
+            Err(UriError::NoMemory) => Err(Misfit::NoMemory),
+        }
+    }
+}
+
 impl Wire for Uri {
     ghost use Rattle.lsp_uri.specs.Uri.{uri_row};
 
@@ -219,9 +238,9 @@ impl Wire for Uri {
     ghost shown = { uri_row.shown };
 
     fn from_value(alloc: Global, value: &Value) -> Result<Uri, Misfit> {
-        match value {
-            Value::String(text) => Uri::from_text(alloc, text.as_str()),
-            _ => Err(Misfit::Unfit),
+        match value.as_str() {
+            Some(text) => Uri::of_text(alloc, text),
+            None => Err(Misfit::wanted(Wanted::Uri)),
         }
     }
 
@@ -240,11 +259,7 @@ impl Key for Uri {
     ghost told_by_text = { Prim.search rules };
 
     fn from_text(alloc: Global, text: &str) -> Result<Uri, Misfit> {
-        match Uri::parse(alloc, text) {
-            Ok(uri) => Ok(uri),
-            Err(UriError::NotUri) => Err(Misfit::Unfit),
-            Err(UriError::NoMemory) => Err(Misfit::NoMemory),
-        }
+        Uri::of_text(alloc, text)
     }
 
     fn as_text(&self) -> &str {

@@ -3,7 +3,7 @@ ghost use Rattle.std.specs.Prelude.{◌≡◌, None, [], string_bytes};
 ghost use Rattle.lsp_work.specs.Progress.{progress_params_row, progress_params_value_row, work_done_progress_row, work_done_progress_begin_row, work_done_progress_report_row, work_done_progress_end_row, work_done_progress_create_params_row, work_done_progress_cancel_params_row};
 
 use lsp_base::ProgressToken;
-use lsp_shape::{Misfit, NoMemory, Reader, Wire, Writer, put_tag, tag};
+use lsp_shape::{Misfit, NoMemory, Reader, Wanted, Wire, Writer, form, put_tag, tag};
 use serde_json::Value;
 use std::alloc::Global;
 
@@ -55,7 +55,7 @@ impl Wire for ProgressParamsValue {
     ghost shown = { progress_params_value_row.shown };
 
     fn from_value(alloc: Global, value: &Value) -> Result<ProgressParamsValue, Misfit> {
-        Ok(ProgressParamsValue::WorkDone(WorkDoneProgress::from_value(alloc, value)?))
+        Ok(ProgressParamsValue::WorkDone(form(alloc, value)?))
     }
 
     fn to_value(&self, alloc: Global) -> Result<Value, NoMemory> {
@@ -85,16 +85,10 @@ impl Wire for WorkDoneProgress {
 
     fn from_value(alloc: Global, value: &Value) -> Result<WorkDoneProgress, Misfit> {
         match tag(value, "kind") {
-            Some("begin") => Ok(WorkDoneProgress::Begin(WorkDoneProgressBegin::from_value(
-                alloc, value,
-            )?)),
-            Some("report") => Ok(WorkDoneProgress::Report(WorkDoneProgressReport::from_value(
-                alloc, value,
-            )?)),
-            Some("end") => Ok(WorkDoneProgress::End(WorkDoneProgressEnd::from_value(
-                alloc, value,
-            )?)),
-            _ => Err(Misfit::Unfit),
+            Some("begin") => Ok(WorkDoneProgress::Begin(form(alloc, value)?)),
+            Some("report") => Ok(WorkDoneProgress::Report(form(alloc, value)?)),
+            Some("end") => Ok(WorkDoneProgress::End(form(alloc, value)?)),
+            _ => Err(Misfit::wanted(Wanted::Form)),
         }
     }
 

@@ -4,7 +4,7 @@ ghost use Rattle.lsp_work.specs.Window.{show_message_params_row, show_message_re
 use lsp_base::Range;
 use lsp_kinds::MessageType;
 use lsp_names::TraceValue;
-use lsp_shape::{Misfit, NoMemory, Reader, Wire, Writer, attempt};
+use lsp_shape::{Misfit, NoMemory, Reader, Wire, Writer, attempt, form};
 use lsp_uri::Uri;
 use serde_json::Value;
 use std::alloc::Global;
@@ -142,7 +142,7 @@ impl Wire for MessageActionItemProperty {
         if let Some(integer) = attempt(alloc, value)? {
             return Ok(MessageActionItemProperty::Integer(integer));
         }
-        Ok(MessageActionItemProperty::Object(Value::from_value(alloc, value)?))
+        Ok(MessageActionItemProperty::Object(form(alloc, value)?))
     }
 
     fn to_value(&self, alloc: Global) -> Result<Value, NoMemory> {

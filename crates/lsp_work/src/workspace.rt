@@ -4,7 +4,7 @@ ghost use Rattle.lsp_work.specs.Workspace.{did_change_configuration_params_row, 
 
 use lsp_base::{WorkDoneProgressParams, WorkspaceEdit, WorkspaceFolder};
 use lsp_kinds::FileChangeType;
-use lsp_shape::{Misfit, NoMemory, Reader, Wire, Writer};
+use lsp_shape::{Misfit, NoMemory, Reader, Wire, Writer, flat};
 use lsp_uri::Uri;
 use serde_json::Value;
 use std::alloc::Global;
@@ -304,7 +304,7 @@ impl Wire for ExecuteCommandParams {
         Ok(ExecuteCommandParams {
             command: object.field("command")?,
             arguments: object.list_or_empty("arguments")?,
-            work_done_progress_params: WorkDoneProgressParams::from_value(alloc, value)?,
+            work_done_progress_params: flat(alloc, value)?,
         })
     }
 

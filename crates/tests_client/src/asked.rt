@@ -7,7 +7,7 @@ use lsp_client::{Answered, Asked, Told};
 use lsp_desk::{Desk, DeskFault, ServerCall, ServerReply};
 use lsp_rows::text_of;
 use lsp_rpc::Response;
-use lsp_shape::{Misfit, Wire};
+use lsp_shape::{Misfit, Wanted, Wire};
 use serde_json::Value;
 use std::alloc::Global;
 
@@ -48,7 +48,7 @@ pub(crate) fn answered<R, A: Wire>(
 pub(crate) fn read<T: Wire>(alloc: Global, text: &str) -> Result<T, Misfit> {
     match Value::from_str(alloc, text) {
         Ok(value) => T::from_value(alloc, &value),
-        Err(_) => Err(Misfit::Unfit),
+        Err(_) => Err(Misfit::wanted(Wanted::Form)),
     }
 }
 
@@ -72,6 +72,6 @@ pub(crate) fn serve<D: Desk>(
 pub(crate) fn answer<D: Desk>(alloc: Global, desk: &mut D, text: &str) -> Result<String, Misfit> {
     match Response::from_text(alloc, text) {
         Ok(response) => serve(alloc, desk, ServerCall::Answer(response)),
-        Err(_) => Err(Misfit::Unfit),
+        Err(_) => Err(Misfit::wanted(Wanted::Form)),
     }
 }

@@ -28,8 +28,8 @@ const NUMBER_OR_STRING: &str = r#"
 "e2e50f16-7f3f-476c-a468-dd9e1ea0c549"
 7
 "E0308"
-! 2147483648
-! null
+! 2147483648 :: one of its forms is wanted
+! null :: one of its forms is wanted
 "#;
 
 const CANCEL_PARAMS: &str = r#"
@@ -37,8 +37,8 @@ const CANCEL_PARAMS: &str = r#"
 {"id":2}
 {"id":3}
 {"id":"a","reason":"late"} => {"id":"a"}
-! {"id":null}
-! [3]
+! {"id":null} :: id: one of its forms is wanted
+! [3] :: an object is wanted
 "#;
 
 const POSITION: &str = r#"
@@ -46,9 +46,9 @@ const POSITION: &str = r#"
 {"line":0,"character":3} => {"character":3,"line":0}
 {"line":3,"character":12} => {"character":12,"line":3}
 {"line":4294967295,"character":0,"offset":1} => {"character":0,"line":4294967295}
-! {"line":3}
-! {"line":-1,"character":0}
-! {"line":4294967296,"character":0}
+! {"line":3} :: character: is missing
+! {"line":-1,"character":0} :: line: an unsigned integer is wanted
+! {"line":4294967296,"character":0} :: line: an unsigned integer is wanted
 "#;
 
 // The example of section "Range".
@@ -56,20 +56,20 @@ const RANGE: &str = r#"
 # Neovim 0.7.2
 {"end":{"line":0,"character":5},"start":{"line":0,"character":0}} => {"end":{"character":5,"line":0},"start":{"character":0,"line":0}}
 {"start":{"line":5,"character":23},"end":{"line":6,"character":0}} => {"end":{"character":0,"line":6},"start":{"character":23,"line":5}}
-! {"start":{"line":5,"character":23},"end":{"line":6}}
+! {"start":{"line":5,"character":23},"end":{"line":6}} :: end.character: is missing
 "#;
 
 const LOCATION: &str = r#"
 # clangd 14
 {"range":{"end":{"character":19,"line":0},"start":{"character":11,"line":0}},"uri":"file:///tmp/rec/c/a.c"}
 {"uri":"file:///a.rs","range":{"start":{"line":0,"character":3},"end":{"line":0,"character":7}}} => {"range":{"end":{"character":7,"line":0},"start":{"character":3,"line":0}},"uri":"file:///a.rs"}
-! {"uri":"file:///a b","range":{"start":{"line":0,"character":3},"end":{"line":0,"character":7}}}
+! {"uri":"file:///a b","range":{"start":{"line":0,"character":3},"end":{"line":0,"character":7}}} :: uri: a URI is wanted
 "#;
 
 const LOCATION_LINK: &str = r#"
 {"originSelectionRange":null,"targetUri":"file:///a","targetRange":{"start":{"line":1,"character":0},"end":{"line":9,"character":1}},"targetSelectionRange":{"start":{"line":1,"character":3},"end":{"line":1,"character":7}}} => {"targetRange":{"end":{"character":1,"line":9},"start":{"character":0,"line":1}},"targetSelectionRange":{"end":{"character":7,"line":1},"start":{"character":3,"line":1}},"targetUri":"file:///a"}
 {"originSelectionRange":{"start":{"line":2,"character":0},"end":{"line":2,"character":4}},"targetUri":"","targetRange":{"start":{"line":1,"character":0},"end":{"line":9,"character":1}},"targetSelectionRange":{"start":{"line":1,"character":3},"end":{"line":1,"character":7}}} => {"originSelectionRange":{"end":{"character":4,"line":2},"start":{"character":0,"line":2}},"targetRange":{"end":{"character":1,"line":9},"start":{"character":0,"line":1}},"targetSelectionRange":{"end":{"character":7,"line":1},"start":{"character":3,"line":1}},"targetUri":""}
-! {"targetUri":"file:///a","targetRange":{"start":{"line":1,"character":0},"end":{"line":9,"character":1}}}
+! {"targetUri":"file:///a","targetRange":{"start":{"line":1,"character":0},"end":{"line":9,"character":1}}} :: targetSelectionRange: is missing
 "#;
 
 #[test]
@@ -99,21 +99,21 @@ const TEXT_DOCUMENT_IDENTIFIER: &str = r#"
 # Neovim 0.7.2
 {"uri":"file:///tmp/rec/w/a.txt"}
 {"uri":"untitled:Untitled-1"}
-! {"uri":1}
+! {"uri":1} :: uri: a URI is wanted
 "#;
 
 const TEXT_DOCUMENT_ITEM: &str = r#"
 # Neovim 0.7.2
 {"version":0,"text":"hello world\nsecond\n","uri":"file:///tmp/rec/w/a.txt","languageId":"text"} => {"languageId":"text","text":"hello world\nsecond\n","uri":"file:///tmp/rec/w/a.txt","version":0}
 {"uri":"file:///w/main.rs","languageId":"rust","version":1,"text":"fn main() {}\n"} => {"languageId":"rust","text":"fn main() {}\n","uri":"file:///w/main.rs","version":1}
-! {"uri":"file:///w/main.rs","language_id":"rust","version":1,"text":""}
+! {"uri":"file:///w/main.rs","language_id":"rust","version":1,"text":""} :: languageId: is missing
 "#;
 
 const VERSIONED: &str = r#"
 # Neovim 0.7.2
 {"uri":"file:///tmp/rec/w/a.txt","version":5}
 {"uri":"file:///a","version":-4}
-! {"uri":"file:///a","version":null}
+! {"uri":"file:///a","version":null} :: version: an integer is wanted
 "#;
 
 const OPTIONAL_VERSIONED: &str = r#"
@@ -122,14 +122,14 @@ const OPTIONAL_VERSIONED: &str = r#"
 {"uri":""} => {"uri":"","version":null}
 {"uri":"file:///a","version":null}
 {"uri":"file:///a","version":7}
-! {"uri":"file:///a","version":"7"}
+! {"uri":"file:///a","version":"7"} :: version: an integer is wanted
 "#;
 
 const TEXT_DOCUMENT_POSITION: &str = r#"
 # Neovim 0.7.2
 {"textDocument":{"uri":"file:///tmp/rec/w/a.txt"},"position":{"line":0,"character":3}} => {"position":{"character":3,"line":0},"textDocument":{"uri":"file:///tmp/rec/w/a.txt"}}
 {"textDocument":{"uri":"file:///a"},"position":{"line":3,"character":12}} => {"position":{"character":12,"line":3},"textDocument":{"uri":"file:///a"}}
-! {"textDocument":"file:///a","position":{"line":3,"character":12}}
+! {"textDocument":"file:///a","position":{"line":3,"character":12}} :: textDocument: an object is wanted
 "#;
 
 // The examples of section "DocumentFilter".
@@ -137,7 +137,7 @@ const DOCUMENT_FILTER: &str = r#"
 {"language":"typescript","scheme":"file"}
 {"language":"json","pattern":"**/package.json"}
 {"scheme":null} => {}
-! {"pattern":["*"]}
+! {"pattern":["*"]} :: pattern: a text is wanted
 "#;
 
 const CONTENT_CHANGE: &str = r#"
@@ -145,14 +145,14 @@ const CONTENT_CHANGE: &str = r#"
 {"rangeLength":5,"text":"HOWDY","range":{"end":{"line":0,"character":5},"start":{"line":0,"character":0}}} => {"range":{"end":{"character":5,"line":0},"start":{"character":0,"line":0}},"rangeLength":5,"text":"HOWDY"}
 {"text":"all"}
 {"range":{"start":{"line":0,"character":0},"end":{"line":0,"character":1}},"rangeLength":1,"text":""} => {"range":{"end":{"character":1,"line":0},"start":{"character":0,"line":0}},"rangeLength":1,"text":""}
-! {"rangeLength":-1,"text":""}
+! {"rangeLength":-1,"text":""} :: rangeLength: an unsigned integer is wanted
 "#;
 
 const WORKSPACE_FOLDER: &str = r#"
 # Neovim 0.7.2
 {"uri":"file:///tmp/rec/w","name":"/tmp/rec/w"} => {"name":"/tmp/rec/w","uri":"file:///tmp/rec/w"}
 {"uri":"file:///home/me/project","name":"project"} => {"name":"project","uri":"file:///home/me/project"}
-! {"uri":"file:///home/me/project"}
+! {"uri":"file:///home/me/project"} :: name: is missing
 "#;
 
 #[test]
@@ -179,22 +179,22 @@ const DIAGNOSTIC: &str = r#"
 {"code":"expected_semi_declaration","message":"Expected ';' at end of declaration (fix available)","range":{"end":{"character":51,"line":1},"start":{"character":45,"line":1}},"relatedInformation":[],"severity":1,"source":"clang"}
 {"range":{"start":{"line":2,"character":8},"end":{"line":2,"character":9}},"severity":2,"code":"unused_variables","codeDescription":{"href":"https://doc.rust-lang.org/rustc/lints/listing/warn-by-default.html#unused-variables"},"source":"rustc","message":"unused variable: `x`","relatedInformation":[{"location":{"uri":"file:///w/main.rs","range":{"start":{"line":2,"character":8},"end":{"line":2,"character":9}}},"message":"here"}],"tags":[1],"data":{"rendered":null}} => {"code":"unused_variables","codeDescription":{"href":"https://doc.rust-lang.org/rustc/lints/listing/warn-by-default.html#unused-variables"},"data":{"rendered":null},"message":"unused variable: `x`","range":{"end":{"character":9,"line":2},"start":{"character":8,"line":2}},"relatedInformation":[{"location":{"range":{"end":{"character":9,"line":2},"start":{"character":8,"line":2}},"uri":"file:///w/main.rs"},"message":"here"}],"severity":2,"source":"rustc","tags":[1]}
 {"code":-7,"message":"expected ';'","range":{"start":{"line":0,"character":0},"end":{"line":0,"character":0}},"severity":99,"data":null} => {"code":-7,"message":"expected ';'","range":{"end":{"character":0,"line":0},"start":{"character":0,"line":0}},"severity":99}
-! {"message":"no range"}
-! {"range":{"start":{"line":0,"character":0},"end":{"line":0,"character":0}},"message":"","severity":"Error"}
-! {"range":{"start":{"line":0,"character":0},"end":{"line":0,"character":0}},"message":"","tags":1}
+! {"message":"no range"} :: range: is missing
+! {"range":{"start":{"line":0,"character":0},"end":{"line":0,"character":0}},"message":"","severity":"Error"} :: severity: an integer is wanted
+! {"range":{"start":{"line":0,"character":0},"end":{"line":0,"character":0}},"message":"","tags":1} :: tags: a list is wanted
 "#;
 
 const CODE_DESCRIPTION: &str = r#"
 # clangd 19
 {"href":"https://clangd.llvm.org/guides/include-cleaner"}
 {"href":"https://eslint.org/docs/rules/eqeqeq"}
-! {}
+! {} :: href: is missing
 "#;
 
 const RELATED_INFORMATION: &str = r#"
 # clangd 19
 {"location":{"range":{"end":{"character":5,"line":2},"start":{"character":4,"line":2}},"uri":"file:///tmp/rec/c/g.c"},"message":"Previous definition is here"}
-! {"message":"here"}
+! {"message":"here"} :: location: is missing
 "#;
 
 const COMMAND: &str = r#"
@@ -202,21 +202,21 @@ const COMMAND: &str = r#"
 {"arguments":[{"file":"file:///tmp/rec/c/d.c","selection":{"end":{"character":15,"line":2},"start":{"character":10,"line":2}},"tweakID":"ExtractVariable"}],"command":"clangd.applyTweak","title":"Extract subexpression to variable"}
 {"title":"Save","command":"save"} => {"command":"save","title":"Save"}
 {"title":"Run","command":"run","arguments":[1,null,{"a":[]}]} => {"arguments":[1,null,{"a":[]}],"command":"run","title":"Run"}
-! {"title":"Run","command":"run","arguments":{}}
-! {"title":"Run"}
+! {"title":"Run","command":"run","arguments":{}} :: arguments: a list is wanted
+! {"title":"Run"} :: command: is missing
 "#;
 
 const PARTIAL_RESULT: &str = r#"
 {"partialResultToken":"5f6f349e-4f81-4a3b-afff-ee04bff96804"}
 {"partial_result_token":1} => {}
-! {"partialResultToken":true}
+! {"partialResultToken":true} :: partialResultToken: one of its forms is wanted
 "#;
 
 // The token of the example of section "Client Initiated Progress".
 const WORK_DONE: &str = r#"
 {"workDoneToken":"1d546990-40a3-4b77-b134-46622995f6ae"}
 {"workDoneToken":null} => {}
-! {"workDoneToken":[]}
+! {"workDoneToken":[]} :: workDoneToken: one of its forms is wanted
 "#;
 
 #[test]
@@ -241,7 +241,7 @@ const TAG_SUPPORT: &str = r#"
 {"valueSet":[1,2]}
 ? valueSet
 {"valueSet":[]}
-! true
+! true :: an object is wanted
 "#;
 
 const DYNAMIC_REGISTRATION: &str = r#"
@@ -249,7 +249,7 @@ const DYNAMIC_REGISTRATION: &str = r#"
 {"dynamicRegistration":false}
 {"dynamicRegistration":true}
 {"dynamicRegistration":null} => {}
-! {"dynamicRegistration":0}
+! {"dynamicRegistration":0} :: dynamicRegistration: true or false is wanted
 "#;
 
 const GOTO_CAPABILITY: &str = r#"
@@ -257,21 +257,21 @@ const GOTO_CAPABILITY: &str = r#"
 {"linkSupport":true}
 {"dynamicRegistration":false,"linkSupport":true}
 {}
-! {"linkSupport":"yes"}
+! {"linkSupport":"yes"} :: linkSupport: true or false is wanted
 "#;
 
 const TEXT_DOCUMENT_REGISTRATION: &str = r#"
 {"documentSelector":[{"language":"javascript"}]}
 {"documentSelector":null}
 {} => {"documentSelector":null}
-! {"documentSelector":["javascript"]}
+! {"documentSelector":["javascript"]} :: documentSelector[0]: an object is wanted
 "#;
 
 // The id of the example of section "Register Capability".
 const STATIC_REGISTRATION: &str = r#"
 {"id":"79eee87c-c409-4664-8102-e03263673f6f"}
 {"id":null} => {}
-! {"id":79}
+! {"id":79} :: id: a text is wanted
 "#;
 
 const ERROR_CODES: &[(&str, i64, i64)] = &[
@@ -319,12 +319,12 @@ const TEXT_EDIT: &str = r#"
 # clangd 14
 {"newText":"new_name","range":{"end":{"character":19,"line":0},"start":{"character":11,"line":0}}}
 {"range":{"start":{"line":0,"character":0},"end":{"line":0,"character":0}},"newText":"use a;\n"} => {"newText":"use a;\n","range":{"end":{"character":0,"line":0},"start":{"character":0,"line":0}}}
-! {"range":{"start":{"line":0,"character":0},"end":{"line":0,"character":0}},"new_text":""}
+! {"range":{"start":{"line":0,"character":0},"end":{"line":0,"character":0}},"new_text":""} :: newText: is missing
 "#;
 
 const ANNOTATED_TEXT_EDIT: &str = r#"
 {"range":{"start":{"line":0,"character":0},"end":{"line":0,"character":0}},"newText":"","annotationId":"rename"} => {"annotationId":"rename","newText":"","range":{"end":{"character":0,"line":0},"start":{"character":0,"line":0}}}
-! {"range":{"start":{"line":0,"character":0},"end":{"line":0,"character":0}},"newText":""}
+! {"range":{"start":{"line":0,"character":0},"end":{"line":0,"character":0}},"newText":""} :: annotationId: is missing
 "#;
 
 // An annotated edit fits a plain one, which comes first.
@@ -332,19 +332,19 @@ const TEXT_DOCUMENT_EDIT: &str = r#"
 # pylsp 1.7.1
 {"textDocument":{"uri":"file:\/\/\/tmp\/rec\/c\/e.py","version":1},"edits":[{"range":{"start":{"line":0,"character":0},"end":{"line":3,"character":0}},"newText":"def new():\n    return 1\nx = new()\n"}]} => {"edits":[{"newText":"def new():\n    return 1\nx = new()\n","range":{"end":{"character":0,"line":3},"start":{"character":0,"line":0}}}],"textDocument":{"uri":"file:///tmp/rec/c/e.py","version":1}}
 {"textDocument":{"uri":"file:///a","version":3},"edits":[{"range":{"start":{"line":0,"character":0},"end":{"line":0,"character":0}},"newText":"b","annotationId":"c"}]} => {"edits":[{"newText":"b","range":{"end":{"character":0,"line":0},"start":{"character":0,"line":0}}}],"textDocument":{"uri":"file:///a","version":3}}
-! {"textDocument":{"uri":"file:///a"},"edits":[{"newText":"b"}]}
+! {"textDocument":{"uri":"file:///a"},"edits":[{"newText":"b"}]} :: edits[0]: one of its forms is wanted
 "#;
 
 const CHANGE_ANNOTATION: &str = r#"
 {"label":"Rename to 'a'","needsConfirmation":true,"description":"in 2 files"} => {"description":"in 2 files","label":"Rename to 'a'","needsConfirmation":true}
 {"label":"","description":null} => {"label":""}
-! {"needsConfirmation":true}
+! {"needsConfirmation":true} :: label: is missing
 "#;
 
 const TRUTH_OR_NOTHING: &str = r#"
 true
 null
-! 1
+! 1 :: one of its forms is wanted
 "#;
 
 #[test]
@@ -366,46 +366,46 @@ fn edits(rt: HostRuntime) -> Result<(), RowError> {
 const CREATE_FILE: &str = r#"
 {"kind":"create","uri":"file:///a","options":{"overwrite":true},"annotationId":"b"} => {"annotationId":"b","options":{"overwrite":true},"uri":"file:///a"}
 ? uri
-! {"uri":null}
+! {"uri":null} :: uri: a URI is wanted
 "#;
 
 const CREATE_FILE_OPTIONS: &str = r#"
 {"overwrite":false,"ignoreIfExists":true} => {"ignoreIfExists":true,"overwrite":false}
-! {"overwrite":"no"}
+! {"overwrite":"no"} :: overwrite: true or false is wanted
 "#;
 
 const RENAME_FILE: &str = r#"
 {"oldUri":"file:///a","newUri":"file:///b","options":{"ignoreIfExists":true}} => {"newUri":"file:///b","oldUri":"file:///a","options":{"ignoreIfExists":true}}
-! {"old_uri":"file:///a","new_uri":"file:///b"}
+! {"old_uri":"file:///a","new_uri":"file:///b"} :: oldUri: is missing
 "#;
 
 const RENAME_FILE_OPTIONS: &str = r#"
 {"overwrite":null} => {}
-! 1
+! 1 :: an object is wanted
 "#;
 
 const DELETE_FILE: &str = r#"
 {"uri":"file:///a","options":{"recursive":true,"ignoreIfNotExists":true,"annotationId":"c"}} => {"options":{"annotationId":"c","ignoreIfNotExists":true,"recursive":true},"uri":"file:///a"}
-! {}
+! {} :: uri: is missing
 "#;
 
 const DELETE_FILE_OPTIONS: &str = r#"
 {"ignoreIfExists":true} => {}
-! {"recursive":1}
+! {"recursive":1} :: recursive: true or false is wanted
 "#;
 
 const RESOURCE_OP: &str = r#"
 {"kind":"create","uri":"file:///a"}
 {"kind":"rename","oldUri":"file:///a","newUri":"file:///b"} => {"kind":"rename","newUri":"file:///b","oldUri":"file:///a"}
 {"kind":"delete","uri":"file:///a"}
-! {"kind":"move","uri":"file:///a"}
-! {"uri":"file:///a"}
+! {"kind":"move","uri":"file:///a"} :: one of its forms is wanted
+! {"uri":"file:///a"} :: one of its forms is wanted
 "#;
 
 const DOCUMENT_CHANGE_OPERATION: &str = r#"
 {"kind":"delete","uri":"file:///a"}
 {"textDocument":{"uri":"file:///a","version":null},"edits":[]} => {"edits":[],"textDocument":{"uri":"file:///a","version":null}}
-! {"edits":[]}
+! {"edits":[]} :: one of its forms is wanted
 "#;
 
 const DOCUMENT_CHANGES: &str = r#"
@@ -413,7 +413,7 @@ const DOCUMENT_CHANGES: &str = r#"
 [{"edits":[{"newText":"","range":{"end":{"character":0,"line":1},"start":{"character":0,"line":0}}},{"newText":"","range":{"end":{"character":0,"line":2},"start":{"character":0,"line":1}}}],"textDocument":{"uri":"file:///tmp/rec/c/g.c","version":1}}]
 []
 [{"kind":"create","uri":"file:///a"},{"textDocument":{"uri":"file:///a"},"edits":[]}] => [{"kind":"create","uri":"file:///a"},{"edits":[],"textDocument":{"uri":"file:///a","version":null}}]
-! {}
+! {} :: one of its forms is wanted
 "#;
 
 const WORKSPACE_EDIT: &str = r#"
@@ -424,8 +424,8 @@ const WORKSPACE_EDIT: &str = r#"
 {}
 {"changes":{"file://test":[]}}
 {"documentChanges":[],"changeAnnotations":{"c":{"label":"d"},"a":{"label":"b"}}} => {"changeAnnotations":{"a":{"label":"b"},"c":{"label":"d"}},"documentChanges":[]}
-! {"changes":{"not a URI":[]}}
-! {"changes":[]}
+! {"changes":{"not a URI":[]}} :: changes: other names of its members are wanted
+! {"changes":[]} :: changes: an object is wanted
 "#;
 
 #[test]

@@ -8,37 +8,37 @@ use lsp_rows::{RowError, Trial};
 const MARKUP_CONTENT: &str = r#"
 {"kind":"plaintext","value":"value"} :: MarkupContent { kind: PlainText, value: "value" }
 ? kind value
-! {"value":"value"}
+! {"value":"value"} :: kind: is missing
 "#;
 
 const LANGUAGE_STRING: &str = r#"
 {"language":"language","value":"value"} :: LanguageString { language: "language", value: "value" }
 ? language value
-! {"value":"value"}
+! {"value":"value"} :: language: is missing
 "#;
 
 const MARKED_STRING: &str = r#"
 "marked_string" :: String("marked_string")
 {"language":"language","value":"value"} :: LanguageString(LanguageString { language: "language", value: "value" })
-! false
+! false :: one of its forms is wanted
 "#;
 
 const DOCUMENTATION: &str = r#"
 "documentation" :: String("documentation")
 {"kind":"plaintext","value":"value"} :: MarkupContent(MarkupContent { kind: PlainText, value: "value" })
-! false
+! false :: one of its forms is wanted
 "#;
 
 const WORK_DONE_PROGRESS_OPTIONS: &str = r#"
 {"workDoneProgress":true} :: WorkDoneProgressOptions { work_done_progress: Some(true) }
 ?
-! {"workDoneProgress":"no"}
+! {"workDoneProgress":"no"} :: workDoneProgress: true or false is wanted
 "#;
 
 const SEMANTIC_TOKENS_FULL_OPTIONS: &str = r#"
 true :: Bool(true)
 {"delta":true} :: Delta { delta: Some(true) }
-! [1]
+! [1] :: one of its forms is wanted
 "#;
 
 #[test]

@@ -349,9 +349,9 @@ const FULL_OPTIONS: &str = r#"
 {"range":true} => {}
 true
 false
-! null
-! "true"
-! {"delta":1}
+! null :: one of its forms is wanted
+! "true" :: one of its forms is wanted
+! {"delta":1} :: one of its forms is wanted
 "#;
 
 const FOLDING_RANGE_KINDS: &str = r#"
@@ -362,9 +362,9 @@ const TRACE_VALUES: &str = r#"
 "off"
 "messages"
 "verbose"
-! "compact"
-! "Off"
-! false
+! "compact" :: one of its texts is wanted
+! "Off" :: one of its texts is wanted
+! false :: one of its texts is wanted
 "#;
 
 const MARKUP_KINDS: &str = r#"
@@ -377,23 +377,23 @@ const MARKUP_CONTENTS: &str = r##"
 {"value":"a","kind":"plaintext","language":"c"} => {"kind":"plaintext","value":"a"}
 # clangd 14
 {"kind":"plaintext","value":"function old_name\n\n→ int\nParameters:\n- int n\n\nstatic int old_name(int n)"}
-! {"value":"a"}
-! {"kind":"markdown"}
-! "a"
+! {"value":"a"} :: kind: is missing
+! {"kind":"markdown"} :: value: is missing
+! "a" :: an object is wanted
 "##;
 
 const MARKED_STRINGS: &str = r#"
 {"language":"typescript","value":"const a: 1"}
 "**a**"
-! {"kind":"markdown","value":"a"}
-! null
+! {"kind":"markdown","value":"a"} :: one of its forms is wanted
+! null :: one of its forms is wanted
 "#;
 
 const DOCUMENTATIONS: &str = r#"
 "Detailed information"
 {"kind":"markdown","value":"`a`"}
-! {"language":"c","value":"a"}
-! []
+! {"language":"c","value":"a"} :: one of its forms is wanted
+! [] :: one of its forms is wanted
 "#;
 
 // Of the section "Work Done Progress".
@@ -401,32 +401,32 @@ const PROGRESS_OPTIONS: &str = r#"
 {"workDoneProgress":true}
 {"workDoneProgress":null} => {}
 {}
-! {"workDoneProgress":1}
-! true
+! {"workDoneProgress":1} :: workDoneProgress: true or false is wanted
+! true :: an object is wanted
 "#;
 
 const NO_CODE_ACTION_KINDS: &str = r#"
-! null
-! 1
-! [""]
-! {}
+! null :: a text is wanted
+! 1 :: a text is wanted
+! [""] :: a text is wanted
+! {} :: a text is wanted
 "#;
 
 const NO_FOLDING_RANGE_KINDS: &str = r#"
-! "Comment"
-! "import"
-! null
+! "Comment" :: one of its texts is wanted
+! "import" :: one of its texts is wanted
+! null :: one of its texts is wanted
 "#;
 
 const NO_MARKUP_KINDS: &str = r#"
-! "plainText"
-! "html"
-! 1
+! "plainText" :: one of its texts is wanted
+! "html" :: one of its texts is wanted
+! 1 :: one of its texts is wanted
 "#;
 
 const NO_LANGUAGE_STRINGS: &str = r#"
-! {"language":"c"}
-! {"value":"a"}
+! {"language":"c"} :: value: is missing
+! {"value":"a"} :: language: is missing
 "#;
 
 #[test]

@@ -17,7 +17,7 @@ use lsp_work::{
 const DID_OPEN_TEXT_DOCUMENT_PARAMS: &str = r#"
 {"textDocument":{"languageId":"languageId","text":"text","uri":"file:///uri","version":79}} :: DidOpenTextDocumentParams { text_document: TextDocumentItem { uri: Uri { text: "file:///uri" }, language_id: "languageId", version: 79, text: "text" } }
 ? textDocument
-! {}
+! {} :: textDocument: is missing
 # Visual Studio Code
 {"textDocument":{"languageId":"rust","text":"fn main() {}\n","uri":"file:///w/a.rs","version":1}}
 "#;
@@ -25,7 +25,7 @@ const DID_OPEN_TEXT_DOCUMENT_PARAMS: &str = r#"
 const DID_CHANGE_TEXT_DOCUMENT_PARAMS: &str = r#"
 {"contentChanges":[{"range":{"end":{"character":29,"line":85},"start":{"character":29,"line":85}},"text":"text"}],"textDocument":{"uri":"file:///uri","version":79}} :: DidChangeTextDocumentParams { text_document: VersionedTextDocumentIdentifier { uri: Uri { text: "file:///uri" }, version: 79 }, content_changes: [TextDocumentContentChangeEvent { range: Some(Range { start: Position { line: 85, character: 29 }, end: Position { line: 85, character: 29 } }), range_length: None, text: "text" }] }
 ? textDocument contentChanges
-! {"contentChanges":[{"range":{"end":{"character":29,"line":85},"start":{"character":29,"line":85}},"text":"text"}]}
+! {"contentChanges":[{"range":{"end":{"character":29,"line":85},"start":{"character":29,"line":85}},"text":"text"}]} :: textDocument: is missing
 # Visual Studio Code
 {"contentChanges":[{"range":{"end":{"character":3,"line":0},"start":{"character":3,"line":0}},"rangeLength":0,"text":"x"}],"textDocument":{"uri":"file:///w/a.rs","version":2}}
 "#;
@@ -33,25 +33,25 @@ const DID_CHANGE_TEXT_DOCUMENT_PARAMS: &str = r#"
 const WILL_SAVE_TEXT_DOCUMENT_PARAMS: &str = r#"
 {"reason":104,"textDocument":{"uri":"file:///uri"}} :: WillSaveTextDocumentParams { text_document: TextDocumentIdentifier { uri: Uri { text: "file:///uri" } }, reason: TextDocumentSaveReason(104) }
 ? textDocument reason
-! {"reason":104}
+! {"reason":104} :: textDocument: is missing
 "#;
 
 const DID_SAVE_TEXT_DOCUMENT_PARAMS: &str = r#"
 {"text":"text","textDocument":{"uri":"file:///uri"}} :: DidSaveTextDocumentParams { text_document: TextDocumentIdentifier { uri: Uri { text: "file:///uri" } }, text: Some("text") }
 ? textDocument
-! {}
+! {} :: textDocument: is missing
 "#;
 
 const DID_CLOSE_TEXT_DOCUMENT_PARAMS: &str = r#"
 {"textDocument":{"uri":"file:///uri"}} :: DidCloseTextDocumentParams { text_document: TextDocumentIdentifier { uri: Uri { text: "file:///uri" } } }
 ? textDocument
-! {}
+! {} :: textDocument: is missing
 "#;
 
 const PUBLISH_DIAGNOSTICS_PARAMS: &str = r#"
 {"diagnostics":[{"message":"message","range":{"end":{"character":29,"line":85},"start":{"character":29,"line":85}}}],"uri":"file:///uri","version":79} :: PublishDiagnosticsParams { uri: Uri { text: "file:///uri" }, diagnostics: [Diagnostic { range: Range { start: Position { line: 85, character: 29 }, end: Position { line: 85, character: 29 } }, severity: None, code: None, code_description: None, source: None, message: "message", related_information: None, tags: None, payload: None }], version: Some(79) }
 ? uri diagnostics
-! {"diagnostics":[{"message":"message","range":{"end":{"character":29,"line":85},"start":{"character":29,"line":85}}}]}
+! {"diagnostics":[{"message":"message","range":{"end":{"character":29,"line":85},"start":{"character":29,"line":85}}}]} :: uri: is missing
 # clangd 14.0.6
 {"diagnostics":[{"code":"undeclared_var_use","codeActions":[],"message":"Use of undeclared identifier 'retrun'","range":{"end":{"character":8,"line":14},"start":{"character":2,"line":14}},"relatedInformation":[],"severity":1,"source":"clang"}],"uri":"file:///tmp/td_rec/src/main.cpp","version":1} => {"diagnostics":[{"code":"undeclared_var_use","message":"Use of undeclared identifier 'retrun'","range":{"end":{"character":8,"line":14},"start":{"character":2,"line":14}},"relatedInformation":[],"severity":1,"source":"clang"}],"uri":"file:///tmp/td_rec/src/main.cpp","version":1}
 # pylsp 1.7.1
@@ -61,13 +61,13 @@ const PUBLISH_DIAGNOSTICS_PARAMS: &str = r#"
 const DID_CHANGE_CONFIGURATION_PARAMS: &str = r#"
 {"settings":78} :: DidChangeConfigurationParams { settings: Number(78) }
 ? settings
-! []
+! [] :: an object is wanted
 "#;
 
 const CONFIGURATION_PARAMS: &str = r#"
 {"items":[{"scopeUri":"file:///scopeUri"}]} :: ConfigurationParams { items: [ConfigurationItem { scope_uri: Some(Uri { text: "file:///scopeUri" }), section: None }] }
 ? items
-! {}
+! {} :: items: is missing
 # gopls
 {"items":[{"scopeUri":"file:///w","section":"gopls"}]}
 "#;
@@ -75,13 +75,13 @@ const CONFIGURATION_PARAMS: &str = r#"
 const CONFIGURATION_ITEM: &str = r#"
 {"scopeUri":"file:///scopeUri","section":"section"} :: ConfigurationItem { scope_uri: Some(Uri { text: "file:///scopeUri" }), section: Some("section") }
 ?
-! {"scopeUri":1}
+! {"scopeUri":1} :: scopeUri: a URI is wanted
 "#;
 
 const DID_CHANGE_WATCHED_FILES_PARAMS: &str = r#"
 {"changes":[{"type":134,"uri":"file:///uri"}]} :: DidChangeWatchedFilesParams { changes: [FileEvent { uri: Uri { text: "file:///uri" }, typ: FileChangeType(134) }] }
 ? changes
-! {}
+! {} :: changes: is missing
 # Visual Studio Code
 {"changes":[{"type":2,"uri":"file:///w/Cargo.toml"}]}
 "#;
@@ -89,13 +89,13 @@ const DID_CHANGE_WATCHED_FILES_PARAMS: &str = r#"
 const FILE_EVENT: &str = r#"
 {"type":134,"uri":"file:///uri"} :: FileEvent { uri: Uri { text: "file:///uri" }, typ: FileChangeType(134) }
 ? uri type
-! {"type":134}
+! {"type":134} :: uri: is missing
 "#;
 
 const DID_CHANGE_WORKSPACE_FOLDERS_PARAMS: &str = r#"
 {"event":{"added":[{"name":"name","uri":"file:///uri"}],"removed":[{"name":"name","uri":"file:///uri"}]}} :: DidChangeWorkspaceFoldersParams { event: WorkspaceFoldersChangeEvent { added: [WorkspaceFolder { uri: Uri { text: "file:///uri" }, name: "name" }], removed: [WorkspaceFolder { uri: Uri { text: "file:///uri" }, name: "name" }] } }
 ? event
-! {}
+! {} :: event: is missing
 # Visual Studio Code
 {"event":{"added":[{"name":"v","uri":"file:///v"}],"removed":[{"name":"w","uri":"file:///w"}]}}
 "#;
@@ -103,19 +103,19 @@ const DID_CHANGE_WORKSPACE_FOLDERS_PARAMS: &str = r#"
 const WORKSPACE_FOLDERS_CHANGE_EVENT: &str = r#"
 {"added":[{"name":"name","uri":"file:///uri"}],"removed":[{"name":"name","uri":"file:///uri1"}]} :: WorkspaceFoldersChangeEvent { added: [WorkspaceFolder { uri: Uri { text: "file:///uri" }, name: "name" }], removed: [WorkspaceFolder { uri: Uri { text: "file:///uri1" }, name: "name" }] }
 ? added removed
-! {"removed":[{"name":"name","uri":"file:///uri"}]}
+! {"removed":[{"name":"name","uri":"file:///uri"}]} :: added: is missing
 "#;
 
 const EXECUTE_COMMAND_PARAMS: &str = r#"
 {"arguments":[42],"command":"command","workDoneToken":71} :: ExecuteCommandParams { command: "command", arguments: [Number(42)], work_done_progress_params: WorkDoneProgressParams { work_done_token: Some(Number(71)) } }
 ? command arguments=[]
-! {"arguments":[],"workDoneToken":71}
+! {"arguments":[],"workDoneToken":71} :: command: is missing
 "#;
 
 const APPLY_WORKSPACE_EDIT_PARAMS: &str = r#"
 {"edit":{"changes":{"file:///changes":[{"newText":"newText","range":{"end":{"character":29,"line":85},"start":{"character":29,"line":85}}}]}},"label":"label"} :: ApplyWorkspaceEditParams { label: Some("label"), edit: WorkspaceEdit { changes: Some({Uri { text: "file:///changes" }: [TextEdit { range: Range { start: Position { line: 85, character: 29 }, end: Position { line: 85, character: 29 } }, new_text: "newText" }]}), document_changes: None, change_annotations: None } }
 ? edit
-! {"label":"label"}
+! {"label":"label"} :: edit: is missing
 # gopls
 {"edit":{"documentChanges":[{"edits":[{"newText":"x","range":{"end":{"character":1,"line":1},"start":{"character":0,"line":1}}}],"textDocument":{"uri":"file:///w/main.go","version":1}}]}}
 "#;
@@ -123,49 +123,49 @@ const APPLY_WORKSPACE_EDIT_PARAMS: &str = r#"
 const APPLY_WORKSPACE_EDIT_RESPONSE: &str = r#"
 {"applied":true,"failedChange":10,"failureReason":"failureReason"} :: ApplyWorkspaceEditResponse { applied: true, failure_reason: Some("failureReason"), failed_change: Some(10) }
 ? applied
-! {}
+! {} :: applied: is missing
 "#;
 
 const CREATE_FILES_PARAMS: &str = r#"
 {"files":[{"uri":"uri"}]} :: CreateFilesParams { files: [FileCreate { uri: "uri" }] }
 ? files
-! {}
+! {} :: files: is missing
 "#;
 
 const FILE_CREATE: &str = r#"
 {"uri":"uri"} :: FileCreate { uri: "uri" }
 ? uri
-! {}
+! {} :: uri: is missing
 "#;
 
 const RENAME_FILES_PARAMS: &str = r#"
 {"files":[{"newUri":"newUri","oldUri":"oldUri"}]} :: RenameFilesParams { files: [FileRename { old_uri: "oldUri", new_uri: "newUri" }] }
 ? files
-! {}
+! {} :: files: is missing
 "#;
 
 const FILE_RENAME: &str = r#"
 {"newUri":"newUri","oldUri":"oldUri"} :: FileRename { old_uri: "oldUri", new_uri: "newUri" }
 ? oldUri newUri
-! {"newUri":"newUri"}
+! {"newUri":"newUri"} :: oldUri: is missing
 "#;
 
 const DELETE_FILES_PARAMS: &str = r#"
 {"files":[{"uri":"uri"}]} :: DeleteFilesParams { files: [FileDelete { uri: "uri" }] }
 ? files
-! {}
+! {} :: files: is missing
 "#;
 
 const FILE_DELETE: &str = r#"
 {"uri":"uri"} :: FileDelete { uri: "uri" }
 ? uri
-! {}
+! {} :: uri: is missing
 "#;
 
 const SHOW_MESSAGE_PARAMS: &str = r#"
 {"message":"message","type":134} :: ShowMessageParams { typ: MessageType(134), message: "message" }
 ? type message
-! {"message":"message"}
+! {"message":"message"} :: type: is missing
 # gopls
 {"message":"Error loading workspace: no go.mod file","type":1}
 "#;
@@ -173,13 +173,13 @@ const SHOW_MESSAGE_PARAMS: &str = r#"
 const SHOW_MESSAGE_REQUEST_PARAMS: &str = r#"
 {"actions":[{"title":"title"}],"message":"message","type":134} :: ShowMessageRequestParams { typ: MessageType(134), message: "message", actions: Some([MessageActionItem { title: "title", properties: {} }]) }
 ? type message
-! {"message":"message"}
+! {"message":"message"} :: type: is missing
 "#;
 
 const MESSAGE_ACTION_ITEM: &str = r#"
 {"properties":"properties","title":"title"} :: MessageActionItem { title: "title", properties: {"properties": String("properties")} }
 ? title
-! {}
+! {} :: title: is missing
 {"id":7,"isCloseAffordance":true,"title":"Retry","why":"slow"}
 "#;
 
@@ -193,37 +193,37 @@ true :: Boolean(true)
 const LOG_MESSAGE_PARAMS: &str = r#"
 {"message":"message","type":134} :: LogMessageParams { typ: MessageType(134), message: "message" }
 ? type message
-! {"message":"message"}
+! {"message":"message"} :: type: is missing
 "#;
 
 const SHOW_DOCUMENT_PARAMS: &str = r#"
 {"external":true,"selection":{"end":{"character":29,"line":85},"start":{"character":29,"line":85}},"takeFocus":false,"uri":"file:///uri"} :: ShowDocumentParams { uri: Uri { text: "file:///uri" }, external: Some(true), take_focus: Some(false), selection: Some(Range { start: Position { line: 85, character: 29 }, end: Position { line: 85, character: 29 } }) }
 ? uri
-! {}
+! {} :: uri: is missing
 "#;
 
 const SHOW_DOCUMENT_RESULT: &str = r#"
 {"success":true} :: ShowDocumentResult { success: true }
 ? success
-! {}
+! {} :: success: is missing
 "#;
 
 const SET_TRACE_PARAMS: &str = r#"
 {"value":"off"} :: SetTraceParams { value: Off }
 ? value
-! {}
+! {} :: value: is missing
 "#;
 
 const LOG_TRACE_PARAMS: &str = r#"
 {"message":"message","verbose":"verbose"} :: LogTraceParams { message: "message", verbose: Some("verbose") }
 ? message
-! {}
+! {} :: message: is missing
 "#;
 
 const PROGRESS_PARAMS: &str = r#"
 {"token":64,"value":{"kind":"begin","title":"title"}} :: ProgressParams { token: Number(64), value: WorkDone(Begin(WorkDoneProgressBegin { title: "title", cancellable: None, message: None, percentage: None })) }
 ? token value
-! {"value":{"kind":"begin","title":"title"}}
+! {"value":{"kind":"begin","title":"title"}} :: token: is missing
 # pylsp 1.7.1
 {"token":"aae6d673-2388-4265-8f80-9beb243a0bac","value":{"kind":"begin","title":"lint: pyflakes"}}
 # pylsp 1.7.1
@@ -240,38 +240,38 @@ const PROGRESS_PARAMS: &str = r#"
 
 const PROGRESS_PARAMS_VALUE: &str = r#"
 {"kind":"begin","title":"title"} :: WorkDone(Begin(WorkDoneProgressBegin { title: "title", cancellable: None, message: None, percentage: None }))
-! false
+! false :: one of its forms is wanted
 "#;
 
 const WORK_DONE_PROGRESS: &str = r#"
 {"kind":"begin","title":"title"} :: Begin(WorkDoneProgressBegin { title: "title", cancellable: None, message: None, percentage: None })
 {"cancellable":true,"kind":"report"} :: Report(WorkDoneProgressReport { cancellable: Some(true), message: None, percentage: None })
 {"kind":"end","message":"message"} :: End(WorkDoneProgressEnd { message: Some("message") })
-! {"kind":"no"}
+! {"kind":"no"} :: one of its forms is wanted
 "#;
 
 const WORK_DONE_PROGRESS_BEGIN: &str = r#"
 {"cancellable":true,"message":"message","percentage":22,"title":"title"} :: WorkDoneProgressBegin { title: "title", cancellable: Some(true), message: Some("message"), percentage: Some(22) }
 ? title
-! {}
+! {} :: title: is missing
 "#;
 
 const WORK_DONE_PROGRESS_REPORT: &str = r#"
 {"cancellable":true,"message":"message","percentage":22} :: WorkDoneProgressReport { cancellable: Some(true), message: Some("message"), percentage: Some(22) }
 ?
-! {"cancellable":"no"}
+! {"cancellable":"no"} :: cancellable: true or false is wanted
 "#;
 
 const WORK_DONE_PROGRESS_END: &str = r#"
 {"message":"message"} :: WorkDoneProgressEnd { message: Some("message") }
 ?
-! {"message":1}
+! {"message":1} :: message: a text is wanted
 "#;
 
 const WORK_DONE_PROGRESS_CREATE_PARAMS: &str = r#"
 {"token":64} :: WorkDoneProgressCreateParams { token: Number(64) }
 ? token
-! {}
+! {} :: token: is missing
 # rust-analyzer
 {"token":"rustAnalyzer/Indexing"}
 "#;
@@ -279,7 +279,7 @@ const WORK_DONE_PROGRESS_CREATE_PARAMS: &str = r#"
 const WORK_DONE_PROGRESS_CANCEL_PARAMS: &str = r#"
 {"token":64} :: WorkDoneProgressCancelParams { token: Number(64) }
 ? token
-! {}
+! {} :: token: is missing
 "#;
 
 #[test]

@@ -17,13 +17,13 @@ use std::alloc::Global;
 const REGISTRATION: &str = r#"
 {"id":"id","method":"method","registerOptions":15} :: Registration { id: "id", method: "method", register_options: Some(Number(15)) }
 ? id method
-! {"method":"method"}
+! {"method":"method"} :: id: is missing
 "#;
 
 const REGISTRATION_PARAMS: &str = r#"
 {"registrations":[{"id":"id","method":"method"}]} :: RegistrationParams { registrations: [Registration { id: "id", method: "method", register_options: None }] }
 ? registrations
-! {}
+! {} :: registrations: is missing
 # rust-analyzer, by its public sources
 {"registrations":[{"id":"textDocument/didSave","method":"textDocument/didSave","registerOptions":{"includeText":false,"documentSelector":[{"pattern":"**/*.rs"},{"pattern":"**/Cargo.toml"},{"pattern":"**/Cargo.lock"}]}}]}
 {"registrations":[{"id":"workspace/didChangeWatchedFiles","method":"workspace/didChangeWatchedFiles","registerOptions":{"watchers":[{"globPattern":"/home/me/project/**/*.rs"}]}}]}
@@ -32,20 +32,20 @@ const REGISTRATION_PARAMS: &str = r#"
 const UNREGISTRATION: &str = r#"
 {"id":"id","method":"method"} :: Unregistration { id: "id", method: "method" }
 ? id method
-! {"method":"method"}
+! {"method":"method"} :: id: is missing
 "#;
 
 const UNREGISTRATION_PARAMS: &str = r#"
 {"unregisterations":[{"id":"id","method":"method"}]} :: UnregistrationParams { unregisterations: [Unregistration { id: "id", method: "method" }] }
 ? unregisterations
-! {}
-! {"unregistrations":[]}
+! {} :: unregisterations: is missing
+! {"unregistrations":[]} :: unregisterations: is missing
 "#;
 
 const EXECUTE_COMMAND_OPTIONS: &str = r#"
 {"commands":["commands"],"workDoneProgress":true} :: ExecuteCommandOptions { commands: ["commands"], work_done_progress_options: WorkDoneProgressOptions { work_done_progress: Some(true) } }
 ? commands
-! {"workDoneProgress":true}
+! {"workDoneProgress":true} :: commands: is missing
 # clangd 14.0.6
 {"commands":["clangd.applyFix","clangd.applyTweak"]}
 # pylsp 1.7.1
@@ -55,34 +55,34 @@ const EXECUTE_COMMAND_OPTIONS: &str = r#"
 const EXECUTE_COMMAND_REGISTRATION_OPTIONS: &str = r#"
 {"commands":["commands"],"workDoneProgress":true} :: ExecuteCommandRegistrationOptions { commands: ["commands"], work_done_progress_options: WorkDoneProgressOptions { work_done_progress: Some(true) } }
 ? commands
-! {"workDoneProgress":true}
+! {"workDoneProgress":true} :: commands: is missing
 {"commands":["a"]}
 "#;
 
 const DID_CHANGE_WATCHED_FILES_REGISTRATION_OPTIONS: &str = r#"
 {"watchers":[{"globPattern":"globPattern"}]} :: DidChangeWatchedFilesRegistrationOptions { watchers: [FileSystemWatcher { glob_pattern: String("globPattern"), kind: None }] }
 ? watchers
-! {}
+! {} :: watchers: is missing
 "#;
 
 const FILE_SYSTEM_WATCHER: &str = r#"
 {"globPattern":"globPattern","kind":1} :: FileSystemWatcher { glob_pattern: String("globPattern"), kind: Some(WatchKind(1)) }
 ? globPattern
-! {}
+! {} :: globPattern: is missing
 {"globPattern":"**/*.go","kind":7} :: FileSystemWatcher { glob_pattern: String("**/*.go"), kind: Some(WatchKind(7)) }
-! {"globPattern":"**/*.go","kind":8}
+! {"globPattern":"**/*.go","kind":8} :: kind: an unsigned integer is wanted
 "#;
 
 const GLOB_PATTERN: &str = r#"
 "glob_pattern" :: String("glob_pattern")
 {"baseUri":{"name":"name","uri":"file:///uri"},"pattern":"pattern"} :: Relative(RelativePattern { base_uri: Left(WorkspaceFolder { uri: Uri { text: "file:///uri" }, name: "name" }), pattern: "pattern" })
-! false
+! false :: one of its forms is wanted
 "#;
 
 const RELATIVE_PATTERN: &str = r#"
 {"baseUri":{"name":"name","uri":"file:///uri"},"pattern":"pattern"} :: RelativePattern { base_uri: Left(WorkspaceFolder { uri: Uri { text: "file:///uri" }, name: "name" }), pattern: "pattern" }
 ? baseUri pattern
-! {"pattern":"pattern"}
+! {"pattern":"pattern"} :: baseUri: is missing
 {"baseUri":"file:///home/me/project","pattern":"**/*.ts"} :: RelativePattern { base_uri: Right(Uri { text: "file:///home/me/project" }), pattern: "**/*.ts" }
 "#;
 
@@ -93,17 +93,17 @@ const WATCH_KIND: &str = r#"
 4 :: WatchKind(4)
 7 :: WatchKind(7)
 0 :: WatchKind(0)
-! 8
-! 256
-! -1
-! "1"
+! 8 :: an unsigned integer is wanted
+! 256 :: an unsigned integer is wanted
+! -1 :: an unsigned integer is wanted
+! "1" :: an unsigned integer is wanted
 "#;
 
 const WORKSPACE_FILE_OPERATIONS_SERVER_CAPABILITIES: &str = r#"
 {"didCreate":{"filters":[{"pattern":{"glob":"glob"},"scheme":"scheme"}]},"didDelete":{"filters":[{"pattern":{"glob":"glob"},"scheme":"scheme1"}]},"didRename":{"filters":[{"pattern":{"glob":"glob"},"scheme":"scheme"}]},"willCreate":{"filters":[{"pattern":{"glob":"glob"},"scheme":"scheme"}]},"willDelete":{"filters":[{"pattern":{"glob":"glob"},"scheme":"scheme1"}]},"willRename":{"filters":[{"pattern":{"glob":"glob"},"scheme":"scheme"}]}} :: WorkspaceFileOperationsServerCapabilities { did_create: Some(FileOperationRegistrationOptions { filters: [FileOperationFilter { scheme: Some("scheme"), pattern: FileOperationPattern { glob: "glob", matches: None, options: None } }] }), will_create: Some(FileOperationRegistrationOptions { filters: [FileOperationFilter { scheme: Some("scheme"), pattern: FileOperationPattern { glob: "glob", matches: None, options: None } }] }), did_rename: Some(FileOperationRegistrationOptions { filters: [FileOperationFilter { scheme: Some("scheme"), pattern: FileOperationPattern { glob: "glob", matches: None, options: None } }] }), will_rename: Some(FileOperationRegistrationOptions { filters: [FileOperationFilter { scheme: Some("scheme"), pattern: FileOperationPattern { glob: "glob", matches: None, options: None } }] }), did_delete: Some(FileOperationRegistrationOptions { filters: [FileOperationFilter { scheme: Some("scheme1"), pattern: FileOperationPattern { glob: "glob", matches: None, options: None } }] }), will_delete: Some(FileOperationRegistrationOptions { filters: [FileOperationFilter { scheme: Some("scheme1"), pattern: FileOperationPattern { glob: "glob", matches: None, options: None } }] }) }
 ?
 {"didCreate":{"filters":[{"pattern":{"glob":"glob"},"scheme":"scheme"}]},"didDelete":{"filters":[{"pattern":{"glob":"glob"},"scheme":"scheme"}]},"didRename":{"filters":[{"pattern":{"glob":"glob"},"scheme":"scheme2"}]},"willCreate":{"filters":[{"pattern":{"glob":"glob"},"scheme":"scheme1"}]},"willDelete":{"filters":[{"pattern":{"glob":"glob"},"scheme":"scheme1"}]}} :: WorkspaceFileOperationsServerCapabilities { did_create: Some(FileOperationRegistrationOptions { filters: [FileOperationFilter { scheme: Some("scheme"), pattern: FileOperationPattern { glob: "glob", matches: None, options: None } }] }), will_create: Some(FileOperationRegistrationOptions { filters: [FileOperationFilter { scheme: Some("scheme1"), pattern: FileOperationPattern { glob: "glob", matches: None, options: None } }] }), did_rename: Some(FileOperationRegistrationOptions { filters: [FileOperationFilter { scheme: Some("scheme2"), pattern: FileOperationPattern { glob: "glob", matches: None, options: None } }] }), will_rename: None, did_delete: Some(FileOperationRegistrationOptions { filters: [FileOperationFilter { scheme: Some("scheme"), pattern: FileOperationPattern { glob: "glob", matches: None, options: None } }] }), will_delete: Some(FileOperationRegistrationOptions { filters: [FileOperationFilter { scheme: Some("scheme1"), pattern: FileOperationPattern { glob: "glob", matches: None, options: None } }] }) }
-! {"didCreate":"no"}
+! {"didCreate":"no"} :: didCreate: an object is wanted
 # gopls of Debian 12 (its version is shortened here)
 {}
 "#;
@@ -111,7 +111,7 @@ const WORKSPACE_FILE_OPERATIONS_SERVER_CAPABILITIES: &str = r#"
 const FILE_OPERATION_REGISTRATION_OPTIONS: &str = r#"
 {"filters":[{"pattern":{"glob":"glob"},"scheme":"scheme"}]} :: FileOperationRegistrationOptions { filters: [FileOperationFilter { scheme: Some("scheme"), pattern: FileOperationPattern { glob: "glob", matches: None, options: None } }] }
 ? filters
-! {}
+! {} :: filters: is missing
 # The TypeScript server's, by its public form
 {"filters":[{"pattern":{"glob":"**/*.{ts,js,jsx,tsx,mjs,mts,cjs,cts}","matches":"file"},"scheme":"file"},{"pattern":{"glob":"**","matches":"folder"},"scheme":"file"}]}
 "#;
@@ -119,31 +119,31 @@ const FILE_OPERATION_REGISTRATION_OPTIONS: &str = r#"
 const FILE_OPERATION_FILTER: &str = r#"
 {"pattern":{"glob":"glob"},"scheme":"scheme"} :: FileOperationFilter { scheme: Some("scheme"), pattern: FileOperationPattern { glob: "glob", matches: None, options: None } }
 ? pattern scheme=null
-! {"scheme":"scheme"}
+! {"scheme":"scheme"} :: pattern: is missing
 "#;
 
 const FILE_OPERATION_PATTERN_KIND: &str = r#"
 "file" :: File
 "folder" :: Folder
-! "no"
+! "no" :: one of its texts is wanted
 "#;
 
 const FILE_OPERATION_PATTERN_OPTIONS: &str = r#"
 {"ignoreCase":true} :: FileOperationPatternOptions { ignore_case: Some(true) }
 ?
-! {"ignoreCase":"no"}
+! {"ignoreCase":"no"} :: ignoreCase: true or false is wanted
 "#;
 
 const FILE_OPERATION_PATTERN: &str = r#"
 {"glob":"glob","matches":"file","options":{"ignoreCase":true}} :: FileOperationPattern { glob: "glob", matches: Some(File), options: Some(FileOperationPatternOptions { ignore_case: Some(true) }) }
 ? glob
-! {}
+! {} :: glob: is missing
 "#;
 
 const WORKSPACE_SERVER_CAPABILITIES: &str = r#"
 {"fileOperations":{"didCreate":{"filters":[{"pattern":{"glob":"glob"},"scheme":"scheme"}]}},"workspaceFolders":{"supported":true}} :: WorkspaceServerCapabilities { workspace_folders: Some(WorkspaceFoldersServerCapabilities { supported: Some(true), change_notifications: None }), file_operations: Some(WorkspaceFileOperationsServerCapabilities { did_create: Some(FileOperationRegistrationOptions { filters: [FileOperationFilter { scheme: Some("scheme"), pattern: FileOperationPattern { glob: "glob", matches: None, options: None } }] }), will_create: None, did_rename: None, will_rename: None, did_delete: None, will_delete: None }) }
 ?
-! {"workspaceFolders":"no"}
+! {"workspaceFolders":"no"} :: workspaceFolders: an object is wanted
 # pylsp 1.7.1
 {"workspaceFolders":{"changeNotifications":true,"supported":true}}
 # gopls of Debian 12 (its version is shortened here)
@@ -153,7 +153,7 @@ const WORKSPACE_SERVER_CAPABILITIES: &str = r#"
 const WORKSPACE_FOLDERS_SERVER_CAPABILITIES: &str = r#"
 {"changeNotifications":true,"supported":true} :: WorkspaceFoldersServerCapabilities { supported: Some(true), change_notifications: Some(Left(true)) }
 ?
-! {"supported":"no"}
+! {"supported":"no"} :: supported: true or false is wanted
 # pylsp 1.7.1
 {"changeNotifications":true,"supported":true}
 # gopls of Debian 12 (its version is shortened here)
@@ -165,25 +165,25 @@ const WORKSPACE_FOLDERS_SERVER_CAPABILITIES: &str = r#"
 const NOTEBOOK_DOCUMENT_SYNC_OPTIONS: &str = r#"
 {"notebookSelector":[{"notebook":"notebook"}],"save":true} :: NotebookDocumentSyncOptions { notebook_selector: [ByNotebook { notebook: String("notebook"), cells: None }], save: Some(true) }
 ? notebookSelector
-! {}
+! {} :: notebookSelector: is missing
 "#;
 
 const NOTEBOOK_DOCUMENT_SYNC_REGISTRATION_OPTIONS: &str = r#"
 {"id":"id","notebookSelector":[{"notebook":"notebook"}],"save":true} :: NotebookDocumentSyncRegistrationOptions { notebook_selector: [ByNotebook { notebook: String("notebook"), cells: None }], save: Some(true), id: Some("id") }
 ? notebookSelector
-! {}
+! {} :: notebookSelector: is missing
 "#;
 
 const NOTEBOOK_CELL_TEXT_DOCUMENT_FILTER: &str = r#"
 {"language":"language","notebook":"notebook"} :: NotebookCellTextDocumentFilter { notebook: String("notebook"), language: Some("language") }
 ? notebook
-! {}
+! {} :: notebook: is missing
 "#;
 
 const NOTEBOOK_SELECTOR: &str = r#"
 {"notebook":"notebook"} :: ByNotebook { notebook: String("notebook"), cells: None }
 {"cells":[{"language":"language"}]} :: ByCells { notebook: None, cells: [NotebookCellSelector { language: "language" }] }
-! false
+! false :: one of its forms is wanted
 # What LSP 3.17 allows: a selector with both is read by its notebook, and `*` matches every language
 {"cells":[{"language":"python"}],"notebook":{"notebookType":"jupyter-notebook","scheme":"file"}} :: ByNotebook { notebook: NotebookDocumentFilter(ByType { notebook_type: "jupyter-notebook", scheme: Some("file"), pattern: None }), cells: Some([NotebookCellSelector { language: "python" }]) }
 {"cells":[{"language":"*"}]}
@@ -192,28 +192,28 @@ const NOTEBOOK_SELECTOR: &str = r#"
 const NOTEBOOK_CELL_SELECTOR: &str = r#"
 {"language":"language"} :: NotebookCellSelector { language: "language" }
 ? language
-! {}
+! {} :: language: is missing
 "#;
 
 const NOTEBOOK: &str = r#"
 "notebook" :: String("notebook")
 {"notebookType":"notebookType"} :: NotebookDocumentFilter(ByType { notebook_type: "notebookType", scheme: None, pattern: None })
-! false
+! false :: one of its forms is wanted
 "#;
 
 const NOTEBOOK_DOCUMENT_FILTER: &str = r#"
 {"notebookType":"notebookType"} :: ByType { notebook_type: "notebookType", scheme: None, pattern: None }
 {"scheme":"scheme"} :: ByScheme { notebook_type: None, scheme: "scheme", pattern: None }
 {"pattern":"pattern"} :: ByPattern { notebook_type: None, scheme: None, pattern: "pattern" }
-! false
+! false :: one of its forms is wanted
 {"notebookType":"x"} :: ByType { notebook_type: "x", scheme: None, pattern: None }
-! {"notebook_type":"x"}
+! {"notebook_type":"x"} :: one of its forms is wanted
 "#;
 
 const SERVER_INFO: &str = r#"
 {"name":"name","version":"version"} :: ServerInfo { name: "name", version: Some("version") }
 ? name
-! {}
+! {} :: name: is missing
 # clangd 14.0.6
 {"name":"clangd","version":"Debian clangd version 14.0.6 linux+grpc x86_64-pc-linux-gnu"}
 # pylsp 1.7.1
@@ -223,7 +223,7 @@ const SERVER_INFO: &str = r#"
 const INITIALIZE_ERROR: &str = r#"
 {"retry":true} :: InitializeError { retry: true }
 ? retry
-! {}
+! {} :: retry: is missing
 "#;
 
 #[test]

@@ -303,15 +303,15 @@ fn names_and_numbers_of_no_constant(rt: HostRuntime) -> Result<(), RowError> {
 }
 
 const NO_KINDS: &str = r#"
-! "Error"
-! 1.0
-! 1e0
-! 2147483648
-! -2147483649
-! null
-! true
-! [1]
-! {}
+! "Error" :: an integer is wanted
+! 1.0 :: an integer is wanted
+! 1e0 :: an integer is wanted
+! 2147483648 :: an integer is wanted
+! -2147483649 :: an integer is wanted
+! null :: an integer is wanted
+! true :: an integer is wanted
+! [1] :: an integer is wanted
+! {} :: an integer is wanted
 "#;
 
 #[test]

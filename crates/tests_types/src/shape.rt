@@ -2,8 +2,8 @@
 // as.
 use lsp_rows::{RowError, Trial, text_of};
 use lsp_shape::{
-    Key, Misfit, NoMemory, Reader, TextMisfit, TokenNumbers, WideReader, Wire, Writer, attempt,
-    field, find, list_or_empty, members_written, optional, put, put_flat, put_nullable,
+    Key, Misfit, NoMemory, Reader, TextMisfit, TokenNumbers, Wanted, WideReader, Wire, Writer,
+    attempt, field, find, list_or_empty, members_written, optional, put, put_flat, put_nullable,
     put_optional, put_tag, put_unless_empty, put_unless_false, put_value, read_text, read_value,
     reads_back, rest, supported, tag, trimmed, truth_or_false, write_text, write_value,
 };
@@ -24,21 +24,21 @@ const U8: &str = r#"
 0
 7
 255
-! 256
-! -1
-! 1.0
-! "1"
-! null
-! true
-! []
+! 256 :: an unsigned integer is wanted
+! -1 :: an unsigned integer is wanted
+! 1.0 :: an unsigned integer is wanted
+! "1" :: an unsigned integer is wanted
+! null :: an unsigned integer is wanted
+! true :: an unsigned integer is wanted
+! [] :: an unsigned integer is wanted
 "#;
 
 const U32: &str = r#"
 0
 4294967295
-! 4294967296
-! -1
-! 0.5
+! 4294967296 :: an unsigned integer is wanted
+! -1 :: an unsigned integer is wanted
+! 0.5 :: an unsigned integer is wanted
 "#;
 
 const I32: &str = r#"
@@ -46,15 +46,15 @@ const I32: &str = r#"
 -1
 0
 2147483647
-! -2147483649
-! 2147483648
-! 1e3
+! -2147483649 :: an integer is wanted
+! 2147483648 :: an integer is wanted
+! 1e3 :: an integer is wanted
 "#;
 
 const I64: &str = r#"
 -9223372036854775808
 9223372036854775807
-! 9223372036854775808
+! 9223372036854775808 :: an integer is wanted
 "#;
 
 #[test]
@@ -81,17 +81,17 @@ fn signed_numbers_of_32_bits(rt: HostRuntime) -> Result<(), RowError> {
 
 const TRUTH: &str = "
 true
-! 0
+! 0 :: true or false is wanted
 ";
 
 const NULL: &str = "
 null
-! false
+! false :: null is wanted
 ";
 
 const TEXT: &str = r#"
 "a\u00e9" => "aé"
-! null
+! null :: a text is wanted
 "#;
 
 const VALUE: &str = r#"
@@ -100,13 +100,13 @@ const VALUE: &str = r#"
 
 const OBJECT: &str = r#"
 {"a":[1,null,{"b":-2}]}
-! []
+! [] :: an object is wanted
 "#;
 
 const LIST: &str = "
 [0,1,5]
-! [0,-1]
-! {}
+! [0,-1] :: [1]: an unsigned integer is wanted
+! {} :: a list is wanted
 ";
 
 const BOXED: &str = "
@@ -116,22 +116,22 @@ false
 const OPTION: &str = r#"
 null
 3
-! "3"
+! "3" :: an unsigned integer is wanted
 "#;
 
 const PAIR: &str = "
 [2,5]
-! []
-! [2]
-! [2,5,7]
-! [2,-5]
-! null
+! [] :: a list of another length is wanted
+! [2] :: a list of another length is wanted
+! [2,5,7] :: a list of another length is wanted
+! [2,-5] :: [1]: an unsigned integer is wanted
+! null :: a list is wanted
 ";
 
 const MAP: &str = r#"
 {"a":1,"b":2,"c":3}
-! {"a":true}
-! [1]
+! {"a":true} :: a: an integer is wanted
+! [1] :: an object is wanted
 "#;
 
 #[test]
@@ -202,20 +202,21 @@ fn members_that_are_not_named(rt: HostRuntime) -> Result<(), Fail> {
 
 const POSITION: &str = "{\"line\":3,\"character\":null,\"on\":true,\"list\":[1]}";
 
+fn is_unfit<T: Drop>(read: Result<T, Misfit>) -> bool {
+    matches!(read, Err(Misfit::Unfit(_)))
+}
+
 fn try_fields(trial: &mut Trial, alloc: Global, position: &Map<String, Value>) {
-    let unfit = Err(Misfit::Unfit);
     trial.same("line", field::<u32>(alloc, position, "line"), Ok(3));
-    trial.same("row", field::<u32>(alloc, position, "row"), unfit);
-    trial.same(
-        "character",
-        field::<u32>(alloc, position, "character"),
-        unfit,
-    );
+    let missing = Err(Misfit::wanted(Wanted::member("row")));
+    trial.same("row", field::<u32>(alloc, position, "row"), missing);
+    let null = field::<u32>(alloc, position, "character");
+    trial.is_true("character", is_unfit(null));
     trial.same("no row", find(position, "row").is_none(), true);
     trial.same("on", truth_or_false(alloc, position, "on"), Ok(true));
     trial.same("off", truth_or_false(alloc, position, "off"), Ok(false));
-    let error = truth_or_false(alloc, position, "line").err();
-    trial.same("no truth", error, Some(Misfit::Unfit));
+    let number = truth_or_false(alloc, position, "line");
+    trial.is_true("no truth", is_unfit(number));
 }
 
 #[test]
@@ -235,7 +236,7 @@ fn try_absent(trial: &mut Trial, alloc: Global, position: &Map<String, Value>) {
     trial.same("character", character, Ok(None));
     trial.same("row", optional::<u32>(alloc, position, "row"), Ok(None));
     let on = optional::<u32>(alloc, position, "on");
-    trial.same("on", on, Err(Misfit::Unfit));
+    trial.is_true("on", is_unfit(on));
     let list = list_or_empty::<u32>(alloc, position, "list");
     trial.shows("list", list, "Ok([1])");
     let list = list_or_empty::<u32>(alloc, position, "row");
@@ -253,7 +254,11 @@ fn fields_that_may_be_absent(rt: HostRuntime) -> Result<(), Fail> {
 }
 
 // What is written of what is supported by the member, or `none`.
-fn supported_by(alloc: Global, object: &Map<String, Value>, name: &str) -> Result<String, Misfit> {
+fn supported_by(
+    alloc: Global,
+    object: &Map<String, Value>,
+    name: &'static str,
+) -> Result<String, Misfit> {
     match supported::<Value>(alloc, object, name)? {
         Some(value) => Ok(value.to_string(alloc)?),
         None => Ok(String::from_str(alloc, "none")?),
@@ -335,7 +340,8 @@ fn numbers_of_tokens(rt: HostRuntime) -> Result<(), Fail> {
     let odd = json(alloc, "[2,5,3,0]")?;
     let error = written::<TokenNumbers>(alloc, &odd).err();
     drop(odd);
-    trial.same("four numbers", error, Some(Misfit::Unfit));
+    let length = Some(Misfit::wanted(Wanted::Length));
+    trial.same("four numbers", error, length);
     Ok(trial.end()?)
 }
 
@@ -388,7 +394,7 @@ fn try_wide(trial: &mut Trial, mut whole: WideReader, mut unfit: WideReader) {
     trial.same("end", whole.end(5u32), Ok(5));
     trial.same("a is no truth", unfit.optional::<bool>("a"), None);
     trial.same("b after it", unfit.optional::<bool>("b"), None);
-    trial.same("its end", unfit.end(5u32), Err(Misfit::Unfit));
+    trial.is_true("its end", is_unfit(unfit.end(5u32)));
 }
 
 #[test]
@@ -510,7 +516,8 @@ fn written_and_read(rt: HostRuntime) -> Result<(), Fail> {
     let alloc = rt.alloc();
     let mut trial = Trial::new(alloc);
     let error = read_value::<u32>(alloc, &Value::Array(Vec::new(alloc))).err();
-    trial.same("no number", error, Some(Misfit::Unfit));
+    let unsigned = Some(Misfit::wanted(Wanted::Unsigned));
+    trial.same("no number", error, unsigned);
     let value = json(alloc, "[1,2]")?;
     let list = read_value(alloc, &value);
     drop(value);

@@ -231,10 +231,10 @@ fn compared_and_printed_by_the_text(rt: HostRuntime) -> Result<(), Fail> {
 
 const URIS: &str = r#"
 "file:///a"
-! "a b"
-! 1
-! null
-! []
+! "a b" :: a URI is wanted
+! 1 :: a URI is wanted
+! null :: a URI is wanted
+! [] :: a URI is wanted
 "#;
 
 const ENTRIES: &str = "{\"file:///a\":[1],\"untitled:Untitled-1\":[]}";

@@ -9,13 +9,13 @@ const RANGE_BASED_DOCUMENT_SYMBOL: &str = r#"
 ? id
 {"children":[{"children":[{"id":3}],"id":"id"},{"id":2}],"id":1} :: RangeBasedDocumentSymbol { id: Number(1), children: [RangeBasedDocumentSymbol { id: String("id"), children: [RangeBasedDocumentSymbol { id: Number(3), children: [] }] }, RangeBasedDocumentSymbol { id: Number(2), children: [] }] }
 {"children":[],"id":1} => {"id":1} :: RangeBasedDocumentSymbol { id: Number(1), children: [] }
-! {"children":[{"id":3}]}
-! {"children":null,"id":1}
-! {"children":{"id":3},"id":1}
-! {"children":[{}],"id":1}
-! {"children":[{"children":[3],"id":2}],"id":1}
-! {"id":true}
-! 17
+! {"children":[{"id":3}]} :: id: is missing
+! {"children":null,"id":1} :: children: a list is wanted
+! {"children":{"id":3},"id":1} :: children: a list is wanted
+! {"children":[{}],"id":1} :: children[0].id: is missing
+! {"children":[{"children":[3],"id":2}],"id":1} :: children[0].children[0]: an object is wanted
+! {"id":true} :: id: one of its forms is wanted
+! 17 :: an object is wanted
 # LSIF 0.6, Request: textDocument/documentSymbol
 {"id":7,"children":[{"id":9},{"id":10,"children":[{"id":11}]}]}
 "#;

@@ -8,13 +8,13 @@ const RANGE_TAG: &str = r#"
 {"deprecated":false,"fullRange":{"end":{"character":4,"line":3},"start":{"character":2,"line":1}},"kind":130,"text":"text","type":"declaration"} :: Declaration(DeclarationTag { text: "text", kind: SymbolKind(130), deprecated: false, full_range: Range { start: Position { line: 1, character: 2 }, end: Position { line: 3, character: 4 } }, detail: None })
 {"text":"text","type":"reference"} :: Reference(ReferenceTag { text: "text" })
 {"text":"text","type":"unknown"} :: Unknown(UnknownTag { text: "text" })
-! {"text":"text","type":"definition"}
-! {"text":"text","type":"declaration"}
-! {"text":"text","type":"no"}
-! {"text":"text"}
-! {"type":"reference"}
-! {"type":"unknown"}
-! "unknown"
+! {"text":"text","type":"definition"} :: one of its forms is wanted
+! {"text":"text","type":"declaration"} :: one of its forms is wanted
+! {"text":"text","type":"no"} :: one of its forms is wanted
+! {"text":"text"} :: one of its forms is wanted
+! {"type":"reference"} :: one of its forms is wanted
+! {"type":"unknown"} :: one of its forms is wanted
+! "unknown" :: one of its forms is wanted
 # LSIF 0.6, Request: textDocument/documentSymbol
 {"type":"definition","text":"hello","kind":6,"fullRange":{"start":{"line":1,"character":2},"end":{"line":3,"character":3}},"detail":"(): void"}
 {"type":"reference","text":"bar"}
@@ -25,11 +25,11 @@ const DEFINITION_TAG: &str = r#"
 ? text kind fullRange
 {"fullRange":{"end":{"character":4,"line":3},"start":{"character":2,"line":1}},"kind":130,"text":"text"} :: DefinitionTag { text: "text", kind: SymbolKind(130), deprecated: false, full_range: Range { start: Position { line: 1, character: 2 }, end: Position { line: 3, character: 4 } }, detail: None }
 {"deprecated":false,"detail":null,"fullRange":{"end":{"character":4,"line":3},"start":{"character":2,"line":1}},"kind":130,"text":"text"} => {"fullRange":{"end":{"character":4,"line":3},"start":{"character":2,"line":1}},"kind":130,"text":"text"} :: DefinitionTag { text: "text", kind: SymbolKind(130), deprecated: false, full_range: Range { start: Position { line: 1, character: 2 }, end: Position { line: 3, character: 4 } }, detail: None }
-! {"fullRange":{"end":{"character":4,"line":3},"start":{"character":2,"line":1}},"kind":130}
-! {"fullRange":{"end":{"character":4,"line":3},"start":{"character":2,"line":1}},"text":"text"}
-! {"kind":130,"text":"text"}
-! {"deprecated":null,"fullRange":{"end":{"character":4,"line":3},"start":{"character":2,"line":1}},"kind":130,"text":"text"}
-! {"deprecated":1,"fullRange":{"end":{"character":4,"line":3},"start":{"character":2,"line":1}},"kind":130,"text":"text"}
+! {"fullRange":{"end":{"character":4,"line":3},"start":{"character":2,"line":1}},"kind":130} :: text: is missing
+! {"fullRange":{"end":{"character":4,"line":3},"start":{"character":2,"line":1}},"text":"text"} :: kind: is missing
+! {"kind":130,"text":"text"} :: fullRange: is missing
+! {"deprecated":null,"fullRange":{"end":{"character":4,"line":3},"start":{"character":2,"line":1}},"kind":130,"text":"text"} :: deprecated: true or false is wanted
+! {"deprecated":1,"fullRange":{"end":{"character":4,"line":3},"start":{"character":2,"line":1}},"kind":130,"text":"text"} :: deprecated: true or false is wanted
 "#;
 
 const DECLARATION_TAG: &str = r#"
@@ -37,25 +37,25 @@ const DECLARATION_TAG: &str = r#"
 ? text kind fullRange deprecated=false
 {"deprecated":false,"fullRange":{"end":{"character":4,"line":3},"start":{"character":2,"line":1}},"kind":130,"text":"text"} :: DeclarationTag { text: "text", kind: SymbolKind(130), deprecated: false, full_range: Range { start: Position { line: 1, character: 2 }, end: Position { line: 3, character: 4 } }, detail: None }
 {"fullRange":{"end":{"character":4,"line":3},"start":{"character":2,"line":1}},"kind":130,"text":"text"} => {"deprecated":false,"fullRange":{"end":{"character":4,"line":3},"start":{"character":2,"line":1}},"kind":130,"text":"text"} :: DeclarationTag { text: "text", kind: SymbolKind(130), deprecated: false, full_range: Range { start: Position { line: 1, character: 2 }, end: Position { line: 3, character: 4 } }, detail: None }
-! {"deprecated":false,"fullRange":{"end":{"character":4,"line":3},"start":{"character":2,"line":1}},"kind":130}
-! {"deprecated":false,"fullRange":{"end":{"character":4,"line":3},"start":{"character":2,"line":1}},"text":"text"}
-! {"deprecated":false,"kind":130,"text":"text"}
-! {"deprecated":null,"fullRange":{"end":{"character":4,"line":3},"start":{"character":2,"line":1}},"kind":130,"text":"text"}
+! {"deprecated":false,"fullRange":{"end":{"character":4,"line":3},"start":{"character":2,"line":1}},"kind":130} :: text: is missing
+! {"deprecated":false,"fullRange":{"end":{"character":4,"line":3},"start":{"character":2,"line":1}},"text":"text"} :: kind: is missing
+! {"deprecated":false,"kind":130,"text":"text"} :: fullRange: is missing
+! {"deprecated":null,"fullRange":{"end":{"character":4,"line":3},"start":{"character":2,"line":1}},"kind":130,"text":"text"} :: deprecated: true or false is wanted
 "#;
 
 const REFERENCE_TAG: &str = r#"
 {"text":"text"} :: ReferenceTag { text: "text" }
 ? text
 {"kind":130,"text":"text"} => {"text":"text"} :: ReferenceTag { text: "text" }
-! {"text":1}
-! {}
+! {"text":1} :: text: a text is wanted
+! {} :: text: is missing
 "#;
 
 const UNKNOWN_TAG: &str = r#"
 {"text":"text"} :: UnknownTag { text: "text" }
 ? text
-! {"text":null}
-! {}
+! {"text":null} :: text: a text is wanted
+! {} :: text: is missing
 "#;
 
 #[test]

@@ -1,5 +1,8 @@
+use Rattle.std.proofs.Common.{refl, ap}
+use Rattle.std.specs.Prelude.{Err}
 use Rattle.serde_json.specs.View.{view}
 use Rattle.lsp_shape.specs.Shape.{no_fields}
+use Rattle.lsp_shape.proofs.Refusals.{passed, passed_in}
 use Rattle.lsp_shape.proofs.Parts.{when_ok, record_read, reads_end, reads_member, reads_supported, record_unread, unread_end, unread_member, unread_supported}
 use Rattle.lsp_caps_text.specs.Completion.{completion_item_capability_row, completion_item_capability_fields}
 use Rattle.lsp_caps_text.proofs.completion.CompletionItemCapabilityWire.from_value.Goals as goal
@@ -22,7 +25,7 @@ returns-clause-read c = when_ok _ c.end.result c.end.ensures.value c.end.ensures
 
 pub returns-clause-unfit : goal.returns-clause-unfit
 unfolding completion_item_capability_row completion_item_capability_fields
-returns-clause-unfit c = λ unfit.
+returns-clause-unfit c = λ why is.
     record_unread (completion_item_capability_fields.row no_fields) c.in_ok-object.object (view c.args.value.now) c.in_ok-object.ensures.ok c.in_ok-object.ensures.fits (
     unread_member c.optional.new.self c.optional.ensures (
     unread_member c.optional-2.new.self c.optional-2.ensures (
@@ -34,4 +37,8 @@ returns-clause-unfit c = λ unfit.
     unread_member c.optional-7.new.self c.optional-7.ensures (
     unread_member c.optional-8.new.self c.optional-8.ensures (
     unread_member c.optional-9.new.self c.optional-9.ensures (
-    unread_end c.optional-9.new.self (c.end.ensures.unfit unfit))))))))))))
+    unread_end c.optional-9.new.self (c.end.ensures.unfit why is))))))))))))
+
+pub returns-in_err-object-clause-unfit : goal.returns-in_err-object-clause-unfit
+unfolding completion_item_capability_row completion_item_capability_fields
+returns-in_err-object-clause-unfit c = passed c.from_residual.result c.in_err-object.field-0.0 _ c.from_residual.ensures.1 (λ why is. c.in_err-object.ensures.unfit why (ap Err is) completion_item_capability_row.shape refl)

@@ -1,5 +1,8 @@
+use Rattle.std.proofs.Common.{refl, ap}
+use Rattle.std.specs.Prelude.{Err}
 use Rattle.serde_json.specs.View.{view}
 use Rattle.lsp_shape.specs.Shape.{no_fields}
+use Rattle.lsp_shape.proofs.Refusals.{passed, passed_in}
 use Rattle.lsp_shape.proofs.Parts.{when_ok, record_read, reads_end, reads_member, reads_required, record_unread, unread_end, unread_member, unread_required}
 use Rattle.lsp_lang_item.specs.Completion.{completion_item_row, completion_item_fields}
 use Rattle.lsp_lang_item.proofs.completion.CompletionItemWire.from_value.Goals as goal
@@ -30,7 +33,7 @@ returns-clause-read c = when_ok _ c.end.result c.end.ensures.value c.end.ensures
 
 pub returns-clause-unfit : goal.returns-clause-unfit
 unfolding completion_item_row completion_item_fields
-returns-clause-unfit c = λ unfit.
+returns-clause-unfit c = λ why is.
     record_unread (completion_item_fields.row no_fields) c.in_ok-object.object (view c.args.value.now) c.in_ok-object.ensures.ok c.in_ok-object.ensures.fits (
     unread_required (
     unread_member c.optional.new.self c.optional.ensures (
@@ -50,4 +53,12 @@ returns-clause-unfit c = λ unfit.
     unread_member c.optional-15.new.self c.optional-15.ensures (
     unread_member c.optional-16.new.self c.optional-16.ensures (
     unread_member c.optional-17.new.self c.optional-17.ensures (
-    unread_end c.optional-17.new.self (c.end.ensures.unfit unfit))))))))))))))))))))
+    unread_end c.optional-17.new.self (c.end.ensures.unfit why is))))))))))))))))))))
+
+pub returns-in_err-object-clause-unfit : goal.returns-in_err-object-clause-unfit
+unfolding completion_item_row completion_item_fields
+returns-in_err-object-clause-unfit c = passed c.from_residual.result c.in_err-object.field-0.0 _ c.from_residual.ensures.1 (λ why is. c.in_err-object.ensures.unfit why (ap Err is) completion_item_row.shape refl)
+
+pub returns-in_err-field-clause-unfit : goal.returns-in_err-field-clause-unfit
+unfolding completion_item_row completion_item_fields
+returns-in_err-field-clause-unfit c = passed_in c.from_residual-in_err-field.result c.in_err-field.field-0.0 completion_item_row.shape c.in_ok-object.ensures.ok c.from_residual-in_err-field.ensures.1 (λ why is. c.in_err-field.ensures.unfit why (ap Err is) completion_item_row.shape refl)

@@ -1,0 +1,17 @@
+use Rattle.std.proofs.Common.{refl, ap, inl}
+use Rattle.std.specs.Prelude.{Err}
+use Rattle.lsp_shape.proofs.Refusals.{passed, passed_in}
+use Rattle.lsp_lsif.specs.Vertex.{vertex_range_row}
+use Rattle.lsp_lsif.proofs.vertex.range_of.Goals as goal
+
+pub returns-in_err-object-clause-unfit : goal.returns-in_err-object-clause-unfit
+returns-in_err-object-clause-unfit c =
+    passed c.from_residual.result c.in_err-object.field-0.0 _ c.from_residual.ensures.1 (λ why is. c.in_err-object.ensures.unfit why (ap Err is) vertex_range_row.shape refl)
+
+pub returns-in_err-flat-clause-unfit : goal.returns-in_err-flat-clause-unfit
+returns-in_err-flat-clause-unfit c =
+    passed c.from_residual-in_err-flat.result c.in_err-flat.field-0.0 _ c.from_residual-in_err-flat.ensures.1 (λ why is. c.in_err-flat.ensures.unfit why (ap Err is) vertex_range_row.shape (inl refl))
+
+pub returns-in_err-optional-clause-unfit : goal.returns-in_err-optional-clause-unfit
+returns-in_err-optional-clause-unfit c =
+    passed_in c.from_residual-in_err-optional.result c.in_err-optional.field-0.0 vertex_range_row.shape c.in_ok-object.ensures.ok c.from_residual-in_err-optional.ensures.1 (λ why is. c.in_err-optional.ensures.unfit why (ap Err is) vertex_range_row.shape refl)

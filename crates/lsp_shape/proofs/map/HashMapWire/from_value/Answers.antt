@@ -1,0 +1,17 @@
+use Rattle.std.proofs.Common.{ap, sym, refl, subst, is_some}
+use Rattle.serde_json.specs.Data.{Data}
+use Rattle.serde_json.specs.View.{view}
+use Rattle.lsp_shape.specs.Shape.{map_of}
+use Rattle.lsp_shape.specs.Read.{read}
+use Rattle.lsp_shape.specs.Why.{Fails}
+use Rattle.lsp_shape.specs.declared.why.Wanted.TheVariants as wants
+use Rattle.lsp_shape.proofs.Told.{wants_kind, gave, gave_none, is_object}
+use Rattle.lsp_shape.proofs.map.HashMapWire.from_value.Goals as goal
+
+pub returns-in-Some-clause-unfit : goal.returns-in-Some-clause-unfit
+returns-in-Some-clause-unfit g c = λ why is. record {
+  fails = subst (λ (d : Data). Fails (read (map_of g.K.Key.is_key g.T.Wire.shape)) d why) (sym (is_object (view c.args.value.now) _ (gave _ c.as_object.ensures c.in-Some.is))) (c.rest.ensures.unfit why is);
+}
+
+pub returns-in-None-clause-unfit : goal.returns-in-None-clause-unfit
+returns-in-None-clause-unfit g c = wants_kind wants.Object (map_of g.K.Key.is_key g.T.Wire.shape) (view c.args.value.now) c.wanted.result c.wanted.ensures.refuses refl (ap is_some (gave_none _ c.as_object.ensures c.in-None.is))
