@@ -142,9 +142,9 @@ impl Wire for PrepareRenameResponse {
                 placeholder: x.placeholder,
             });
         }
-        let x = form::<PrepareRenameResponseDefaultBehavior>(alloc, value)?;
+        let behavior = form::<PrepareRenameResponseDefaultBehavior>(alloc, value)?;
         Ok(PrepareRenameResponse::DefaultBehavior {
-            default_behavior: x.default_behavior,
+            default_behavior: behavior.default_behavior,
         })
     }
 
