@@ -205,10 +205,10 @@ impl Wire for NotebookSelector {
                 cells: x.cells,
             });
         }
-        let x = form::<NotebookSelectorByCells>(alloc, value)?;
+        let by_cells = form::<NotebookSelectorByCells>(alloc, value)?;
         Ok(NotebookSelector::ByCells {
-            notebook: x.notebook,
-            cells: x.cells,
+            notebook: by_cells.notebook,
+            cells: by_cells.cells,
         })
     }
 
@@ -440,11 +440,11 @@ impl Wire for NotebookDocumentFilter {
                 pattern: x.pattern,
             });
         }
-        let x = form::<NotebookDocumentFilterByPattern>(alloc, value)?;
+        let by_pattern = form::<NotebookDocumentFilterByPattern>(alloc, value)?;
         Ok(NotebookDocumentFilter::ByPattern {
-            notebook_type: x.notebook_type,
-            scheme: x.scheme,
-            pattern: x.pattern,
+            notebook_type: by_pattern.notebook_type,
+            scheme: by_pattern.scheme,
+            pattern: by_pattern.pattern,
         })
     }
 

@@ -8,8 +8,8 @@ use Rattle.lsp_offer_work.specs.Notebook.{notebook_document_filter_by_scheme_row
 use Rattle.lsp_offer_work.specs.Notebook.{notebook_document_filter_by_pattern_row}
 use Rattle.lsp_offer_work.proofs.notebook.NotebookDocumentFilterWire.from_value.Goals as goal
 
-pub returns-in_err-x-clause-unfit : goal.returns-in_err-x-clause-unfit
+pub returns-in_err-by_pattern-clause-unfit : goal.returns-in_err-by_pattern-clause-unfit
 unfolding notebook_document_filter_row notebook_document_filter_by_type_row notebook_document_filter_by_scheme_row notebook_document_filter_by_pattern_row
-returns-in_err-x-clause-unfit c =
-    form_told c.from_residual-in_err-x.result c.in_err-x.field-0.0 notebook_document_filter_row.shape (view c.args.value.now) refl c.from_residual-in_err-x.ensures.1 (λ why is. c.in_err-x.ensures.refuses why (ap Err is))
-    (λ why is. let none = c.in_err-x.ensures.unfit why (ap Err is) in search rules)
+returns-in_err-by_pattern-clause-unfit c =
+    form_told c.from_residual-in_err-by_pattern.result c.in_err-by_pattern.field-0.0 notebook_document_filter_row.shape (view c.args.value.now) refl c.from_residual-in_err-by_pattern.ensures.1 (λ why is. c.in_err-by_pattern.ensures.refuses why (ap Err is))
+    (λ why is. let none = c.in_err-by_pattern.ensures.unfit why (ap Err is) in search rules)

@@ -7,8 +7,8 @@ use Rattle.lsp_offer_work.specs.Notebook.{notebook_selector_by_notebook_row}
 use Rattle.lsp_offer_work.specs.Notebook.{notebook_selector_by_cells_row}
 use Rattle.lsp_offer_work.proofs.notebook.NotebookSelectorWire.from_value.Goals as goal
 
-pub returns-in_err-x-clause-unfit : goal.returns-in_err-x-clause-unfit
+pub returns-in_err-by_cells-clause-unfit : goal.returns-in_err-by_cells-clause-unfit
 unfolding notebook_selector_row notebook_selector_by_notebook_row notebook_selector_by_cells_row
-returns-in_err-x-clause-unfit c =
-    form_told c.from_residual-in_err-x.result c.in_err-x.field-0.0 notebook_selector_row.shape (view c.args.value.now) refl c.from_residual-in_err-x.ensures.1 (λ why is. c.in_err-x.ensures.refuses why (ap Err is))
-    (λ why is. let none = c.in_err-x.ensures.unfit why (ap Err is) in search rules)
+returns-in_err-by_cells-clause-unfit c =
+    form_told c.from_residual-in_err-by_cells.result c.in_err-by_cells.field-0.0 notebook_selector_row.shape (view c.args.value.now) refl c.from_residual-in_err-by_cells.ensures.1 (λ why is. c.in_err-by_cells.ensures.refuses why (ap Err is))
+    (λ why is. let none = c.in_err-by_cells.ensures.unfit why (ap Err is) in search rules)
