@@ -65,12 +65,12 @@ impl Wire for ClientCapabilities {
     fn from_value(alloc: Global, value: &Value) -> Result<ClientCapabilities, Misfit> {
         let object = Reader::new(alloc, value)?;
         Ok(ClientCapabilities {
-            workspace: object.optional("workspace")?,
-            text_document: object.optional("textDocument")?,
             notebook_document: object.optional("notebookDocument")?,
             window: object.optional("window")?,
-            general: object.optional("general")?,
             experimental: object.optional("experimental")?,
+            general: object.optional("general")?,
+            workspace: object.optional("workspace")?,
+            text_document: object.optional("textDocument")?,
         })
     }
 
@@ -161,13 +161,13 @@ impl Wire for InitializeParams {
             process_id: object.optional("processId")?,
             root_path: object.optional("rootPath")?,
             root_uri: object.optional("rootUri")?,
-            initialization_options: object.optional("initializationOptions")?,
-            capabilities: object.field("capabilities")?,
             trace: object.optional("trace")?,
             workspace_folders: object.optional("workspaceFolders")?,
-            client_info: object.optional("clientInfo")?,
             locale: object.optional("locale")?,
+            client_info: object.optional("clientInfo")?,
             work_done_progress_params: flat(alloc, value)?,
+            initialization_options: object.optional("initializationOptions")?,
+            capabilities: object.field("capabilities")?,
         })
     }
 

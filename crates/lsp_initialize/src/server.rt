@@ -342,8 +342,8 @@ impl Wire for InitializeResult {
     fn from_value(alloc: Global, value: &Value) -> Result<InitializeResult, Misfit> {
         let object = Reader::new(alloc, value)?;
         Ok(InitializeResult {
-            capabilities: object.field("capabilities")?,
             server_info: object.optional("serverInfo")?,
+            capabilities: object.field("capabilities")?,
         })
     }
 
