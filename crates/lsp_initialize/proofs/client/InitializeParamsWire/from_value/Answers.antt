@@ -25,10 +25,6 @@ pub returns-in_err-optional-4-clause-unfit : goal.returns-in_err-optional-4-clau
 unfolding initialize_params_row work_done_progress_params_row
 returns-in_err-optional-4-clause-unfit c = passed_in c.from_residual-in_err-optional-4.result c.in_err-optional-4.field-0.0 initialize_params_row.shape c.in_ok-object.ensures.ok c.from_residual-in_err-optional-4.ensures.1 (λ why is. c.in_err-optional-4.ensures.unfit why (ap Err is) initialize_params_row.shape refl)
 
-pub returns-in_err-field-clause-unfit : goal.returns-in_err-field-clause-unfit
-unfolding initialize_params_row work_done_progress_params_row
-returns-in_err-field-clause-unfit c = passed_in c.from_residual-in_err-field.result c.in_err-field.field-0.0 initialize_params_row.shape c.in_ok-object.ensures.ok c.from_residual-in_err-field.ensures.1 (λ why is. c.in_err-field.ensures.unfit why (ap Err is) initialize_params_row.shape refl)
-
 pub returns-in_err-optional-5-clause-unfit : goal.returns-in_err-optional-5-clause-unfit
 unfolding initialize_params_row work_done_progress_params_row
 returns-in_err-optional-5-clause-unfit c = passed_in c.from_residual-in_err-optional-5.result c.in_err-optional-5.field-0.0 initialize_params_row.shape c.in_ok-object.ensures.ok c.from_residual-in_err-optional-5.ensures.1 (λ why is. c.in_err-optional-5.ensures.unfit why (ap Err is) initialize_params_row.shape refl)
@@ -41,10 +37,14 @@ pub returns-in_err-optional-7-clause-unfit : goal.returns-in_err-optional-7-clau
 unfolding initialize_params_row work_done_progress_params_row
 returns-in_err-optional-7-clause-unfit c = passed_in c.from_residual-in_err-optional-7.result c.in_err-optional-7.field-0.0 initialize_params_row.shape c.in_ok-object.ensures.ok c.from_residual-in_err-optional-7.ensures.1 (λ why is. c.in_err-optional-7.ensures.unfit why (ap Err is) initialize_params_row.shape refl)
 
+pub returns-in_err-flat-clause-unfit : goal.returns-in_err-flat-clause-unfit
+unfolding initialize_params_row work_done_progress_params_row
+returns-in_err-flat-clause-unfit c = passed c.from_residual-in_err-flat.result c.in_err-flat.field-0.0 _ c.from_residual-in_err-flat.ensures.1 (λ why is. c.in_err-flat.ensures.unfit why (ap Err is) initialize_params_row.shape (inl refl))
+
 pub returns-in_err-optional-8-clause-unfit : goal.returns-in_err-optional-8-clause-unfit
 unfolding initialize_params_row work_done_progress_params_row
 returns-in_err-optional-8-clause-unfit c = passed_in c.from_residual-in_err-optional-8.result c.in_err-optional-8.field-0.0 initialize_params_row.shape c.in_ok-object.ensures.ok c.from_residual-in_err-optional-8.ensures.1 (λ why is. c.in_err-optional-8.ensures.unfit why (ap Err is) initialize_params_row.shape refl)
 
-pub returns-in_err-flat-clause-unfit : goal.returns-in_err-flat-clause-unfit
+pub returns-in_err-field-clause-unfit : goal.returns-in_err-field-clause-unfit
 unfolding initialize_params_row work_done_progress_params_row
-returns-in_err-flat-clause-unfit c = passed c.from_residual-in_err-flat.result c.in_err-flat.field-0.0 _ c.from_residual-in_err-flat.ensures.1 (λ why is. c.in_err-flat.ensures.unfit why (ap Err is) initialize_params_row.shape (inl refl))
+returns-in_err-field-clause-unfit c = passed_in c.from_residual-in_err-field.result c.in_err-field.field-0.0 initialize_params_row.shape c.in_ok-object.ensures.ok c.from_residual-in_err-field.ensures.1 (λ why is. c.in_err-field.ensures.unfit why (ap Err is) initialize_params_row.shape refl)

@@ -4,6 +4,6 @@ use Rattle.lsp_shape.proofs.Refusals.{passed, passed_in}
 use Rattle.lsp_offer_lang.specs.Color.{color_provider_options_row}
 use Rattle.lsp_offer_lang.proofs.color.ColorProviderOptionsWire.from_value.Goals as goal
 
-pub returns-in_err-object-clause-unfit : goal.returns-in_err-object-clause-unfit
+pub returns-in_err-new-clause-unfit : goal.returns-in_err-new-clause-unfit
 unfolding color_provider_options_row
-returns-in_err-object-clause-unfit c = passed c.from_residual.result c.in_err-object.field-0.0 _ c.from_residual.ensures.1 (λ why is. c.in_err-object.ensures.unfit why (ap Err is) color_provider_options_row.shape refl)
+returns-in_err-new-clause-unfit c = passed c.from_residual.result c.in_err-new.field-0.0 _ c.from_residual.ensures.1 (λ why is. c.in_err-new.ensures.unfit why (ap Err is) color_provider_options_row.shape refl)
