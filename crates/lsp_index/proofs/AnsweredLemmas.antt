@@ -1,6 +1,6 @@
 -- What reading a dump comes to over a call.
 use Rattle.std.proofs.Common.{◌≡◌, ℕ, List, [], ◌++◌, Bool, true, false, ◌⊎◌, inl, inr, refl, sym, ◌∙◌, ap, subst}
-use Rattle.std.specs.Prelude.{◌≢◌, ⊤, Option, Some, Result, Ok, Err, IfErr, not}
+use Rattle.std.specs.Prelude.{◌≢◌, ⊤, Option, Some, Result, Ok, Err, OnOk, OnErr, IfErr, not}
 use Rattle.std.specs.Bool.{MatchBool}
 use Rattle.std.specs.Result.{result_err}
 use Rattle.std.specs.Io.KnownBytes.{Consumes, Appends}
@@ -84,7 +84,7 @@ abbrev Answers : Search → List ℕ → Type 0
 Answers new line = (g : Graph) → IsKept g new.index → IsLine (show_query new.query) g line
 
 -- the line of the answer was written
-pub did_end : (lines : Lines) (search new : Search) (line : List ℕ) (taken taken_after : Option (List ℕ)) → TookGood search lines.part.items new → Answers new line → Appends taken taken_after line
+did_end : (lines : Lines) (search new : Search) (line : List ℕ) (taken taken_after : Option (List ℕ)) → TookGood search lines.part.items new → Answers new line → Appends taken taken_after line
     → Did dump_reading (lines, search) end done taken taken_after (lines, new)
 did_end lines search new line taken taken_after t answers writes = record {
   written = line;
@@ -93,13 +93,20 @@ did_end lines search new line taken taken_after t answers writes = record {
 }
 
 -- some of it was written
-pub did_end_part : (lines : Lines) (search new : Search) (line : List ℕ) (taken taken_after : Option (List ℕ)) (e : ServeError) → ComesOfSink e → TookGood search lines.part.items new → Answers new line
+did_end_part : (lines : Lines) (search new : Search) (line : List ℕ) (taken taken_after : Option (List ℕ)) (e : ServeError) → ComesOfSink e → TookGood search lines.part.items new → Answers new line
     → (written : List ℕ) × IsPrefixOf written line × Appends taken taken_after written → Did dump_reading (lines, search) end (stops e) taken taken_after (lines, new)
 did_end_part lines search new line taken taken_after e sink t answers part = record {
   written = part.0;
   does = (sink, λ q bytes after. inr (line, answer_line q bytes lines search after new t line answers, part.1));
   writes = part.2;
 }
+
+-- the line of the answer was sent
+pub did_sent : (lines : Lines) (search new : Search) (line : List ℕ) (taken taken_after : Option (List ℕ)) (r : Result Unit ServeError) → TookGood search lines.part.items new → Answers new line
+    → OnOk r (Appends taken taken_after line) → OnErr r ((written : List ℕ) × IsPrefixOf written line × Appends taken taken_after written) → IfErr r ComesOfSink
+    → Did dump_reading (lines, search) end (last_outcome r) taken taken_after (lines, new)
+did_sent lines search new line taken taken_after (Ok x) t answers all part others = did_end lines search new line taken taken_after t answers all
+did_sent lines search new line taken taken_after (Err e) t answers all part others = did_end_part lines search new line taken taken_after e others t answers part
 
 -- ---- a call
 

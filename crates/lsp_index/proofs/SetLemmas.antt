@@ -19,8 +19,8 @@ use Rattle.lsp_index.specs.declared.graph.Node.{Node}
 use Rattle.lsp_index.specs.Graph.{Graph}
 use Rattle.lsp_index.specs.declared.graph.Role.{Role}
 use Rattle.lsp_index.specs.declared.graph.Role.TheVariants as roles
-use Rattle.lsp_index.specs.Queries.{LocationData, with_new_id, with_linked, with_results, with_results_of, with_places, items_from, results_after, AreResults, candidate_in, named_in, with_candidate, chosen_at, closest_of, range_holding, range_in}
-use Rattle.lsp_index.specs.Shown.{show_node, show_vertex_of}
+use Rattle.lsp_index.specs.Queries.{LocationData, with_new_id, with_linked, with_results, with_results_of, with_places, items_from, results_after, AreResults, candidate_in, named_in, with_candidate, chosen_at, closest_of, holds_position, range_holding}
+use Rattle.lsp_index.specs.Shown.{show_vertex_of}
 use Rattle.lsp_index.specs.Kept.{same_key, IsKept}
 use Rattle.lsp_index.proofs.TableLemmas.{any-shown}
 
@@ -157,12 +157,23 @@ chosen_is g index kept uri p named is =
     ap (λ ns. option_map (λ (c : IdData × Range). c.0) (fold (with_candidate ns p) None (map show_vertex_of index.vertices.entries))) is
     ∙ ap (λ vs. option_map (λ (c : IdData × Range). c.0) (fold (with_candidate (named_in g uri) p) None vs)) kept.vertices
 
-pub candidate_yes : (keys : List Id) (p : Position) (id : Id) (node : Node) (b : Bool) → b ≡ list_any (same_key id) keys → b ≡ true
-    → candidate_in (map show_id keys) p (show_vertex_of (id, node)) ≡ range_holding (show_id id) p (range_in (show_node node))
-candidate_yes keys p id node b is there =
-    ap (λ t. cond t (range_holding (show_id id) p (range_in (show_node node))) None) (any-shown id keys ∙ sym is ∙ there)
+-- ---- a range of those named
 
-pub candidate_no : (keys : List Id) (p : Position) (id : Id) (node : Node) (b : Bool) → b ≡ list_any (same_key id) keys → b ≡ false
-    → candidate_in (map show_id keys) p (show_vertex_of (id, node)) ≡ None
-candidate_no keys p id node b is out =
-    ap (λ t. cond t (range_holding (show_id id) p (range_in (show_node node))) None) (any-shown id keys ∙ sym is ∙ out)
+both_none : (b : Bool) → cond {A = Option (IdData × Range)} b None None ≡ None
+both_none true = refl
+both_none false = refl
+
+pub range_outside : (b : Bool) (p : Position) (i : IdData) (r : Range) → holds_position r p ≡ false → None ≡ cond b (range_holding i p (Some r)) None
+range_outside b p i r out = sym (ap (λ h. cond b (cond h (Some (i, r)) None) None) out ∙ both_none b)
+
+pub range_named : (keys : List Id) (p : Position) (id : Id) (r : Range) (b : Bool) → holds_position r p ≡ true → b ≡ list_any (same_key id) keys → b ≡ true
+    → Some (show_id id, r) ≡ cond (list_any (same_id (show_id id)) (map show_id keys)) (range_holding (show_id id) p (Some r)) None
+range_named keys p id r b inside is there =
+    sym (ap (λ t. cond t (range_holding (show_id id) p (Some r)) None) (any-shown id keys ∙ sym is ∙ there) ∙ ap (λ h. cond h (Some (show_id id, r)) None) inside)
+
+pub range_unnamed : (keys : List Id) (p : Position) (id : Id) (o : Option Range) (b : Bool) → b ≡ list_any (same_key id) keys → b ≡ false
+    → None ≡ cond (list_any (same_id (show_id id)) (map show_id keys)) (range_holding (show_id id) p o) None
+range_unnamed keys p id o b is out = sym (ap (λ t. cond t (range_holding (show_id id) p o) None) (any-shown id keys ∙ sym is ∙ out))
+
+pub no_range : (b : Bool) → None ≡ cond {A = Option (IdData × Range)} b None None
+no_range b = sym (both_none b)

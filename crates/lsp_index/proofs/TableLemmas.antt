@@ -1,13 +1,10 @@
 -- Tables by ids, and what is found in them.
-use Rattle.std.proofs.Common.{◌≡◌, List, [], ◌∷◌, ◌++◌, Bool, true, false, cond, ◌||◌, not, Option, Some, None, option_map, is_some, map, refl, sym, ◌∙◌, ap, subst, true≢false}
+use Rattle.std.proofs.Common.{◌≡◌, List, [], ◌∷◌, ◌++◌, Bool, true, false, cond, ◌||◌, Option, Some, None, option_map, is_some, map, refl, sym, ◌∙◌, ap, true≢false}
 use Rattle.std.specs.Prelude.{option_copied}
-use Rattle.std.specs.Bool.{MatchBool}
 use Rattle.std.specs.Borrow.{Bor}
 use Rattle.std.specs.List.{list_any}
 use Rattle.std.specs.Map.{lookup}
 use Rattle.indexmap.specs.IndexMap.{insert_entry}
-use Rattle.indexmap.specs.IndexSet.{insert_key}
-use Rattle.std.proofs.lemmas.List.{map-append}
 use Rattle.lsp_rpc.specs.Message.{IdData}
 use Rattle.lsp_rpc.specs.Ids.{same_id}
 use Rattle.lsp_rpc.specs.Shown.{show_id}
@@ -47,27 +44,3 @@ shown_of (Some x) o is = ap (option_map show_id) is
 pub any-shown : (k : Id) (ks : List Id) → list_any (same_id (show_id k)) (map show_id ks) ≡ list_any (same_key k) ks
 any-shown k [] = refl
 any-shown k (x ∷ ks) = ap (λ b. same_id (show_id k) (show_id x) || b) (any-shown k ks)
-
--- ---- an insertion into a set
-
-is_in : (b : Bool) → not b ≡ false → b ≡ true
-is_in true h = refl
-is_in false h = absurd (true≢false h)
-
-is_out : (b : Bool) → not b ≡ true → b ≡ false
-is_out true h = absurd (true≢false (sym h))
-is_out false h = refl
-
--- it tells that the id was there
-pub was_in : (keys : List Id) (k : Id) (b : Bool) → b ≡ not (list_any (same_key k) keys) → b ≡ false → list_any (same_id (show_id k)) (map show_id keys) ≡ true
-was_in keys k b is out = any-shown k keys ∙ is_in (list_any (same_key k) keys) (sym is ∙ out)
-
--- it tells that the id is new
-pub was_new : (keys new : List Id) (k : Id) (b : Bool) → b ≡ not (list_any (same_key k) keys) → b ≡ true → new ≡ insert_key same_key keys k → map show_id new ≡ map show_id keys ++ show_id k ∷ []
-was_new keys new k b is in_it inserted =
-    ap (map show_id) (inserted ∙ ap (λ t. cond t keys (keys ++ k ∷ [])) (is_out (list_any (same_key k) keys) (sym is ∙ in_it))) ∙ map-append show_id keys (k ∷ [])
-
-pub was_told : (keys new : List Id) (k : Id) (b : Bool) → b ≡ not (list_any (same_key k) keys) → new ≡ insert_key same_key keys k → (i : IdData) → show_id k ≡ i
-    → MatchBool b (map show_id new ≡ map show_id keys ++ i ∷ []) (list_any (same_id i) (map show_id keys) ≡ true)
-was_told keys new k true is inserted i same = was_new keys new k true is refl inserted ∙ ap (λ j. map show_id keys ++ j ∷ []) same
-was_told keys new k false is inserted i same = subst (λ j. list_any (same_id j) (map show_id keys) ≡ true) same (was_in keys k false is refl)

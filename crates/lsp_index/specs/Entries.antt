@@ -1,5 +1,5 @@
 -- The entries of a dump, one a line, and what a query sees of each.
-use Rattle.std.specs.Prelude.{◌≡◌, ◌==◌, ℕ, List, length, Bool, true, not, Option, Some, None, option_and_then, is_none, map, filter, if◌then◌else◌}
+use Rattle.std.specs.Prelude.{◌≡◌, ◌==◌, ℕ, List, length, Bool, true, false, not, Option, Some, None, option_and_then, is_none, map, filter, if◌then◌else◌}
 use Rattle.std.specs.List.{list_any}
 use Rattle.std.specs.Str.{is_utf8}
 use Rattle.std.specs.Str.Lines.{lines}
@@ -79,16 +79,18 @@ vertex_data r (vertex.DiagnosticResult result) = other_vertex
 abbrev pub entry_ids : List NumberOrString → List IdData
 entry_ids ids = map id_of ids
 
-abbrev pub role_of : Option ItemKind → Role
-role_of None = roles.Neither
-role_of (Some item_kind.Declarations) = roles.Place
-role_of (Some item_kind.Definitions) = roles.Place
-role_of (Some item_kind.References) = roles.Place
-role_of (Some item_kind.ReferenceResults) = roles.Linked
-role_of (Some item_kind.ImplementationResults) = roles.Neither
+-- for a definition each item leads to places, and for references by its property
+abbrev pub role_of : Bool → Option ItemKind → Role
+role_of true property = roles.Place
+role_of false None = roles.Neither
+role_of false (Some item_kind.Declarations) = roles.Place
+role_of false (Some item_kind.Definitions) = roles.Place
+role_of false (Some item_kind.References) = roles.Place
+role_of false (Some item_kind.ReferenceResults) = roles.Linked
+role_of false (Some item_kind.ImplementationResults) = roles.Neither
 
-abbrev pub item_data : Item → EntryData
-item_data i = item_edge (id_of i.edge_data.out_v) (record { targets = entry_ids i.edge_data.in_vs.items; document = id_of i.document; role = role_of i.property })
+abbrev pub item_data : Bool → Item → EntryData
+item_data is_definition i = item_edge (id_of i.edge_data.out_v) (record { targets = entry_ids i.edge_data.in_vs.items; document = id_of i.document; role = role_of is_definition i.property })
 
 -- an edge to a result, if its label is the one that is asked for
 abbrev pub result_data : Bool → EdgeData → EntryData
@@ -101,7 +103,7 @@ edge_data r (edge.Moniker x) = unseen_edge
 edge_data r (edge.NextMoniker x) = unseen_edge
 edge_data r (edge.Next x) = next_edge (id_of x.out_v) (id_of x.in_v)
 edge_data r (edge.PackageInformation x) = unseen_edge
-edge_data r (edge.Item x) = if is_hover r then unseen_edge else item_data x
+edge_data r (edge.Item x) = if is_hover r then unseen_edge else item_data (is_definition r) x
 edge_data r (edge.Definition x) = result_data (is_definition r) x
 edge_data r (edge.Declaration x) = unseen_edge
 edge_data r (edge.Hover x) = result_data (is_hover r) x

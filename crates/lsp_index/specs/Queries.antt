@@ -174,10 +174,7 @@ with_item_ranges g ls i = with_ranges g i.targets ls (document_at g i.document)
 abbrev pub items_from : Graph → IdData → List ItemEdge
 items_from g r = map (λ e. e.1) (filter (λ e. same_id r e.0) g.items)
 
-abbrev pub with_items : Graph → List LocationData → IdData → List LocationData
-with_items g ls r = fold (with_item_ranges g) ls (items_from g r)
-
--- ---- references
+-- ---- all that a result includes
 
 -- the list with the further results that an item leads to
 abbrev pub with_linked : List IdData → Role → List IdData → List IdData
@@ -204,7 +201,7 @@ results_after g r (suc n) = with_results_of g (results_after g r n) (slice_get (
 abbrev pub AreResults : Graph → IdData → List IdData → Type 0
 AreResults g r rs = (n : ℕ) × (results_after g r n ≡ rs) × (slice_get rs n ≡ None)
 
--- the locations with those of an item of a declaration, a definition or a reference
+-- the locations with those of an item, where it leads to places
 abbrev pub with_place : Graph → List LocationData → Role → ItemEdge → List LocationData
 with_place g ls Place i = with_item_ranges g ls i
 with_place g ls Linked i = ls
@@ -225,21 +222,17 @@ locations_text ls = compact_text (array (items_of (map location_value ls)))
 abbrev pub null_text : List ℕ
 null_text = codes "null"
 
-abbrev pub IsDefinition : Graph → Option IdData → List ℕ → Type 0
-IsDefinition g None text = text ≡ locations_text []
-IsDefinition g (Some r) text = text ≡ locations_text (with_items g [] r)
-
-abbrev pub IsReferences : Graph → Option IdData → List ℕ → Type 0
-IsReferences g None text = text ≡ locations_text []
-IsReferences g (Some r) text = (rs : List IdData) × AreResults g r rs × (text ≡ locations_text (fold (with_places g) [] rs))
+abbrev pub IsListed : Graph → Option IdData → List ℕ → Type 0
+IsListed g None text = text ≡ locations_text []
+IsListed g (Some r) text = (rs : List IdData) × AreResults g r rs × (text ≡ locations_text (fold (with_places g) [] rs))
 
 abbrev pub IsHover : Graph → Option IdData → List ℕ → Type 0
 IsHover g None text = text ≡ null_text
 IsHover g (Some r) text = text ≡ unwrap_or (hover_at g r) null_text
 
 abbrev pub IsAnswerFrom : Request → Graph → Option IdData → List ℕ → Type 0
-IsAnswerFrom Definition g r text = IsDefinition g r text
-IsAnswerFrom References g r text = IsReferences g r text
+IsAnswerFrom Definition g r text = IsListed g r text
+IsAnswerFrom References g r text = IsListed g r text
 IsAnswerFrom Hover g r text = IsHover g r text
 
 -- the text of the answer to the query

@@ -13,7 +13,7 @@ use lsp_base::NumberOrString;
 use lsp_lang_goto::Hover;
 use lsp_lsif::{ItemKind, Vertex};
 use lsp_rpc::{Id, NoMemory};
-use lsp_shape::write_text;
+use lsp_shape::Wire;
 use std::alloc::Global;
 use std::str;
 
@@ -40,21 +40,27 @@ pub(crate) fn node(alloc: Global, request: Request, vertex: &Vertex) -> Result<N
     }
 }
 
+// By `write_text` the crate would have the drop of a hover to prove.
 fn hover_node(alloc: Global, is_asked: bool, hover: &Hover) -> Result<Node, NoMemory>
     ensures { IfOk result (λ n. show_node n
         ≡ (if is_asked then hover_data hover.now else other_vertex)) }
 {
     if is_asked {
-        Ok(Node::Hover(write_text(alloc, hover)?))
+        let value = hover.to_value(alloc)?;
+        Ok(Node::Hover(value.to_string(alloc)?))
     } else {
         Ok(Node::Other)
     }
 }
 
-/// What the vertices that an edge `item` of this property leads to are to the result.
-pub(crate) fn role_of(property: Option<ItemKind>) -> Role
-    ensures { result ≡ role_of_def property }
+/// What the vertices that an edge `item` of this property leads to are to the result. For a definition
+/// all are places.
+pub(crate) fn role_of(is_definition: bool, property: Option<ItemKind>) -> Role
+    ensures { result ≡ role_of_def is_definition property }
 {
+    if is_definition {
+        return Role::Place;
+    }
     match property {
         Some(ItemKind::Declarations) => Role::Place,
         Some(ItemKind::Definitions) => Role::Place,

@@ -1,10 +1,10 @@
 // A dump as a graph, as far as a query looks at it.
-ghost use Rattle.std.specs.Prelude.{◌≡◌, OnOk, [], map, option_map, string_bytes, if◌then◌else◌};
+ghost use Rattle.std.specs.Prelude.{◌≡◌, OnOk, [], map, option_map, string_bytes};
 ghost use Rattle.lsp_base.specs.Position.{id_of};
 ghost use Rattle.lsp_rpc.specs.Shown.{show_id};
 ghost use Rattle.lsp_uri.specs.Uri.{uri_text};
 ghost use Rattle.lsp_index.specs.Entries.{entry_data, vertex_data, edge_data, result_data, item_data};
-ghost use Rattle.lsp_index.specs.Graph.{Graph, graph_of, vertex_entry, unseen_edge};
+ghost use Rattle.lsp_index.specs.Graph.{Graph, graph_of, vertex_entry};
 ghost use Rattle.lsp_index.specs.Kept.{IsKept, with_entry};
 ghost use Rattle.lsp_index.specs.Queries.{document_in, range_in, hover_in, document_at, range_at, hover_at, items_from};
 ghost use Rattle.lsp_index.specs.Shown.{show_node, show_item_edge};
@@ -69,11 +69,11 @@ impl Node {
 /// What the vertices that an edge `item` leads to are to the result.
 #[derive(Clone, Copy)]
 pub(crate) enum Role {
-    /// Where the symbol is declared, defined or used.
+    /// Where the symbol is defined, or also declared or used.
     Place,
     /// Further results that it includes.
     Linked,
-    /// Nothing that references ask for.
+    /// Nothing that is asked for.
     Neither,
 }
 
@@ -214,7 +214,11 @@ impl Index {
             Edge::Definition(edge) => self.keep_result(request.is_definition(), edge),
             Edge::References(edge) => self.keep_result(request.is_references(), edge),
             Edge::Hover(edge) => self.keep_result(request.is_hover(), edge),
-            Edge::Item(item) => self.keep_item(request.is_hover(), item),
+            Edge::Item(item) => match request {
+                Request::Definition => self.keep_item(true, item),
+                Request::References => self.keep_item(false, item),
+                Request::Hover => Ok(()),
+            },
             other => {
                 other.let_go();
                 Ok(())
@@ -234,14 +238,10 @@ impl Index {
         }
     }
 
-    // Hovers look at no items.
-    fn keep_item(&mut self, is_hover: bool, item: lsp_lsif::Item) -> Result<(), NoMemory>
+    fn keep_item(&mut self, is_definition: bool, item: lsp_lsif::Item) -> Result<(), NoMemory>
         ensures { OnOk result ((g : Graph) → IsKept g self.old
-            → IsKept (with_entry g (if is_hover then unseen_edge else item_data item)) self.new) }
+            → IsKept (with_entry g (item_data is_definition item)) self.new) }
     {
-        if is_hover {
-            return Ok(());
-        }
         let lsp_lsif::Item {
             document,
             property,
@@ -251,7 +251,7 @@ impl Index {
         let kept = Item {
             targets: in_vs,
             document: Id::from(document),
-            role: role_of(property),
+            role: role_of(is_definition, property),
         };
         put_item(self.alloc, &mut self.items, Id::from(out_v), kept)
     }

@@ -10,5 +10,5 @@ mod search;
 mod table;
 mod words;
 
-pub use query::{Query, Request};
+pub use query::Request;
 pub use run::{answer, answer_each};

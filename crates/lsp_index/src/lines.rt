@@ -16,9 +16,9 @@ ghost use Rattle.lsp_index.specs.Answered.{AreAnswers, AreLines, IsLine, query_a
 ghost use Rattle.lsp_index.specs.Shown.{show_query};
 ghost use Rattle.lsp_index.specs.Reading.{HasNoEnd, TookText, TookLine, TookBytes, TookNothing, TookDump};
 
-use crate::Query;
 use crate::entry::text_of;
 use crate::graph::Index;
+use crate::query::Query;
 use lsp_base::Position;
 use lsp_lsif::read_entry;
 use lsp_rpc::NoMemory;
@@ -110,7 +110,8 @@ impl Search {
             → IsLine (query_at (show_query self.now.query) position) g (string_bytes line)) }
     {
         let from = self.index.reached_at(&self.query.uri, position)?;
-        let mut line = self.index.text(self.query.request, from)?;
+        let mut line = String::new(self.index.alloc);
+        self.index.put_text(self.query.request, from, &mut line)?;
         line.push_str("\n")?;
         Ok(line)
     }
@@ -191,9 +192,9 @@ impl Lines {
             return search.take_line(without_cr(bytes));
         }
         self.part.extend_from_slice(bytes)?;
-        let good = search.take_line(without_cr(&self.part))?;
+        let good = search.take_line(without_cr(&self.part));
         self.part.clear();
-        Ok(good)
+        good
     }
 
     // Takes the bytes of a read up to a bad line, and says whether there is none.
@@ -236,7 +237,6 @@ impl Consumer<Search> for Lines {
             return Ok(());
         }
         let line = search.line_at(search.query.position)?;
-        send(sink, line.as_bytes())?;
-        Ok(())
+        send(sink, line.as_bytes())
     }
 }

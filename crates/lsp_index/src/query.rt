@@ -49,10 +49,10 @@ impl Request {
 }
 
 /// A request for a position of a document.
-#[derive(Debug, Drop)]
-pub struct Query {
-    pub request: Request,
+#[derive(Drop)]
+pub(crate) struct Query {
+    pub(crate) request: Request,
     /// The document.
-    pub uri: Uri,
-    pub position: Position,
+    pub(crate) uri: Uri,
+    pub(crate) position: Position,
 }

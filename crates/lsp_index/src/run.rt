@@ -8,9 +8,10 @@ ghost use Rattle.lsp_index.specs.Ended.{AnswerTells, ended_with, status_from};
 ghost use Rattle.lsp_index.specs.Shown.{show_query};
 ghost use Rattle.lsp_index.specs.Words.{query_asked};
 
+use crate::Request;
 use crate::lines::{Lines, Search};
+use crate::query::Query;
 use crate::words::read_words;
-use crate::{Query, Request};
 use lsp_base::Position;
 use lsp_program::{Status, status_of};
 use lsp_rpc::NoMemory;

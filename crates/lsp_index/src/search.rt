@@ -1,8 +1,9 @@
 // What a query answers of an index.
-ghost use Rattle.std.specs.Prelude.{◌≡◌, ◌++◌, ◌∷◌, [], true, map, slice_get, IfOk, OnOk, Some, None, option_map, option_and_then, fold, string_bytes};
-ghost use Rattle.std.specs.Bool.{MatchBool};
+ghost use Rattle.std.specs.Prelude.{◌≡◌, ◌++◌, [], map, slice_get, IfOk, OnOk, Option, Some, None, option_map, option_and_then, fold, string_bytes, if◌then◌else◌};
 ghost use Rattle.std.specs.List.{list_any};
+ghost use Rattle.serde_json.specs.Written.{compact_text};
 ghost use Rattle.lsp_rpc.specs.Ids.{same_id};
+ghost use Rattle.lsp_rpc.specs.Message.{IdData};
 ghost use Rattle.lsp_rpc.specs.Shown.{show_id};
 ghost use Rattle.lsp_uri.specs.Uri.{uri_text};
 ghost use Rattle.lsp_shape.specs.Read.{text_is};
@@ -10,7 +11,7 @@ ghost use Rattle.lsp_index.specs.Entries.{entry_ids};
 ghost use Rattle.lsp_index.specs.Graph.{Graph, at_id};
 ghost use Rattle.lsp_index.specs.Kept.{IsKept};
 ghost use Rattle.lsp_index.specs.Shown.{show_ids, show_item_edge, show_location, show_named, show_link, show_outgoing, show_vertex_of};
-ghost use Rattle.lsp_index.specs.Queries.{is_before, holds_position, is_closer, closest_of, range_holding, candidate_in, with_candidate, chosen_at, with_new_id, with_contained, named_in, document_at, IsReached, IsReachedFrom, with_range, with_ranges, with_item_ranges, with_linked, with_place, locations_text as locations_text_def, IsDefinition, IsReferences, IsHover, IsAnswerFrom};
+ghost use Rattle.lsp_index.specs.Queries.{is_before, holds_position, is_closer, closest_of, range_holding, candidate_in, with_candidate, chosen_at, with_new_id, with_contained, named_in, document_at, IsReachedFrom, with_range, with_ranges, with_item_ranges, with_linked, with_place, location_value, locations_text, IsListed, IsHover, IsAnswerFrom};
 
 use crate::Request;
 use crate::entry::key_of;
@@ -63,15 +64,6 @@ fn add_range(
     }
 }
 
-// Puts an id that is new after those of the set, and says whether it is.
-fn is_new(alloc: Global, id: &Id, set: &mut IndexSet<Id>) -> Result<bool, NoMemory>
-    ensures { IfOk result (λ new. MatchBool new
-        (show_ids set.new.keys ≡ show_ids set.old.keys ++ show_id id.now ∷ [])
-        (list_any (same_id (show_id id.now)) (show_ids set.old.keys) ≡ true)) }
-{
-    Ok(set.insert(id.clone(alloc)?)?)
-}
-
 // Puts ids after those of the set, where they are new.
 fn add_ids(alloc: Global, ids: &Vec<NumberOrString>, set: &mut IndexSet<Id>) -> Result<(), NoMemory>
     ensures { OnOk result (show_ids set.new.keys
@@ -83,45 +75,40 @@ fn add_ids(alloc: Global, ids: &Vec<NumberOrString>, set: &mut IndexSet<Id>) -> 
     Ok(())
 }
 
-// Puts the further results of an item after those of the set, where they are new.
-fn add_linked(alloc: Global, item: &Item, results: &mut IndexSet<Id>) -> Result<(), NoMemory>
-    ensures { OnOk result (show_ids results.new.keys
-        ≡ with_linked (show_ids results.old.keys) item.now.role (entry_ids item.now.targets.items)) }
+// Puts the text of a location behind others.
+fn put_location(
+    alloc: Global,
+    comma: &str,
+    location: &Location,
+    text: &mut String,
+) -> Result<(), NoMemory>
+    ensures { OnOk result (string_bytes text.new ≡ string_bytes text.old
+        ++ (comma.now ++ compact_text (location_value (show_location location.now)))) }
 {
-    match item.role {
-        Role::Linked => add_ids(alloc, &item.targets, results),
-        Role::Place => Ok(()),
-        Role::Neither => Ok(()),
-    }
-}
-
-// Puts the further results of these items after those of the set, where they are new.
-fn add_all_linked(alloc: Global, items: &[Item], results: &mut IndexSet<Id>) -> Result<(), NoMemory>
-    ensures { OnOk result (show_ids results.new.keys
-        ≡ fold (λ rs i. with_linked rs i.role i.targets) (show_ids results.old.keys)
-        (map show_item_edge items.now)) }
-{
-    for item in items {
-        add_linked(alloc, item, results)?;
-    }
+    text.push_str(comma)?;
+    text.push_str(write_text(alloc, location)?.as_str())?;
     Ok(())
 }
 
-// The text of a list of locations. Each is written by itself: as one value they would take some 4 KB
-// each.
-fn locations_text(alloc: Global, found: &IndexSet<Location>) -> Result<String, NoMemory>
-    ensures { IfOk result (λ text. string_bytes text
-        ≡ locations_text_def (map show_location found.now.keys)) }
+// Puts the text of a list of locations into an empty text. Each is written by itself: as one value
+// they would take some 4 KB each.
+fn put_locations(
+    alloc: Global,
+    found: &IndexSet<Location>,
+    text: &mut String,
+) -> Result<(), NoMemory>
+    requires { string_bytes text.old ≡ [] }
+    ensures { OnOk result (string_bytes text.new
+        ≡ locations_text (map show_location found.now.keys)) }
 {
-    let mut text = String::from_str(alloc, "[")?;
+    text.push_str("[")?;
     let mut comma = "";
     for location in found.as_slice() {
-        text.push_str(comma)?;
-        text.push_str(write_text(alloc, location)?.as_str())?;
+        put_location(alloc, comma, location, text)?;
         comma = ",";
     }
     text.push_str("]")?;
-    Ok(text)
+    Ok(())
 }
 
 impl Index {
@@ -179,13 +166,7 @@ impl Index {
             (slice_get self.now.vertices.entries at) }
     {
         match self.vertices.get_index(at) {
-            Some((id, node)) => {
-                if named.contains(id) {
-                    range_holding(id, position, node.range())
-                } else {
-                    None
-                }
-            }
+            Some((id, node)) => named_range(id, node.range(), named, position),
             None => None,
         }
     }
@@ -206,34 +187,27 @@ impl Index {
         }
     }
 
-    // The result that a vertex leads to: its own, or that of the vertex that its edge `next` leads
-    // to. The vertices that it passes go into the set.
-    fn walk<'a>(
-        &'a self,
-        from: &'a Id,
-        passed: &mut IndexSet<Id>,
-    ) -> Result<Option<&'a Id>, NoMemory>
-        requires { passed.old.keys ≡ [] }
-        ensures { IfOk result (λ o. (g : Graph) → IsKept g self.now
-            → IsReached g (show_id from.now) (option_map (λ id. show_id id.now) o)) }
+    // The result that a range leads to, if there is one: its own, or that of the vertex that its edge
+    // `next` leads to. A walk over more edges than there are goes round.
+    fn walk<'a>(&'a self, from: Option<&'a Id>) -> Option<&'a Id>
+        ensures { (g : Graph) → IsKept g self.now → (chosen : Option (IdData × Range))
+            → option_map (λ id. show_id id.now) from.entry ≡ option_map (λ c. c.0) chosen
+            → IsReachedFrom g chosen (option_map (λ id. show_id id.now) result) }
     {
-        let mut vertex = from;
-        for _ in 0..usize::MAX {
+        let Some(mut vertex) = from else {
+            return None;
+        };
+        for _ in 0..self.nexts.len() {
             match target(&self.results, vertex) {
-                Some(result) => return Ok(Some(result)),
+                Some(result) => return Some(result),
                 None => {}
             }
             match target(&self.nexts, vertex) {
-                Some(next) => {
-                    if !is_new(self.alloc, vertex, passed)? {
-                        return Ok(None);
-                    }
-                    vertex = next;
-                }
-                None => return Ok(None),
+                Some(next) => vertex = next,
+                None => return None,
             }
         }
-        Err(NoMemory)
+        target(&self.results, vertex)
     }
 
     // Puts the locations of ranges after those that were found, where they are new.
@@ -265,73 +239,67 @@ impl Index {
         }
     }
 
-    // Puts the places of an item after those that were found, where they are new.
-    fn add_place(&self, item: &Item, found: &mut IndexSet<Location>) -> Result<(), NoMemory>
-        ensures { OnOk result ((g : Graph) → IsKept g self.now → map show_location found.new.keys
+    // Puts the places of an item after those that were found, or the further results that it leads
+    // to after those of the set, where they are new.
+    fn follow(
+        &self,
+        item: &Item,
+        found: &mut IndexSet<Location>,
+        results: &mut IndexSet<Id>,
+    ) -> Result<(), NoMemory>
+        ensures places { OnOk result ((g : Graph) → IsKept g self.now → map show_location found.new.keys
             ≡ with_place g (map show_location found.old.keys) item.now.role (show_item_edge item.now)) }
+        ensures linked { OnOk result (show_ids results.new.keys
+            ≡ with_linked (show_ids results.old.keys) item.now.role (entry_ids item.now.targets.items)) }
     {
         match item.role {
             Role::Place => self.add_item(item, found),
-            Role::Linked => Ok(()),
+            Role::Linked => add_ids(self.alloc, &item.targets, results),
             Role::Neither => Ok(()),
         }
     }
 
-    // Puts the places of these items after those that were found, where they are new.
-    fn add_places(&self, items: &[Item], found: &mut IndexSet<Location>) -> Result<(), NoMemory>
-        ensures { OnOk result ((g : Graph) → IsKept g self.now → map show_location found.new.keys
+    // The same of each of the items.
+    fn follow_all(
+        &self,
+        items: &[Item],
+        found: &mut IndexSet<Location>,
+        results: &mut IndexSet<Id>,
+    ) -> Result<(), NoMemory>
+        ensures places { OnOk result ((g : Graph) → IsKept g self.now → map show_location found.new.keys
             ≡ fold (λ ls i. with_place g ls i.role i) (map show_location found.old.keys)
+            (map show_item_edge items.now)) }
+        ensures linked { OnOk result (show_ids results.new.keys
+            ≡ fold (λ rs i. with_linked rs i.role i.targets) (show_ids results.old.keys)
             (map show_item_edge items.now)) }
     {
         for item in items {
-            self.add_place(item, found)?;
+            self.follow(item, found, results)?;
         }
         Ok(())
     }
 
-    // Puts the locations of the items of a result into an empty set.
-    fn add_definitions(
+    // Puts the places of a result, and of all that it includes, into an empty set, and the results
+    // into another.
+    fn add_reached(
         &self,
         reached: Option<&Id>,
         found: &mut IndexSet<Location>,
+        results: &mut IndexSet<Id>,
     ) -> Result<(), NoMemory>
-        requires { found.old.keys ≡ [] }
-        ensures { OnOk result ((g : Graph) → IsKept g self.now → IsDefinition g
+        requires found { found.old.keys ≡ [] }
+        requires results { results.old.keys ≡ [] }
+        ensures { OnOk result ((g : Graph) → IsKept g self.now → IsListed g
             (option_map (λ id. show_id id.now) reached.entry)
-            (locations_text_def (map show_location found.new.keys))) }
+            (locations_text (map show_location found.new.keys))) }
     {
         let Some(from) = reached else {
             return Ok(());
         };
-        for item in self.items_of(from) {
-            self.add_item(item, found)?;
-        }
-        Ok(())
-    }
-
-    // Puts the places of a result, and of all that it includes, into an empty set.
-    fn add_references(
-        &self,
-        reached: Option<&Id>,
-        found: &mut IndexSet<Location>,
-    ) -> Result<(), NoMemory>
-        requires { found.old.keys ≡ [] }
-        ensures { OnOk result ((g : Graph) → IsKept g self.now → IsReferences g
-            (option_map (λ id. show_id id.now) reached.entry)
-            (locations_text_def (map show_location found.new.keys))) }
-    {
-        let Some(from) = reached else {
-            return Ok(());
-        };
-        let mut results = IndexSet::new(self.alloc);
         results.insert(from.clone(self.alloc)?)?;
         for i in 0..usize::MAX {
             match results.get_index(i) {
-                Some(member) => {
-                    let items = self.items_of(member);
-                    self.add_places(items, found)?;
-                    add_all_linked(self.alloc, items, &mut results)?;
-                }
+                Some(member) => self.follow_all(self.items_of(member), found, results)?,
                 None => return Ok(()),
             }
         }
@@ -345,74 +313,74 @@ impl Index {
             (option_map (λ id. show_id id.now) o)) }
     {
         let named = self.named(uri)?;
-        match self.closest(&named, position) {
-            Some(range) => {
-                let mut passed = IndexSet::new(self.alloc);
-                self.walk(range, &mut passed)
-            }
-            None => Ok(None),
-        }
+        Ok(self.walk(self.closest(&named, position)))
     }
 
-    // The text of the locations of the items of a result.
-    fn definition_text(&self, reached: Option<&Id>) -> Result<String, NoMemory>
-        ensures { IfOk result (λ text. (g : Graph) → IsKept g self.now → IsDefinition g
-            (option_map (λ id. show_id id.now) reached.entry) (string_bytes text)) }
+    // Puts the text of the places of a result, and of all that it includes, into an empty text.
+    fn put_reached(&self, reached: Option<&Id>, text: &mut String) -> Result<(), NoMemory>
+        requires { string_bytes text.old ≡ [] }
+        ensures { OnOk result ((g : Graph) → IsKept g self.now → IsListed g
+            (option_map (λ id. show_id id.now) reached.entry) (string_bytes text.new)) }
     {
         let mut found = IndexSet::new(self.alloc);
-        self.add_definitions(reached, &mut found)?;
-        locations_text(self.alloc, &found)
-    }
-
-    // The text of the places of a result and of all that it includes.
-    fn references_text(&self, reached: Option<&Id>) -> Result<String, NoMemory>
-        ensures { IfOk result (λ text. (g : Graph) → IsKept g self.now → IsReferences g
-            (option_map (λ id. show_id id.now) reached.entry) (string_bytes text)) }
-    {
-        let mut found = IndexSet::new(self.alloc);
-        self.add_references(reached, &mut found)?;
-        locations_text(self.alloc, &found)
+        let mut results = IndexSet::new(self.alloc);
+        self.add_reached(reached, &mut found, &mut results)?;
+        put_locations(self.alloc, &found, text)
     }
 
     // The text of the hover of a result.
-    fn hover_text(&self, reached: Option<&Id>) -> Result<String, NoMemory>
-        ensures { IfOk result (λ text. (g : Graph) → IsKept g self.now → IsHover g
-            (option_map (λ id. show_id id.now) reached.entry) (string_bytes text)) }
+    fn hover_text(&self, reached: Option<&Id>) -> &str
+        ensures { (g : Graph) → IsKept g self.now
+            → IsHover g (option_map (λ id. show_id id.now) reached.entry) result.now }
     {
         let Some(from) = reached else {
-            return Ok(String::from_str(self.alloc, "null")?);
+            return "null";
         };
         match self.hover(from) {
-            Some(text) => Ok(text.clone()?),
-            None => Ok(String::from_str(self.alloc, "null")?),
+            Some(text) => text.as_str(),
+            None => "null",
         }
     }
 
-    /// The text of the answer from what is reached.
-    pub(crate) fn text(&self, request: Request, reached: Option<&Id>) -> Result<String, NoMemory>
-        ensures { IfOk result (λ text. (g : Graph) → IsKept g self.now
+    /// Puts the text of the answer from what is reached into an empty text.
+    pub(crate) fn put_text(
+        &self,
+        request: Request,
+        reached: Option<&Id>,
+        text: &mut String,
+    ) -> Result<(), NoMemory>
+        requires { string_bytes text.old ≡ [] }
+        ensures { OnOk result ((g : Graph) → IsKept g self.now
             → IsAnswerFrom request g (option_map (λ id. show_id id.now) reached.entry)
-            (string_bytes text)) }
+            (string_bytes text.new)) }
     {
         match request {
-            Request::Definition => self.definition_text(reached),
-            Request::References => self.references_text(reached),
-            Request::Hover => self.hover_text(reached),
+            Request::Definition => self.put_reached(reached, text),
+            Request::References => self.put_reached(reached, text),
+            Request::Hover => {
+                text.push_str(self.hover_text(reached))?;
+                Ok(())
+            }
         }
     }
 }
 
-// A range with its id, if it holds the position.
-fn range_holding<'a>(
+// A range with its id, if it holds the position and is one of those named.
+fn named_range<'a>(
     id: &'a Id,
-    position: Position,
     range: Option<Range>,
+    named: &IndexSet<Id>,
+    position: Position,
 ) -> Option<(&'a Id, Range)>
-    ensures { option_map show_named result ≡ range_holding (show_id id.now) position range }
+    ensures { option_map show_named result
+        ≡ (if list_any (same_id (show_id id.now)) (show_ids named.now.keys)
+        then range_holding (show_id id.now) position range else None) }
 {
     match range {
         Some(range) => {
-            if holds_position(range, position) {
+            if !holds_position(range, position) {
+                None
+            } else if named.contains(id) {
                 Some((id, range))
             } else {
                 None

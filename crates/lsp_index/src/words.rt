@@ -3,7 +3,8 @@ ghost use Rattle.std.specs.Prelude.{◌≡◌, IfOk, OnErr, IsSome, option_map};
 ghost use Rattle.lsp_index.specs.Shown.{show_query};
 ghost use Rattle.lsp_index.specs.Words.{request_asked, coordinate_of, position_of, query_with, query_asked};
 
-use crate::{Query, Request};
+use crate::Request;
+use crate::query::Query;
 use lsp_base::Position;
 use lsp_program::number;
 use lsp_rpc::NoMemory;

@@ -1,4 +1,4 @@
--- An edge `contains`, and an edge `next`.
+-- An edge `next`, and an edge `item`.
 use Rattle.lsp_base.specs.Position.{id_of}
 use Rattle.lsp_rpc.specs.Shown.{show_id}
 use Rattle.lsp_index.proofs.ValueLemmas.{on_ok}
@@ -13,3 +13,9 @@ returns-in-Next c = rw c.in-Next.is (on_ok c.put_first.result (λ put g kept. re
   results = kept.results;
   items = kept.items;
 }) c.put_first.ensures)
+
+pub returns-in-Definition-request : goal.returns-in-Definition-request
+returns-in-Definition-request c = rw c.in-Item.is (rw c.in-Definition-request.is c.keep_item.ensures)
+
+pub returns-in-References-request : goal.returns-in-References-request
+returns-in-References-request c = rw c.in-Item.is (rw c.in-References-request.is c.keep_item-in-References-request.ensures)

@@ -1,10 +1,14 @@
 -- The walk has come to the vertex.
-use Rattle.std.proofs.Common.{map}
+use Rattle.std.proofs.Common.{◌≡◌}
+use Rattle.std.specs.Prelude.{Some, option_map}
+use Rattle.std.specs.Borrow.{Bor}
+use Rattle.lsp_rpc.specs.Message.{IdData}
 use Rattle.lsp_rpc.specs.Shown.{show_id}
+use Rattle.lsp_rpc.specs.declared.id.Id.{Id}
 use Rattle.lsp_index.specs.Graph.{Graph}
 use Rattle.lsp_index.specs.Kept.{IsKept}
 use Rattle.lsp_index.proofs.ReachLemmas.{Walk}
 use Rattle.lsp_index.proofs.graph.Index.walk.Given as goal
 
 abbrev pub invariant-loop : goal.invariant-loop
-invariant-loop l = (g : Graph) → IsKept g l.self → Walk g (show_id l.from) (map show_id l.passed.keys) (show_id l.vertex)
+invariant-loop l = (g : Graph) → IsKept g l.self → (start : IdData) → option_map (λ (id : Bor Id). show_id id.now) l.from ≡ Some start → Walk g start l.counter (show_id l.vertex)

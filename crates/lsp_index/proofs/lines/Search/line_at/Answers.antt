@@ -7,4 +7,4 @@ use Rattle.lsp_index.proofs.lines.Search.line_at.Goals as goal
 
 pub returns : goal.returns
 returns c = λ g kept.
-    (string_bytes c.in_ok-line.line, record { reached = option_map (λ (id : Bor Id). show_id id.now) c.in_ok-from.from; reaches = c.in_ok-from.ensures g kept; answers = c.in_ok-line.ensures g kept }, c.in_ok-push_str.ensures.bytes)
+    (string_bytes c.put_text.new.text, record { reached = option_map (λ (id : Bor Id). show_id id.now) c.in_ok-from.from; reaches = c.in_ok-from.ensures g kept; answers = c.in_ok-put_text.ensures g kept }, c.in_ok-push_str.ensures.bytes)

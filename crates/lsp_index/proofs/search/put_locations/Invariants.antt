@@ -4,7 +4,7 @@ use Rattle.std.specs.Prelude.{string_bytes}
 use Rattle.serde_json.specs.Written.{comma_if}
 use Rattle.lsp_index.specs.Shown.{show_location}
 use Rattle.lsp_index.proofs.ValueLemmas.{with_text}
-use Rattle.lsp_index.proofs.search.locations_text.Given as goal
+use Rattle.lsp_index.proofs.search.put_locations.Given as goal
 
 abbrev pub invariant-loop-location : goal.invariant-loop-location
 invariant-loop-location l = (later : Bool) × (l.comma ≡ comma_if later)

@@ -9,7 +9,7 @@ use Rattle.lsp_index.specs.Graph.{Graph}
 use Rattle.lsp_index.specs.Kept.{IsKept}
 use Rattle.lsp_index.specs.Shown.{show_location}
 use Rattle.lsp_index.specs.Queries.{results_after, with_places}
-use Rattle.lsp_index.proofs.graph.Index.add_references.Given as goal
+use Rattle.lsp_index.proofs.graph.Index.add_reached.Given as goal
 
 abbrev pub invariant-loop-i : goal.invariant-loop-i
 invariant-loop-i l = (g : Graph) → IsKept g l.self → (from : IdData) → option_map (λ (id : Bor Id). show_id id.now) l.reached ≡ Some from
