@@ -1,5 +1,5 @@
 -- How the result that a vertex leads to is reached.
-use Rattle.std.proofs.Common.{◌≡◌, ◌≤◌, ◌<◌, ◌+◌, ◌-◌, ℕ, zero, suc, length, List, [], ◌∷◌, Bool, true, false, cond, ◌⊎◌, inl, inr, Option, Some, None, refl, sym, ◌∙◌, ap, true≢false, arith}
+use Rattle.std.proofs.Common.{◌≡◌, ◌≤◌, ◌<◌, ◌+◌, ◌-◌, ℕ, zero, suc, length, List, [], ◌∷◌, Bool, true, false, cond, ◌⊎◌, inl, inr, Option, Some, None, refl, sym, ◌∙◌, ap, subst, true≢false, arith}
 use Rattle.lsp_rpc.specs.Message.{IdData}
 use Rattle.lsp_rpc.specs.Ids.{same_id, same_id-Decides}
 use Rattle.lsp_index.specs.Graph.{Graph, at_id}
@@ -145,6 +145,25 @@ Walk g start i at = (k : ℕ) → reached_within (i + k) g start ≡ reached_wit
 pub walk_start : (g : Graph) (v : IdData) → Walk g v 0 v
 walk_start g v k = let same : 0 + k ≡ k = omega arith in ap (λ m. reached_within m g v) same
 
+-- from a vertex to itself, over one edge or more
+module _ (g : Graph) (v : IdData) (m : ℕ) (walk : Walk g v (m + 1) v) where
+  -- over more edges than any number nothing is reached
+  far : (n : ℕ) → (k : ℕ) × (n ≤ k) × (reached_within k g v ≡ None)
+  far zero = (0, omega arith, refl)
+  far (suc n) = let p = far n in (m + 1 + p.0, omega (arith, p.1), walk p.0 ∙ p.2)
+
+  none_round : (n : ℕ) → reached_within n g v ≡ None
+  none_round n = by (reached_within n g v) refl
+    where
+      p : (k : ℕ) × (suc (length g.nexts) ≤ k) × (reached_within k g v ≡ None)
+      p = far (suc (length g.nexts))
+
+      by : (o : Option IdData) → reached_within n g v ≡ o → reached_within n g v ≡ None
+      by None e = e
+      by (Some r) e =
+          let all : suc (p.0 - 1) ≡ p.0 = omega (arith, p.1) in
+          differ (sym (once_each (p.0 - 1) g (omega (arith, p.1)) n v r e) ∙ ap (λ k. reached_within k g v) all ∙ p.2)
+
 module _ (g : Graph) (start at : IdData) (i : ℕ) (walk : Walk g start i at) where
   -- the edge `next` is followed
   pub walk_on : (w : IdData) → at_id g.results at ≡ None → at_id g.nexts at ≡ Some w → Walk g start (i + 1) w
@@ -179,3 +198,17 @@ module _ (g : Graph) (start at : IdData) (i : ℕ) (walk : Walk g start i at) wh
   pub reached_last : (o : Option IdData) → i ≡ length g.nexts → at_id g.results at ≡ o → IsReached g start o
   reached_last (Some r) all is = reached_own r is
   reached_last None all is = reached_again all is
+
+  -- the walk has come to a vertex again, so it goes round
+  pub reached_round : (before : IdData) (m : ℕ) → Walk g before (m + 1) at → same_id at before ≡ true → IsReached g start None
+  reached_round before m again same n = by (reached_within n g start) refl
+    where
+      round : Walk g at (m + 1) at
+      round = subst (λ v. Walk g v (m + 1) at) (sym ((same_id-Decides at before).0 same)) again
+
+      by : (o : Option IdData) → reached_within n g start ≡ o → reached_within n g start ≡ None
+      by None e = e
+      by (Some r) e =
+          let all : suc (i + length g.nexts) ≡ i + suc (length g.nexts) = omega arith in
+          differ (sym (once_each (i + length g.nexts) g (omega arith) n start r e) ∙ ap (λ k. reached_within k g start) all ∙ walk (suc (length g.nexts))
+          ∙ none_round g at m round (suc (length g.nexts)))

@@ -188,7 +188,8 @@ impl Index {
     }
 
     // The result that a range leads to, if there is one: its own, or that of the vertex that its edge
-    // `next` leads to. A walk over more edges than there are goes round.
+    // `next` leads to. A walk that comes to a vertex again goes round: one is kept to compare with, and
+    // then a later one, after as many edges as it took to come there.
     fn walk<'a>(&'a self, from: Option<&'a Id>) -> Option<&'a Id>
         ensures { (g : Graph) → IsKept g self.now → (chosen : Option (IdData × Range))
             → option_map (λ id. show_id id.now) from.entry ≡ option_map (λ c. c.0) chosen
@@ -197,7 +198,8 @@ impl Index {
         let Some(mut vertex) = from else {
             return None;
         };
-        for _ in 0..self.nexts.len() {
+        let mut before = vertex;
+        for i in 0..self.nexts.len() {
             match target(&self.results, vertex) {
                 Some(result) => return Some(result),
                 None => {}
@@ -205,6 +207,12 @@ impl Index {
             match target(&self.nexts, vertex) {
                 Some(next) => vertex = next,
                 None => return None,
+            }
+            if *vertex == *before {
+                return None;
+            }
+            if i & (i + 1) == 0 {
+                before = vertex;
             }
         }
         target(&self.results, vertex)
