@@ -68,15 +68,17 @@ loop-i-preserved c = λ g kept start is.
     let next = show_id c.in-Some-target-2.next.now in
     let so_far = c.loop-i.invariant g kept start is in
     let none = ap (λ l. at_id l at) (sym kept.results) ∙ sym (rw c.in-None.is at c.target.ensures) in
-    let leads = ap (λ l. at_id l at) (sym kept.nexts) ∙ sym (rw c.in-Some-target-2.is at c.target-in-loop-i.ensures) in
-    (walk_on g start at c.loop-i.i so_far.0 next none leads, elim c.if-i-eq0.branch [
-      | then-i-eq0 w ↦ (0, subst (λ (b : Bor Id). Walk g (show_id b.now) 0 next) (sym w.before-is) (walk_start g next))
-      | else-i-eq0 w ↦ (
+    let leads = ap (λ l. at_id l at) (sym kept.nexts) ∙ sym (rw c.in-Some-target-2.is at c.target-in-loop-i.ensures) in (
+      walk_on g start at c.loop-i.i so_far.0 next none leads,
+      elim c.if-i-eq0.branch [
+        | then-i-eq0 w ↦ (0, subst (λ (b : Bor Id). Walk g (show_id b.now) 0 next) (sym w.before-is) (walk_start g next))
+        | else-i-eq0 w ↦ (
           so_far.1.0 + 1,
           subst (λ (b : Bor Id). Walk g (show_id b.now) (so_far.1.0 + 1) next) (sym w.before-is)
               (walk_on g (show_id c.loop-i.before.now) at so_far.1.0 so_far.1.1 next none leads),
         )
-    ])
+      ],
+    )
 
 pub returns : goal.returns
 returns c = λ g kept chosen is.
