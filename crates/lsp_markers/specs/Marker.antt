@@ -1,6 +1,6 @@
 -- What the marker of a method has: its name, and the shapes of its params and its result. Where there are no params, and where a notification has no result, that is null's shape.
 use Prim.Native.String.{String as Name}
-use Rattle.std.specs.Prelude.{ℕ, List, Option, Some, None, codes}
+use Rattle.std.specs.Prelude.{◌≡◌, ℕ, List, Option, Some, None, codes}
 use Rattle.lsp_shape.specs.Shape.{Shape, nil}
 use Rattle.lsp_shape.specs.Row.{any, list, maybe, object}
 use Rattle.lsp_base.specs.Document.{workspace_folder_row}
@@ -12,7 +12,10 @@ use Rattle.lsp_work.specs.Document.{publish_diagnostics_params_row}
 use Rattle.lsp_work.specs.Progress.{progress_params_row, work_done_progress_cancel_params_row, work_done_progress_create_params_row}
 use Rattle.lsp_work.specs.Window.{log_message_params_row, log_trace_params_row, message_action_item_row, set_trace_params_row, show_document_params_row, show_document_result_row, show_message_params_row, show_message_request_params_row}
 use Rattle.lsp_work.specs.Workspace.{apply_workspace_edit_params_row, apply_workspace_edit_response_row, configuration_params_row}
-use Rattle.lsp_methods.specs.Shapes.{params_shape}
+use Rattle.lsp_lang_goto.specs.Symbols.{workspace_symbol_response_row}
+use Rattle.lsp_session.specs.declared.table.Kind.TheVariants as kinds
+use Rattle.lsp_methods.specs.Methods.{method_row}
+use Rattle.lsp_methods.specs.Shapes.{params_shape, result_shape}
 use Rattle.lsp_methods.specs.declared.method.Method.{Method}
 use Rattle.lsp_markers.specs.declared.method.AskedMethod.{AskedMethod}
 use Rattle.lsp_markers.specs.declared.method.AskedMethod.TheVariants as asked
@@ -70,3 +73,30 @@ told_row told.SaveNotebook = noted "notebookDocument/didSave" did_save_notebook_
 told_row told.CloseNotebook = noted "notebookDocument/didClose" did_close_notebook_document_params_row.shape
 told_row told.Cancel = noted "$/cancelRequest" cancel_params_row.shape
 told_row told.Exit = noted "exit" nil
+
+-- ---- what a marker is to its method: it has the name of the method, and the shapes of its params and its result
+
+-- a request that a client makes, by what its result may be
+abbrev IsAnsweredBy : Shape → Method → List ℕ → Shape → Shape → Type 0
+IsAnsweredBy wanted m name params result =
+    ((method_row m).kind ≡ kinds.Request) × (name ≡ (method_row m).name) × (params ≡ served_params m) × (result ≡ wanted)
+
+abbrev pub IsAnswered : Method → List ℕ → Shape → Shape → Type 0
+IsAnswered m = IsAnsweredBy (result_shape m) m
+
+-- The request for symbols of a workspace. The marker's result may also be a list of the newer `WorkspaceSymbol`, as in the Rust
+-- crate of that name; the method's is the older one.
+abbrev pub IsAnsweredBySymbols : Method → List ℕ → Shape → Shape → Type 0
+IsAnsweredBySymbols = IsAnsweredBy (maybe workspace_symbol_response_row).shape
+
+-- a notification that a client sends
+abbrev pub IsNoted : Method → List ℕ → Shape → Type 0
+IsNoted m name params = ((method_row m).kind ≡ kinds.Notification) × (name ≡ (method_row m).name) × (params ≡ served_params m)
+
+-- what a server asks of its client
+abbrev pub IsAsked : AskedMethod → List ℕ → Shape → Shape → Type 0
+IsAsked m name params result = (name ≡ (asked_row m).name) × (params ≡ (asked_row m).params) × (result ≡ (asked_row m).result)
+
+-- what isn't answered
+abbrev pub IsTold : ToldMethod → List ℕ → Shape → Type 0
+IsTold m name params = (name ≡ (told_row m).name) × (params ≡ (told_row m).params)

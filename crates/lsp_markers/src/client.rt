@@ -1,49 +1,106 @@
-// The markers of the methods that stand in no method table.
-use crate::agree::{asked, told};
+// The markers of the methods that stand in no method table. Nothing runs here.
+ghost use Rattle.lsp_markers.specs.Marker.{IsAsked, IsTold};
+
 use crate::method::{AskedMethod, ToldMethod};
 use lsp_methods::notification::{
     Cancel, DidChangeNotebookDocument, DidCloseNotebookDocument, DidOpenNotebookDocument,
-    DidSaveNotebookDocument, Exit, LogMessage, LogTrace, Progress, PublishDiagnostics, SetTrace,
-    ShowMessage, TelemetryEvent, WorkDoneProgressCancel,
+    DidSaveNotebookDocument, Exit, LogMessage, LogTrace, Notification, Progress,
+    PublishDiagnostics, SetTrace, ShowMessage, TelemetryEvent, WorkDoneProgressCancel,
 };
 use lsp_methods::request::{
     ApplyWorkspaceEdit, CodeLensRefresh, InlayHintRefreshRequest, InlineValueRefreshRequest,
-    RegisterCapability, SemanticTokensRefresh, ShowDocument, ShowMessageRequest,
+    RegisterCapability, Request, SemanticTokensRefresh, ShowDocument, ShowMessageRequest,
     UnregisterCapability, WorkDoneProgressCreate, WorkspaceConfiguration,
     WorkspaceDiagnosticRefresh, WorkspaceFoldersRequest,
 };
+use lsp_shape::Wire;
 
 /// The markers of what a server asks of its client.
-pub fn asked_markers() {
-    asked::<RegisterCapability>(AskedMethod::RegisterCapability);
-    asked::<UnregisterCapability>(AskedMethod::UnregisterCapability);
-    asked::<ShowMessageRequest>(AskedMethod::ShowMessage);
-    asked::<ShowDocument>(AskedMethod::ShowDocument);
-    asked::<WorkDoneProgressCreate>(AskedMethod::CreateProgress);
-    asked::<CodeLensRefresh>(AskedMethod::RefreshCodeLenses);
-    asked::<SemanticTokensRefresh>(AskedMethod::RefreshSemanticTokens);
-    asked::<InlineValueRefreshRequest>(AskedMethod::RefreshInlineValues);
-    asked::<InlayHintRefreshRequest>(AskedMethod::RefreshInlayHints);
-    asked::<WorkspaceDiagnosticRefresh>(AskedMethod::RefreshDiagnostics);
-    asked::<WorkspaceConfiguration>(AskedMethod::Configuration);
-    asked::<WorkspaceFoldersRequest>(AskedMethod::WorkspaceFolders);
-    asked::<ApplyWorkspaceEdit>(AskedMethod::ApplyEdit);
-}
+pub fn asked_markers()
+    ensures register_capability { IsAsked AskedMethod.RegisterCapability
+        ⟦<RegisterCapability as Request>⟧.name
+        ⟦<<RegisterCapability as Request>::Params as Wire>⟧.shape
+        ⟦<<RegisterCapability as Request>::Result as Wire>⟧.shape }
+    ensures unregister_capability { IsAsked AskedMethod.UnregisterCapability
+        ⟦<UnregisterCapability as Request>⟧.name
+        ⟦<<UnregisterCapability as Request>::Params as Wire>⟧.shape
+        ⟦<<UnregisterCapability as Request>::Result as Wire>⟧.shape }
+    ensures show_message { IsAsked AskedMethod.ShowMessage ⟦<ShowMessageRequest as Request>⟧.name
+        ⟦<<ShowMessageRequest as Request>::Params as Wire>⟧.shape
+        ⟦<<ShowMessageRequest as Request>::Result as Wire>⟧.shape }
+    ensures show_document { IsAsked AskedMethod.ShowDocument ⟦<ShowDocument as Request>⟧.name
+        ⟦<<ShowDocument as Request>::Params as Wire>⟧.shape
+        ⟦<<ShowDocument as Request>::Result as Wire>⟧.shape }
+    ensures create_progress { IsAsked AskedMethod.CreateProgress
+        ⟦<WorkDoneProgressCreate as Request>⟧.name
+        ⟦<<WorkDoneProgressCreate as Request>::Params as Wire>⟧.shape
+        ⟦<<WorkDoneProgressCreate as Request>::Result as Wire>⟧.shape }
+    ensures refresh_code_lenses { IsAsked AskedMethod.RefreshCodeLenses
+        ⟦<CodeLensRefresh as Request>⟧.name ⟦<<CodeLensRefresh as Request>::Params as Wire>⟧.shape
+        ⟦<<CodeLensRefresh as Request>::Result as Wire>⟧.shape }
+    ensures refresh_semantic_tokens { IsAsked AskedMethod.RefreshSemanticTokens
+        ⟦<SemanticTokensRefresh as Request>⟧.name
+        ⟦<<SemanticTokensRefresh as Request>::Params as Wire>⟧.shape
+        ⟦<<SemanticTokensRefresh as Request>::Result as Wire>⟧.shape }
+    ensures refresh_inline_values { IsAsked AskedMethod.RefreshInlineValues
+        ⟦<InlineValueRefreshRequest as Request>⟧.name
+        ⟦<<InlineValueRefreshRequest as Request>::Params as Wire>⟧.shape
+        ⟦<<InlineValueRefreshRequest as Request>::Result as Wire>⟧.shape }
+    ensures refresh_inlay_hints { IsAsked AskedMethod.RefreshInlayHints
+        ⟦<InlayHintRefreshRequest as Request>⟧.name
+        ⟦<<InlayHintRefreshRequest as Request>::Params as Wire>⟧.shape
+        ⟦<<InlayHintRefreshRequest as Request>::Result as Wire>⟧.shape }
+    ensures refresh_diagnostics { IsAsked AskedMethod.RefreshDiagnostics
+        ⟦<WorkspaceDiagnosticRefresh as Request>⟧.name
+        ⟦<<WorkspaceDiagnosticRefresh as Request>::Params as Wire>⟧.shape
+        ⟦<<WorkspaceDiagnosticRefresh as Request>::Result as Wire>⟧.shape }
+    ensures configuration { IsAsked AskedMethod.Configuration
+        ⟦<WorkspaceConfiguration as Request>⟧.name
+        ⟦<<WorkspaceConfiguration as Request>::Params as Wire>⟧.shape
+        ⟦<<WorkspaceConfiguration as Request>::Result as Wire>⟧.shape }
+    ensures workspace_folders { IsAsked AskedMethod.WorkspaceFolders
+        ⟦<WorkspaceFoldersRequest as Request>⟧.name
+        ⟦<<WorkspaceFoldersRequest as Request>::Params as Wire>⟧.shape
+        ⟦<<WorkspaceFoldersRequest as Request>::Result as Wire>⟧.shape }
+    ensures apply_edit { IsAsked AskedMethod.ApplyEdit ⟦<ApplyWorkspaceEdit as Request>⟧.name
+        ⟦<<ApplyWorkspaceEdit as Request>::Params as Wire>⟧.shape
+        ⟦<<ApplyWorkspaceEdit as Request>::Result as Wire>⟧.shape }
+{}
 
 /// The markers of what isn't answered.
-pub fn told_markers() {
-    told::<ShowMessage>(ToldMethod::ShowMessage);
-    told::<LogMessage>(ToldMethod::LogMessage);
-    told::<TelemetryEvent>(ToldMethod::Telemetry);
-    told::<PublishDiagnostics>(ToldMethod::PublishDiagnostics);
-    told::<SetTrace>(ToldMethod::SetTrace);
-    told::<LogTrace>(ToldMethod::LogTrace);
-    told::<Progress>(ToldMethod::Progress);
-    told::<WorkDoneProgressCancel>(ToldMethod::CancelProgress);
-    told::<DidOpenNotebookDocument>(ToldMethod::OpenNotebook);
-    told::<DidChangeNotebookDocument>(ToldMethod::ChangeNotebook);
-    told::<DidSaveNotebookDocument>(ToldMethod::SaveNotebook);
-    told::<DidCloseNotebookDocument>(ToldMethod::CloseNotebook);
-    told::<Cancel>(ToldMethod::Cancel);
-    told::<Exit>(ToldMethod::Exit);
-}
+pub fn told_markers()
+    ensures show_message { IsTold ToldMethod.ShowMessage ⟦<ShowMessage as Notification>⟧.name
+        ⟦<<ShowMessage as Notification>::Params as Wire>⟧.shape }
+    ensures log_message { IsTold ToldMethod.LogMessage ⟦<LogMessage as Notification>⟧.name
+        ⟦<<LogMessage as Notification>::Params as Wire>⟧.shape }
+    ensures telemetry { IsTold ToldMethod.Telemetry ⟦<TelemetryEvent as Notification>⟧.name
+        ⟦<<TelemetryEvent as Notification>::Params as Wire>⟧.shape }
+    ensures publish_diagnostics { IsTold ToldMethod.PublishDiagnostics
+        ⟦<PublishDiagnostics as Notification>⟧.name
+        ⟦<<PublishDiagnostics as Notification>::Params as Wire>⟧.shape }
+    ensures set_trace { IsTold ToldMethod.SetTrace ⟦<SetTrace as Notification>⟧.name
+        ⟦<<SetTrace as Notification>::Params as Wire>⟧.shape }
+    ensures log_trace { IsTold ToldMethod.LogTrace ⟦<LogTrace as Notification>⟧.name
+        ⟦<<LogTrace as Notification>::Params as Wire>⟧.shape }
+    ensures progress { IsTold ToldMethod.Progress ⟦<Progress as Notification>⟧.name
+        ⟦<<Progress as Notification>::Params as Wire>⟧.shape }
+    ensures cancel_progress { IsTold ToldMethod.CancelProgress
+        ⟦<WorkDoneProgressCancel as Notification>⟧.name
+        ⟦<<WorkDoneProgressCancel as Notification>::Params as Wire>⟧.shape }
+    ensures open_notebook { IsTold ToldMethod.OpenNotebook
+        ⟦<DidOpenNotebookDocument as Notification>⟧.name
+        ⟦<<DidOpenNotebookDocument as Notification>::Params as Wire>⟧.shape }
+    ensures change_notebook { IsTold ToldMethod.ChangeNotebook
+        ⟦<DidChangeNotebookDocument as Notification>⟧.name
+        ⟦<<DidChangeNotebookDocument as Notification>::Params as Wire>⟧.shape }
+    ensures save_notebook { IsTold ToldMethod.SaveNotebook
+        ⟦<DidSaveNotebookDocument as Notification>⟧.name
+        ⟦<<DidSaveNotebookDocument as Notification>::Params as Wire>⟧.shape }
+    ensures close_notebook { IsTold ToldMethod.CloseNotebook
+        ⟦<DidCloseNotebookDocument as Notification>⟧.name
+        ⟦<<DidCloseNotebookDocument as Notification>::Params as Wire>⟧.shape }
+    ensures cancel { IsTold ToldMethod.Cancel ⟦<Cancel as Notification>⟧.name
+        ⟦<<Cancel as Notification>::Params as Wire>⟧.shape }
+    ensures exit { IsTold ToldMethod.Exit ⟦<Exit as Notification>⟧.name
+        ⟦<<Exit as Notification>::Params as Wire>⟧.shape }
+{}

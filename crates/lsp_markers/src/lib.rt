@@ -1,7 +1,6 @@
 //! That each marker has the name of its method, and the shapes of the method's params and result.
 #![tactic(auto)]
 
-mod agree;
 mod client;
 mod method;
 mod served;

@@ -1,9 +1,11 @@
-// The markers of the methods that a client calls on a server.
-use crate::agree::{answered, noted, symbols_answered};
+// The markers of the methods that a client calls on a server. Nothing runs here.
+ghost use Rattle.lsp_markers.specs.Marker.{IsAnswered, IsAnsweredBySymbols, IsNoted};
+
 use lsp_methods::notification::{
     DidChangeConfiguration, DidChangeTextDocument, DidChangeWatchedFiles,
     DidChangeWorkspaceFolders, DidCloseTextDocument, DidCreateFiles, DidDeleteFiles,
-    DidOpenTextDocument, DidRenameFiles, DidSaveTextDocument, Initialized, WillSaveTextDocument,
+    DidOpenTextDocument, DidRenameFiles, DidSaveTextDocument, Initialized, Notification,
+    WillSaveTextDocument,
 };
 use lsp_methods::request::{
     CallHierarchyIncomingCalls, CallHierarchyOutgoingCalls, CallHierarchyPrepare,
@@ -13,7 +15,7 @@ use lsp_methods::request::{
     GotoDefinition, GotoImplementation, GotoTypeDefinition, HoverRequest, Initialize,
     InlayHintRequest, InlayHintResolveRequest, InlineValueRequest, LinkedEditingRange,
     MonikerRequest, OnTypeFormatting, PrepareRenameRequest, RangeFormatting, References, Rename,
-    ResolveCompletionItem, SelectionRangeRequest, SemanticTokensFullDeltaRequest,
+    Request, ResolveCompletionItem, SelectionRangeRequest, SemanticTokensFullDeltaRequest,
     SemanticTokensFullRequest, SemanticTokensRangeRequest, Shutdown, SignatureHelpRequest,
     TypeHierarchyPrepare, TypeHierarchySubtypes, TypeHierarchySupertypes, WillCreateFiles,
     WillDeleteFiles, WillRenameFiles, WillSaveWaitUntil, WorkspaceDiagnosticRequest,
@@ -23,96 +25,251 @@ use lsp_methods::{
     EditMethod, GotoMethod, HierarchyMethod, LifeMethod, Method, ShowMethod, SyncMethod,
     TokenMethod, WorkMethod,
 };
+use lsp_shape::Wire;
 
 /// The markers of the life of a session.
-pub fn life_markers() {
-    answered::<Initialize>(Method::Life(LifeMethod::Initialize));
-    noted::<Initialized>(Method::Life(LifeMethod::Initialized));
-    answered::<Shutdown>(Method::Life(LifeMethod::Shutdown));
-}
+pub fn life_markers()
+    ensures initialize { IsAnswered (Method.Life LifeMethod.Initialize)
+        ⟦<Initialize as Request>⟧.name ⟦<<Initialize as Request>::Params as Wire>⟧.shape
+        ⟦<<Initialize as Request>::Result as Wire>⟧.shape }
+    ensures initialized { IsNoted (Method.Life LifeMethod.Initialized)
+        ⟦<Initialized as Notification>⟧.name
+        ⟦<<Initialized as Notification>::Params as Wire>⟧.shape }
+    ensures shutdown { IsAnswered (Method.Life LifeMethod.Shutdown) ⟦<Shutdown as Request>⟧.name
+        ⟦<<Shutdown as Request>::Params as Wire>⟧.shape
+        ⟦<<Shutdown as Request>::Result as Wire>⟧.shape }
+{}
 
 /// The markers of the synchronization of documents.
-pub fn sync_markers() {
-    noted::<DidOpenTextDocument>(Method::Sync(SyncMethod::DidOpen));
-    noted::<DidChangeTextDocument>(Method::Sync(SyncMethod::DidChange));
-    noted::<WillSaveTextDocument>(Method::Sync(SyncMethod::WillSave));
-    answered::<WillSaveWaitUntil>(Method::Sync(SyncMethod::WillSaveWaitUntil));
-    noted::<DidSaveTextDocument>(Method::Sync(SyncMethod::DidSave));
-    noted::<DidCloseTextDocument>(Method::Sync(SyncMethod::DidClose));
-}
+pub fn sync_markers()
+    ensures did_open { IsNoted (Method.Sync SyncMethod.DidOpen)
+        ⟦<DidOpenTextDocument as Notification>⟧.name
+        ⟦<<DidOpenTextDocument as Notification>::Params as Wire>⟧.shape }
+    ensures did_change { IsNoted (Method.Sync SyncMethod.DidChange)
+        ⟦<DidChangeTextDocument as Notification>⟧.name
+        ⟦<<DidChangeTextDocument as Notification>::Params as Wire>⟧.shape }
+    ensures will_save { IsNoted (Method.Sync SyncMethod.WillSave)
+        ⟦<WillSaveTextDocument as Notification>⟧.name
+        ⟦<<WillSaveTextDocument as Notification>::Params as Wire>⟧.shape }
+    ensures will_save_wait_until { IsAnswered (Method.Sync SyncMethod.WillSaveWaitUntil)
+        ⟦<WillSaveWaitUntil as Request>⟧.name
+        ⟦<<WillSaveWaitUntil as Request>::Params as Wire>⟧.shape
+        ⟦<<WillSaveWaitUntil as Request>::Result as Wire>⟧.shape }
+    ensures did_save { IsNoted (Method.Sync SyncMethod.DidSave)
+        ⟦<DidSaveTextDocument as Notification>⟧.name
+        ⟦<<DidSaveTextDocument as Notification>::Params as Wire>⟧.shape }
+    ensures did_close { IsNoted (Method.Sync SyncMethod.DidClose)
+        ⟦<DidCloseTextDocument as Notification>⟧.name
+        ⟦<<DidCloseTextDocument as Notification>::Params as Wire>⟧.shape }
+{}
 
 /// The markers of places to go to.
-pub fn goto_markers() {
-    answered::<GotoDeclaration>(Method::Goto(GotoMethod::GotoDeclaration));
-    answered::<GotoDefinition>(Method::Goto(GotoMethod::GotoDefinition));
-    answered::<GotoTypeDefinition>(Method::Goto(GotoMethod::GotoTypeDefinition));
-    answered::<GotoImplementation>(Method::Goto(GotoMethod::GotoImplementation));
-    answered::<References>(Method::Goto(GotoMethod::References));
-    answered::<DocumentHighlightRequest>(Method::Goto(GotoMethod::DocumentHighlight));
-}
+pub fn goto_markers()
+    ensures goto_declaration { IsAnswered (Method.Goto GotoMethod.GotoDeclaration)
+        ⟦<GotoDeclaration as Request>⟧.name ⟦<<GotoDeclaration as Request>::Params as Wire>⟧.shape
+        ⟦<<GotoDeclaration as Request>::Result as Wire>⟧.shape }
+    ensures goto_definition { IsAnswered (Method.Goto GotoMethod.GotoDefinition)
+        ⟦<GotoDefinition as Request>⟧.name ⟦<<GotoDefinition as Request>::Params as Wire>⟧.shape
+        ⟦<<GotoDefinition as Request>::Result as Wire>⟧.shape }
+    ensures goto_type_definition { IsAnswered (Method.Goto GotoMethod.GotoTypeDefinition)
+        ⟦<GotoTypeDefinition as Request>⟧.name
+        ⟦<<GotoTypeDefinition as Request>::Params as Wire>⟧.shape
+        ⟦<<GotoTypeDefinition as Request>::Result as Wire>⟧.shape }
+    ensures goto_implementation { IsAnswered (Method.Goto GotoMethod.GotoImplementation)
+        ⟦<GotoImplementation as Request>⟧.name
+        ⟦<<GotoImplementation as Request>::Params as Wire>⟧.shape
+        ⟦<<GotoImplementation as Request>::Result as Wire>⟧.shape }
+    ensures references { IsAnswered (Method.Goto GotoMethod.References)
+        ⟦<References as Request>⟧.name ⟦<<References as Request>::Params as Wire>⟧.shape
+        ⟦<<References as Request>::Result as Wire>⟧.shape }
+    ensures document_highlight { IsAnswered (Method.Goto GotoMethod.DocumentHighlight)
+        ⟦<DocumentHighlightRequest as Request>⟧.name
+        ⟦<<DocumentHighlightRequest as Request>::Params as Wire>⟧.shape
+        ⟦<<DocumentHighlightRequest as Request>::Result as Wire>⟧.shape }
+{}
 
 /// The markers of hierarchies of calls and types.
-pub fn hierarchy_markers() {
-    answered::<CallHierarchyPrepare>(Method::Hierarchy(HierarchyMethod::PrepareCallHierarchy));
-    answered::<CallHierarchyIncomingCalls>(Method::Hierarchy(HierarchyMethod::IncomingCalls));
-    answered::<CallHierarchyOutgoingCalls>(Method::Hierarchy(HierarchyMethod::OutgoingCalls));
-    answered::<TypeHierarchyPrepare>(Method::Hierarchy(HierarchyMethod::PrepareTypeHierarchy));
-    answered::<TypeHierarchySupertypes>(Method::Hierarchy(HierarchyMethod::Supertypes));
-    answered::<TypeHierarchySubtypes>(Method::Hierarchy(HierarchyMethod::Subtypes));
-}
+pub fn hierarchy_markers()
+    ensures prepare_call_hierarchy { IsAnswered (Method.Hierarchy HierarchyMethod.PrepareCallHierarchy)
+        ⟦<CallHierarchyPrepare as Request>⟧.name
+        ⟦<<CallHierarchyPrepare as Request>::Params as Wire>⟧.shape
+        ⟦<<CallHierarchyPrepare as Request>::Result as Wire>⟧.shape }
+    ensures incoming_calls { IsAnswered (Method.Hierarchy HierarchyMethod.IncomingCalls)
+        ⟦<CallHierarchyIncomingCalls as Request>⟧.name
+        ⟦<<CallHierarchyIncomingCalls as Request>::Params as Wire>⟧.shape
+        ⟦<<CallHierarchyIncomingCalls as Request>::Result as Wire>⟧.shape }
+    ensures outgoing_calls { IsAnswered (Method.Hierarchy HierarchyMethod.OutgoingCalls)
+        ⟦<CallHierarchyOutgoingCalls as Request>⟧.name
+        ⟦<<CallHierarchyOutgoingCalls as Request>::Params as Wire>⟧.shape
+        ⟦<<CallHierarchyOutgoingCalls as Request>::Result as Wire>⟧.shape }
+    ensures prepare_type_hierarchy { IsAnswered (Method.Hierarchy HierarchyMethod.PrepareTypeHierarchy)
+        ⟦<TypeHierarchyPrepare as Request>⟧.name
+        ⟦<<TypeHierarchyPrepare as Request>::Params as Wire>⟧.shape
+        ⟦<<TypeHierarchyPrepare as Request>::Result as Wire>⟧.shape }
+    ensures supertypes { IsAnswered (Method.Hierarchy HierarchyMethod.Supertypes)
+        ⟦<TypeHierarchySupertypes as Request>⟧.name
+        ⟦<<TypeHierarchySupertypes as Request>::Params as Wire>⟧.shape
+        ⟦<<TypeHierarchySupertypes as Request>::Result as Wire>⟧.shape }
+    ensures subtypes { IsAnswered (Method.Hierarchy HierarchyMethod.Subtypes)
+        ⟦<TypeHierarchySubtypes as Request>⟧.name
+        ⟦<<TypeHierarchySubtypes as Request>::Params as Wire>⟧.shape
+        ⟦<<TypeHierarchySubtypes as Request>::Result as Wire>⟧.shape }
+{}
 
 /// The markers of what is shown in a document.
-pub fn show_markers() {
-    answered::<DocumentLinkRequest>(Method::Show(ShowMethod::DocumentLink));
-    answered::<DocumentLinkResolve>(Method::Show(ShowMethod::DocumentLinkResolve));
-    answered::<HoverRequest>(Method::Show(ShowMethod::Hover));
-    answered::<CodeLensRequest>(Method::Show(ShowMethod::CodeLens));
-    answered::<CodeLensResolve>(Method::Show(ShowMethod::CodeLensResolve));
-    answered::<FoldingRangeRequest>(Method::Show(ShowMethod::FoldingRange));
-    answered::<SelectionRangeRequest>(Method::Show(ShowMethod::SelectionRange));
-    answered::<DocumentSymbolRequest>(Method::Show(ShowMethod::DocumentSymbol));
-    answered::<MonikerRequest>(Method::Show(ShowMethod::Moniker));
-}
+pub fn show_markers()
+    ensures document_link { IsAnswered (Method.Show ShowMethod.DocumentLink)
+        ⟦<DocumentLinkRequest as Request>⟧.name
+        ⟦<<DocumentLinkRequest as Request>::Params as Wire>⟧.shape
+        ⟦<<DocumentLinkRequest as Request>::Result as Wire>⟧.shape }
+    ensures document_link_resolve { IsAnswered (Method.Show ShowMethod.DocumentLinkResolve)
+        ⟦<DocumentLinkResolve as Request>⟧.name
+        ⟦<<DocumentLinkResolve as Request>::Params as Wire>⟧.shape
+        ⟦<<DocumentLinkResolve as Request>::Result as Wire>⟧.shape }
+    ensures hover { IsAnswered (Method.Show ShowMethod.Hover) ⟦<HoverRequest as Request>⟧.name
+        ⟦<<HoverRequest as Request>::Params as Wire>⟧.shape
+        ⟦<<HoverRequest as Request>::Result as Wire>⟧.shape }
+    ensures code_lens { IsAnswered (Method.Show ShowMethod.CodeLens)
+        ⟦<CodeLensRequest as Request>⟧.name ⟦<<CodeLensRequest as Request>::Params as Wire>⟧.shape
+        ⟦<<CodeLensRequest as Request>::Result as Wire>⟧.shape }
+    ensures code_lens_resolve { IsAnswered (Method.Show ShowMethod.CodeLensResolve)
+        ⟦<CodeLensResolve as Request>⟧.name ⟦<<CodeLensResolve as Request>::Params as Wire>⟧.shape
+        ⟦<<CodeLensResolve as Request>::Result as Wire>⟧.shape }
+    ensures folding_range { IsAnswered (Method.Show ShowMethod.FoldingRange)
+        ⟦<FoldingRangeRequest as Request>⟧.name
+        ⟦<<FoldingRangeRequest as Request>::Params as Wire>⟧.shape
+        ⟦<<FoldingRangeRequest as Request>::Result as Wire>⟧.shape }
+    ensures selection_range { IsAnswered (Method.Show ShowMethod.SelectionRange)
+        ⟦<SelectionRangeRequest as Request>⟧.name
+        ⟦<<SelectionRangeRequest as Request>::Params as Wire>⟧.shape
+        ⟦<<SelectionRangeRequest as Request>::Result as Wire>⟧.shape }
+    ensures document_symbol { IsAnswered (Method.Show ShowMethod.DocumentSymbol)
+        ⟦<DocumentSymbolRequest as Request>⟧.name
+        ⟦<<DocumentSymbolRequest as Request>::Params as Wire>⟧.shape
+        ⟦<<DocumentSymbolRequest as Request>::Result as Wire>⟧.shape }
+    ensures moniker { IsAnswered (Method.Show ShowMethod.Moniker)
+        ⟦<MonikerRequest as Request>⟧.name ⟦<<MonikerRequest as Request>::Params as Wire>⟧.shape
+        ⟦<<MonikerRequest as Request>::Result as Wire>⟧.shape }
+{}
 
 /// The markers of tokens, hints and values in a document.
-pub fn token_markers() {
-    answered::<SemanticTokensFullRequest>(Method::Token(TokenMethod::SemanticTokensFull));
-    answered::<SemanticTokensFullDeltaRequest>(Method::Token(TokenMethod::SemanticTokensFullDelta));
-    answered::<SemanticTokensRangeRequest>(Method::Token(TokenMethod::SemanticTokensRange));
-    answered::<InlineValueRequest>(Method::Token(TokenMethod::InlineValue));
-    answered::<InlayHintRequest>(Method::Token(TokenMethod::InlayHint));
-    answered::<InlayHintResolveRequest>(Method::Token(TokenMethod::InlayHintResolve));
-}
+pub fn token_markers()
+    ensures semantic_tokens_full { IsAnswered (Method.Token TokenMethod.SemanticTokensFull)
+        ⟦<SemanticTokensFullRequest as Request>⟧.name
+        ⟦<<SemanticTokensFullRequest as Request>::Params as Wire>⟧.shape
+        ⟦<<SemanticTokensFullRequest as Request>::Result as Wire>⟧.shape }
+    ensures semantic_tokens_full_delta { IsAnswered (Method.Token TokenMethod.SemanticTokensFullDelta)
+        ⟦<SemanticTokensFullDeltaRequest as Request>⟧.name
+        ⟦<<SemanticTokensFullDeltaRequest as Request>::Params as Wire>⟧.shape
+        ⟦<<SemanticTokensFullDeltaRequest as Request>::Result as Wire>⟧.shape }
+    ensures semantic_tokens_range { IsAnswered (Method.Token TokenMethod.SemanticTokensRange)
+        ⟦<SemanticTokensRangeRequest as Request>⟧.name
+        ⟦<<SemanticTokensRangeRequest as Request>::Params as Wire>⟧.shape
+        ⟦<<SemanticTokensRangeRequest as Request>::Result as Wire>⟧.shape }
+    ensures inline_value { IsAnswered (Method.Token TokenMethod.InlineValue)
+        ⟦<InlineValueRequest as Request>⟧.name
+        ⟦<<InlineValueRequest as Request>::Params as Wire>⟧.shape
+        ⟦<<InlineValueRequest as Request>::Result as Wire>⟧.shape }
+    ensures inlay_hint { IsAnswered (Method.Token TokenMethod.InlayHint)
+        ⟦<InlayHintRequest as Request>⟧.name
+        ⟦<<InlayHintRequest as Request>::Params as Wire>⟧.shape
+        ⟦<<InlayHintRequest as Request>::Result as Wire>⟧.shape }
+    ensures inlay_hint_resolve { IsAnswered (Method.Token TokenMethod.InlayHintResolve)
+        ⟦<InlayHintResolveRequest as Request>⟧.name
+        ⟦<<InlayHintResolveRequest as Request>::Params as Wire>⟧.shape
+        ⟦<<InlayHintResolveRequest as Request>::Result as Wire>⟧.shape }
+{}
 
 /// The markers of completion, edits and diagnostics.
-pub fn edit_markers() {
-    answered::<Completion>(Method::Edit(EditMethod::Completion));
-    answered::<ResolveCompletionItem>(Method::Edit(EditMethod::CompletionResolve));
-    answered::<SignatureHelpRequest>(Method::Edit(EditMethod::SignatureHelp));
-    answered::<CodeActionRequest>(Method::Edit(EditMethod::CodeAction));
-    answered::<CodeActionResolveRequest>(Method::Edit(EditMethod::CodeActionResolve));
-    answered::<Formatting>(Method::Edit(EditMethod::Formatting));
-    answered::<RangeFormatting>(Method::Edit(EditMethod::RangeFormatting));
-    answered::<OnTypeFormatting>(Method::Edit(EditMethod::OnTypeFormatting));
-    answered::<Rename>(Method::Edit(EditMethod::Rename));
-    answered::<PrepareRenameRequest>(Method::Edit(EditMethod::PrepareRename));
-    answered::<LinkedEditingRange>(Method::Edit(EditMethod::LinkedEditingRange));
-    answered::<DocumentDiagnosticRequest>(Method::Edit(EditMethod::Diagnostic));
-}
+pub fn edit_markers()
+    ensures completion { IsAnswered (Method.Edit EditMethod.Completion)
+        ⟦<Completion as Request>⟧.name ⟦<<Completion as Request>::Params as Wire>⟧.shape
+        ⟦<<Completion as Request>::Result as Wire>⟧.shape }
+    ensures completion_resolve { IsAnswered (Method.Edit EditMethod.CompletionResolve)
+        ⟦<ResolveCompletionItem as Request>⟧.name
+        ⟦<<ResolveCompletionItem as Request>::Params as Wire>⟧.shape
+        ⟦<<ResolveCompletionItem as Request>::Result as Wire>⟧.shape }
+    ensures signature_help { IsAnswered (Method.Edit EditMethod.SignatureHelp)
+        ⟦<SignatureHelpRequest as Request>⟧.name
+        ⟦<<SignatureHelpRequest as Request>::Params as Wire>⟧.shape
+        ⟦<<SignatureHelpRequest as Request>::Result as Wire>⟧.shape }
+    ensures code_action { IsAnswered (Method.Edit EditMethod.CodeAction)
+        ⟦<CodeActionRequest as Request>⟧.name
+        ⟦<<CodeActionRequest as Request>::Params as Wire>⟧.shape
+        ⟦<<CodeActionRequest as Request>::Result as Wire>⟧.shape }
+    ensures code_action_resolve { IsAnswered (Method.Edit EditMethod.CodeActionResolve)
+        ⟦<CodeActionResolveRequest as Request>⟧.name
+        ⟦<<CodeActionResolveRequest as Request>::Params as Wire>⟧.shape
+        ⟦<<CodeActionResolveRequest as Request>::Result as Wire>⟧.shape }
+    ensures formatting { IsAnswered (Method.Edit EditMethod.Formatting)
+        ⟦<Formatting as Request>⟧.name ⟦<<Formatting as Request>::Params as Wire>⟧.shape
+        ⟦<<Formatting as Request>::Result as Wire>⟧.shape }
+    ensures range_formatting { IsAnswered (Method.Edit EditMethod.RangeFormatting)
+        ⟦<RangeFormatting as Request>⟧.name ⟦<<RangeFormatting as Request>::Params as Wire>⟧.shape
+        ⟦<<RangeFormatting as Request>::Result as Wire>⟧.shape }
+    ensures on_type_formatting { IsAnswered (Method.Edit EditMethod.OnTypeFormatting)
+        ⟦<OnTypeFormatting as Request>⟧.name
+        ⟦<<OnTypeFormatting as Request>::Params as Wire>⟧.shape
+        ⟦<<OnTypeFormatting as Request>::Result as Wire>⟧.shape }
+    ensures rename { IsAnswered (Method.Edit EditMethod.Rename) ⟦<Rename as Request>⟧.name
+        ⟦<<Rename as Request>::Params as Wire>⟧.shape
+        ⟦<<Rename as Request>::Result as Wire>⟧.shape }
+    ensures prepare_rename { IsAnswered (Method.Edit EditMethod.PrepareRename)
+        ⟦<PrepareRenameRequest as Request>⟧.name
+        ⟦<<PrepareRenameRequest as Request>::Params as Wire>⟧.shape
+        ⟦<<PrepareRenameRequest as Request>::Result as Wire>⟧.shape }
+    ensures linked_editing_range { IsAnswered (Method.Edit EditMethod.LinkedEditingRange)
+        ⟦<LinkedEditingRange as Request>⟧.name
+        ⟦<<LinkedEditingRange as Request>::Params as Wire>⟧.shape
+        ⟦<<LinkedEditingRange as Request>::Result as Wire>⟧.shape }
+    ensures diagnostic { IsAnswered (Method.Edit EditMethod.Diagnostic)
+        ⟦<DocumentDiagnosticRequest as Request>⟧.name
+        ⟦<<DocumentDiagnosticRequest as Request>::Params as Wire>⟧.shape
+        ⟦<<DocumentDiagnosticRequest as Request>::Result as Wire>⟧.shape }
+{}
 
 /// The markers of the workspace.
-pub fn work_markers() {
-    answered::<WorkspaceDiagnosticRequest>(Method::Work(WorkMethod::WorkspaceDiagnostic));
-    symbols_answered::<WorkspaceSymbolRequest>(Method::Work(WorkMethod::Symbol));
-    answered::<WorkspaceSymbolResolve>(Method::Work(WorkMethod::SymbolResolve));
-    noted::<DidChangeConfiguration>(Method::Work(WorkMethod::DidChangeConfiguration));
-    noted::<DidChangeWorkspaceFolders>(Method::Work(WorkMethod::DidChangeWorkspaceFolders));
-    answered::<WillCreateFiles>(Method::Work(WorkMethod::WillCreateFiles));
-    noted::<DidCreateFiles>(Method::Work(WorkMethod::DidCreateFiles));
-    answered::<WillRenameFiles>(Method::Work(WorkMethod::WillRenameFiles));
-    noted::<DidRenameFiles>(Method::Work(WorkMethod::DidRenameFiles));
-    answered::<WillDeleteFiles>(Method::Work(WorkMethod::WillDeleteFiles));
-    noted::<DidDeleteFiles>(Method::Work(WorkMethod::DidDeleteFiles));
-    noted::<DidChangeWatchedFiles>(Method::Work(WorkMethod::DidChangeWatchedFiles));
-    answered::<ExecuteCommand>(Method::Work(WorkMethod::ExecuteCommand));
-}
+pub fn work_markers()
+    ensures workspace_diagnostic { IsAnswered (Method.Work WorkMethod.WorkspaceDiagnostic)
+        ⟦<WorkspaceDiagnosticRequest as Request>⟧.name
+        ⟦<<WorkspaceDiagnosticRequest as Request>::Params as Wire>⟧.shape
+        ⟦<<WorkspaceDiagnosticRequest as Request>::Result as Wire>⟧.shape }
+    ensures symbol { IsAnsweredBySymbols (Method.Work WorkMethod.Symbol)
+        ⟦<WorkspaceSymbolRequest as Request>⟧.name
+        ⟦<<WorkspaceSymbolRequest as Request>::Params as Wire>⟧.shape
+        ⟦<<WorkspaceSymbolRequest as Request>::Result as Wire>⟧.shape }
+    ensures symbol_resolve { IsAnswered (Method.Work WorkMethod.SymbolResolve)
+        ⟦<WorkspaceSymbolResolve as Request>⟧.name
+        ⟦<<WorkspaceSymbolResolve as Request>::Params as Wire>⟧.shape
+        ⟦<<WorkspaceSymbolResolve as Request>::Result as Wire>⟧.shape }
+    ensures did_change_configuration { IsNoted (Method.Work WorkMethod.DidChangeConfiguration)
+        ⟦<DidChangeConfiguration as Notification>⟧.name
+        ⟦<<DidChangeConfiguration as Notification>::Params as Wire>⟧.shape }
+    ensures did_change_workspace_folders { IsNoted (Method.Work WorkMethod.DidChangeWorkspaceFolders)
+        ⟦<DidChangeWorkspaceFolders as Notification>⟧.name
+        ⟦<<DidChangeWorkspaceFolders as Notification>::Params as Wire>⟧.shape }
+    ensures will_create_files { IsAnswered (Method.Work WorkMethod.WillCreateFiles)
+        ⟦<WillCreateFiles as Request>⟧.name ⟦<<WillCreateFiles as Request>::Params as Wire>⟧.shape
+        ⟦<<WillCreateFiles as Request>::Result as Wire>⟧.shape }
+    ensures did_create_files { IsNoted (Method.Work WorkMethod.DidCreateFiles)
+        ⟦<DidCreateFiles as Notification>⟧.name
+        ⟦<<DidCreateFiles as Notification>::Params as Wire>⟧.shape }
+    ensures will_rename_files { IsAnswered (Method.Work WorkMethod.WillRenameFiles)
+        ⟦<WillRenameFiles as Request>⟧.name ⟦<<WillRenameFiles as Request>::Params as Wire>⟧.shape
+        ⟦<<WillRenameFiles as Request>::Result as Wire>⟧.shape }
+    ensures did_rename_files { IsNoted (Method.Work WorkMethod.DidRenameFiles)
+        ⟦<DidRenameFiles as Notification>⟧.name
+        ⟦<<DidRenameFiles as Notification>::Params as Wire>⟧.shape }
+    ensures will_delete_files { IsAnswered (Method.Work WorkMethod.WillDeleteFiles)
+        ⟦<WillDeleteFiles as Request>⟧.name ⟦<<WillDeleteFiles as Request>::Params as Wire>⟧.shape
+        ⟦<<WillDeleteFiles as Request>::Result as Wire>⟧.shape }
+    ensures did_delete_files { IsNoted (Method.Work WorkMethod.DidDeleteFiles)
+        ⟦<DidDeleteFiles as Notification>⟧.name
+        ⟦<<DidDeleteFiles as Notification>::Params as Wire>⟧.shape }
+    ensures did_change_watched_files { IsNoted (Method.Work WorkMethod.DidChangeWatchedFiles)
+        ⟦<DidChangeWatchedFiles as Notification>⟧.name
+        ⟦<<DidChangeWatchedFiles as Notification>::Params as Wire>⟧.shape }
+    ensures execute_command { IsAnswered (Method.Work WorkMethod.ExecuteCommand)
+        ⟦<ExecuteCommand as Request>⟧.name ⟦<<ExecuteCommand as Request>::Params as Wire>⟧.shape
+        ⟦<<ExecuteCommand as Request>::Result as Wire>⟧.shape }
+{}
