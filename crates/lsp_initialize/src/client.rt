@@ -1,4 +1,7 @@
 // What a client sends in `initialize`.
+ghost use Rattle.std.specs.Prelude.{◌≡◌, IfOk, is_some, option_map};
+ghost use Rattle.serde_json.specs.View.{view};
+ghost use Rattle.lsp_shape.specs.Read.{read};
 ghost use Rattle.lsp_initialize.specs.Client.{client_capabilities_row, initialize_params_row};
 
 use lsp_base::{WorkDoneProgressParams, WorkspaceFolder};
@@ -8,7 +11,7 @@ use lsp_caps_work::{
     WindowClientCapabilities, WorkspaceClientCapabilities,
 };
 use lsp_names::TraceValue;
-use lsp_shape::{Copies, Misfit, NoMemory, Reader, Wire, Writer, flat};
+use lsp_shape::{Copies, Misfit, NoMemory, Reader, Wire, Writer, attempt, flat};
 use lsp_uri::Uri;
 use serde_json::Value;
 use std::alloc::{AllocError, Global};
@@ -184,5 +187,27 @@ impl Wire for InitializeParams {
         object.optional("locale", &self.locale);
         object.flat(&self.work_done_progress_params);
         object.end()
+    }
+}
+
+// A crate that reads these by `attempt` itself has the drop of each type in them to prove.
+impl InitializeParams {
+    /// What the value is read as, or None where it does not fit. The one error is out of memory.
+    pub fn read(alloc: Global, value: &Value) -> Result<Option<InitializeParams>, NoMemory>
+        ensures { IfOk result (λ o. read initialize_params_row.shape (view value.now)
+            ≡ option_map initialize_params_row.shown o) }
+    {
+        attempt(alloc, value)
+    }
+
+    /// Whether the value fits. The one error is out of memory.
+    pub fn is_fitting(alloc: Global, value: &Value) -> Result<bool, NoMemory>
+        ensures { IfOk result
+            (λ fits. fits ≡ is_some (read initialize_params_row.shape (view value.now))) }
+    {
+        let read = InitializeParams::read(alloc, value)?;
+        let fits = read.is_some();
+        drop(read);
+        Ok(fits)
     }
 }

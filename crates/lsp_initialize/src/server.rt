@@ -1,4 +1,7 @@
 // What a server sends in response to `initialize`.
+ghost use Rattle.std.specs.Prelude.{◌≡◌, IfOk};
+ghost use Rattle.serde_json.specs.View.{view};
+ghost use Rattle.lsp_shape.specs.Write.{write};
 ghost use Rattle.lsp_initialize.specs.Server.{server_capabilities_row, initialize_result_row};
 
 use lsp_base::OneOf;
@@ -352,5 +355,17 @@ impl Wire for InitializeResult {
         object.field("capabilities", &self.capabilities);
         object.optional("serverInfo", &self.server_info);
         object.end()
+    }
+}
+
+impl InitializeResult {
+    /// What is written of it; it is let go. The one error is out of memory.
+    pub fn into_value(self, alloc: Global) -> Result<Value, NoMemory>
+        ensures { IfOk result (λ value. view value
+            ≡ write initialize_result_row.shape (initialize_result_row.shown self)) }
+    {
+        let value = self.to_value(alloc);
+        drop(self);
+        value
     }
 }

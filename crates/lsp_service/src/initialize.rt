@@ -7,7 +7,7 @@ ghost use Rattle.lsp_service.specs.Data.{fits};
 
 use lsp_initialize::{InitializeParams, InitializeResult, ServerCapabilities};
 use lsp_rpc::NoMemory;
-use lsp_shape::{Wire, attempt};
+use lsp_shape::Wire;
 use serde_json::Value;
 use std::alloc::Global;
 
@@ -32,7 +32,7 @@ impl InitializeCall {
         ensures { IfOk result (λ params. initialize_params_row.shown params
             ≡ show_initialize self.now) }
     {
-        match attempt(alloc, &self.params)? {
+        match InitializeParams::read(alloc, &self.params)? {
             Some(params) => Ok(params),
             None => unreachable!(),
         }
@@ -53,6 +53,7 @@ impl InitializeReply {
 
     /// Writes the result of a server with these capabilities, which says no more of itself. The one
     /// error is out of memory.
+    #[tactic(auto, unfolding(crate::specs::Replies::initialize_data))]
     pub fn offering(
         alloc: Global,
         capabilities: ServerCapabilities,
@@ -64,8 +65,7 @@ impl InitializeReply {
             capabilities,
             server_info: None,
         };
-        let reply = InitializeReply::new(alloc, &of);
-        drop(of);
-        reply
+        let result = of.into_value(alloc)?;
+        Ok(InitializeReply { result })
     }
 }

@@ -1,5 +1,5 @@
 // Params of a method, read by its shape.
-ghost use Rattle.std.specs.Prelude.{◌≡◌, true, IfOk, IfErr, IfSome, Some, None, is_some, option_map};
+ghost use Rattle.std.specs.Prelude.{◌≡◌, true, IfOk, OnOk, IfErr, IfSome, Some, None, is_some, option_map};
 ghost use Rattle.serde_json.specs.View.{view};
 ghost use Rattle.lsp_session.specs.Semantics.{call as call_read};
 ghost use Rattle.lsp_methods.specs.Shapes.{params_shape};
@@ -65,9 +65,8 @@ fn fitting(alloc: Global, value: &Value) -> Result<Option<Value>, NoMemory>
     ensures fits { IfOk result
         (λ o. is_some o ≡ fits initialize_params_row.shape (view value.now)) }
 {
-    match attempt::<InitializeParams>(alloc, value)? {
-        Some(params) => drop(params),
-        None => return Ok(None),
+    if !InitializeParams::is_fitting(alloc, value)? {
+        return Ok(None);
     }
     Ok(Some(value.clone()?))
 }
