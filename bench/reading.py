@@ -22,7 +22,7 @@ TYPES = {
 SOURCE = """//! Reads each line as the type that the argument names, and prints what is written of it.
 #![tactic(auto)]
 
-use lsp_shape::{Wire, trimmed};
+use lsp_shape::Wire;
 use serde_json::Value;
 use std::alloc::Global;
 use std::io::{BufWriter, Write};
@@ -32,7 +32,10 @@ use std::{env, io};
 // What is written of the text, or none where it is not read.
 fn written<T: Wire>(alloc: Global, text: &str) -> Option<String> {
     let value = Value::from_str(alloc, text).ok()?;
-    let written = trimmed::<T>(alloc, &value).ok()?;
+    let read = T::from_value(alloc, &value).ok()?;
+    drop(value);
+    let written = read.to_value(alloc).ok()?;
+    drop(read);
     written.to_string(alloc).ok()
 }
 
