@@ -77,26 +77,26 @@ told_row told.Exit = noted "exit" nil
 -- ---- what a marker is to its method: it has the name of the method, and the shapes of its params and its result
 
 -- a request that a client makes, by what its result may be
-abbrev IsAnsweredBy : Shape → Method → List ℕ → Shape → Shape → Type 0
-IsAnsweredBy wanted m name params result =
+abbrev IsAnsweredAs : Shape → Method → List ℕ → Shape → Shape → Type 0
+IsAnsweredAs wanted m name params result =
     ((method_row m).kind ≡ kinds.Request) × (name ≡ (method_row m).name) × (params ≡ served_params m) × (result ≡ wanted)
 
-abbrev pub IsAnswered : Method → List ℕ → Shape → Shape → Type 0
-IsAnswered m = IsAnsweredBy (result_shape m) m
+abbrev pub IsAnsweredMarker : Method → List ℕ → Shape → Shape → Type 0
+IsAnsweredMarker m = IsAnsweredAs (result_shape m) m
 
 -- The request for symbols of a workspace. The marker's result may also be a list of the newer `WorkspaceSymbol`, as in the Rust
 -- crate of that name; the method's is the older one.
-abbrev pub IsAnsweredBySymbols : Method → List ℕ → Shape → Shape → Type 0
-IsAnsweredBySymbols = IsAnsweredBy (maybe workspace_symbol_response_row).shape
+abbrev pub IsSymbolsMarker : Method → List ℕ → Shape → Shape → Type 0
+IsSymbolsMarker = IsAnsweredAs (maybe workspace_symbol_response_row).shape
 
 -- a notification that a client sends
-abbrev pub IsNoted : Method → List ℕ → Shape → Type 0
-IsNoted m name params = ((method_row m).kind ≡ kinds.Notification) × (name ≡ (method_row m).name) × (params ≡ served_params m)
+abbrev pub IsNotedMarker : Method → List ℕ → Shape → Type 0
+IsNotedMarker m name params = ((method_row m).kind ≡ kinds.Notification) × (name ≡ (method_row m).name) × (params ≡ served_params m)
 
 -- what a server asks of its client
-abbrev pub IsAsked : AskedMethod → List ℕ → Shape → Shape → Type 0
-IsAsked m name params result = (name ≡ (asked_row m).name) × (params ≡ (asked_row m).params) × (result ≡ (asked_row m).result)
+abbrev pub IsAskedMarker : AskedMethod → List ℕ → Shape → Shape → Type 0
+IsAskedMarker m name params result = (name ≡ (asked_row m).name) × (params ≡ (asked_row m).params) × (result ≡ (asked_row m).result)
 
 -- what isn't answered
-abbrev pub IsTold : ToldMethod → List ℕ → Shape → Type 0
-IsTold m name params = (name ≡ (told_row m).name) × (params ≡ (told_row m).params)
+abbrev pub IsToldMarker : ToldMethod → List ℕ → Shape → Type 0
+IsToldMarker m name params = (name ≡ (told_row m).name) × (params ≡ (told_row m).params)

@@ -1,5 +1,5 @@
 // The markers of the methods that stand in no method table. Nothing runs here.
-ghost use Rattle.lsp_markers.specs.Marker.{IsAsked, IsTold};
+ghost use Rattle.lsp_markers.specs.Marker.{IsAskedMarker, IsToldMarker};
 
 use crate::method::{AskedMethod, ToldMethod};
 use lsp_methods::notification::{
@@ -17,90 +17,91 @@ use lsp_shape::Wire;
 
 /// The markers of what a server asks of its client.
 pub fn asked_markers()
-    ensures register_capability { IsAsked AskedMethod.RegisterCapability
+    ensures register_capability { IsAskedMarker AskedMethod.RegisterCapability
         ⟦<RegisterCapability as Request>⟧.name
         ⟦<<RegisterCapability as Request>::Params as Wire>⟧.shape
         ⟦<<RegisterCapability as Request>::Result as Wire>⟧.shape }
-    ensures unregister_capability { IsAsked AskedMethod.UnregisterCapability
+    ensures unregister_capability { IsAskedMarker AskedMethod.UnregisterCapability
         ⟦<UnregisterCapability as Request>⟧.name
         ⟦<<UnregisterCapability as Request>::Params as Wire>⟧.shape
         ⟦<<UnregisterCapability as Request>::Result as Wire>⟧.shape }
-    ensures show_message { IsAsked AskedMethod.ShowMessage ⟦<ShowMessageRequest as Request>⟧.name
+    ensures show_message { IsAskedMarker AskedMethod.ShowMessage
+        ⟦<ShowMessageRequest as Request>⟧.name
         ⟦<<ShowMessageRequest as Request>::Params as Wire>⟧.shape
         ⟦<<ShowMessageRequest as Request>::Result as Wire>⟧.shape }
-    ensures show_document { IsAsked AskedMethod.ShowDocument ⟦<ShowDocument as Request>⟧.name
+    ensures show_document { IsAskedMarker AskedMethod.ShowDocument ⟦<ShowDocument as Request>⟧.name
         ⟦<<ShowDocument as Request>::Params as Wire>⟧.shape
         ⟦<<ShowDocument as Request>::Result as Wire>⟧.shape }
-    ensures create_progress { IsAsked AskedMethod.CreateProgress
+    ensures create_progress { IsAskedMarker AskedMethod.CreateProgress
         ⟦<WorkDoneProgressCreate as Request>⟧.name
         ⟦<<WorkDoneProgressCreate as Request>::Params as Wire>⟧.shape
         ⟦<<WorkDoneProgressCreate as Request>::Result as Wire>⟧.shape }
-    ensures refresh_code_lenses { IsAsked AskedMethod.RefreshCodeLenses
+    ensures refresh_code_lenses { IsAskedMarker AskedMethod.RefreshCodeLenses
         ⟦<CodeLensRefresh as Request>⟧.name ⟦<<CodeLensRefresh as Request>::Params as Wire>⟧.shape
         ⟦<<CodeLensRefresh as Request>::Result as Wire>⟧.shape }
-    ensures refresh_semantic_tokens { IsAsked AskedMethod.RefreshSemanticTokens
+    ensures refresh_semantic_tokens { IsAskedMarker AskedMethod.RefreshSemanticTokens
         ⟦<SemanticTokensRefresh as Request>⟧.name
         ⟦<<SemanticTokensRefresh as Request>::Params as Wire>⟧.shape
         ⟦<<SemanticTokensRefresh as Request>::Result as Wire>⟧.shape }
-    ensures refresh_inline_values { IsAsked AskedMethod.RefreshInlineValues
+    ensures refresh_inline_values { IsAskedMarker AskedMethod.RefreshInlineValues
         ⟦<InlineValueRefreshRequest as Request>⟧.name
         ⟦<<InlineValueRefreshRequest as Request>::Params as Wire>⟧.shape
         ⟦<<InlineValueRefreshRequest as Request>::Result as Wire>⟧.shape }
-    ensures refresh_inlay_hints { IsAsked AskedMethod.RefreshInlayHints
+    ensures refresh_inlay_hints { IsAskedMarker AskedMethod.RefreshInlayHints
         ⟦<InlayHintRefreshRequest as Request>⟧.name
         ⟦<<InlayHintRefreshRequest as Request>::Params as Wire>⟧.shape
         ⟦<<InlayHintRefreshRequest as Request>::Result as Wire>⟧.shape }
-    ensures refresh_diagnostics { IsAsked AskedMethod.RefreshDiagnostics
+    ensures refresh_diagnostics { IsAskedMarker AskedMethod.RefreshDiagnostics
         ⟦<WorkspaceDiagnosticRefresh as Request>⟧.name
         ⟦<<WorkspaceDiagnosticRefresh as Request>::Params as Wire>⟧.shape
         ⟦<<WorkspaceDiagnosticRefresh as Request>::Result as Wire>⟧.shape }
-    ensures configuration { IsAsked AskedMethod.Configuration
+    ensures configuration { IsAskedMarker AskedMethod.Configuration
         ⟦<WorkspaceConfiguration as Request>⟧.name
         ⟦<<WorkspaceConfiguration as Request>::Params as Wire>⟧.shape
         ⟦<<WorkspaceConfiguration as Request>::Result as Wire>⟧.shape }
-    ensures workspace_folders { IsAsked AskedMethod.WorkspaceFolders
+    ensures workspace_folders { IsAskedMarker AskedMethod.WorkspaceFolders
         ⟦<WorkspaceFoldersRequest as Request>⟧.name
         ⟦<<WorkspaceFoldersRequest as Request>::Params as Wire>⟧.shape
         ⟦<<WorkspaceFoldersRequest as Request>::Result as Wire>⟧.shape }
-    ensures apply_edit { IsAsked AskedMethod.ApplyEdit ⟦<ApplyWorkspaceEdit as Request>⟧.name
+    ensures apply_edit { IsAskedMarker AskedMethod.ApplyEdit ⟦<ApplyWorkspaceEdit as Request>⟧.name
         ⟦<<ApplyWorkspaceEdit as Request>::Params as Wire>⟧.shape
         ⟦<<ApplyWorkspaceEdit as Request>::Result as Wire>⟧.shape }
 {}
 
 /// The markers of what isn't answered.
 pub fn told_markers()
-    ensures show_message { IsTold ToldMethod.ShowMessage ⟦<ShowMessage as Notification>⟧.name
+    ensures show_message { IsToldMarker ToldMethod.ShowMessage ⟦<ShowMessage as Notification>⟧.name
         ⟦<<ShowMessage as Notification>::Params as Wire>⟧.shape }
-    ensures log_message { IsTold ToldMethod.LogMessage ⟦<LogMessage as Notification>⟧.name
+    ensures log_message { IsToldMarker ToldMethod.LogMessage ⟦<LogMessage as Notification>⟧.name
         ⟦<<LogMessage as Notification>::Params as Wire>⟧.shape }
-    ensures telemetry { IsTold ToldMethod.Telemetry ⟦<TelemetryEvent as Notification>⟧.name
+    ensures telemetry { IsToldMarker ToldMethod.Telemetry ⟦<TelemetryEvent as Notification>⟧.name
         ⟦<<TelemetryEvent as Notification>::Params as Wire>⟧.shape }
-    ensures publish_diagnostics { IsTold ToldMethod.PublishDiagnostics
+    ensures publish_diagnostics { IsToldMarker ToldMethod.PublishDiagnostics
         ⟦<PublishDiagnostics as Notification>⟧.name
         ⟦<<PublishDiagnostics as Notification>::Params as Wire>⟧.shape }
-    ensures set_trace { IsTold ToldMethod.SetTrace ⟦<SetTrace as Notification>⟧.name
+    ensures set_trace { IsToldMarker ToldMethod.SetTrace ⟦<SetTrace as Notification>⟧.name
         ⟦<<SetTrace as Notification>::Params as Wire>⟧.shape }
-    ensures log_trace { IsTold ToldMethod.LogTrace ⟦<LogTrace as Notification>⟧.name
+    ensures log_trace { IsToldMarker ToldMethod.LogTrace ⟦<LogTrace as Notification>⟧.name
         ⟦<<LogTrace as Notification>::Params as Wire>⟧.shape }
-    ensures progress { IsTold ToldMethod.Progress ⟦<Progress as Notification>⟧.name
+    ensures progress { IsToldMarker ToldMethod.Progress ⟦<Progress as Notification>⟧.name
         ⟦<<Progress as Notification>::Params as Wire>⟧.shape }
-    ensures cancel_progress { IsTold ToldMethod.CancelProgress
+    ensures cancel_progress { IsToldMarker ToldMethod.CancelProgress
         ⟦<WorkDoneProgressCancel as Notification>⟧.name
         ⟦<<WorkDoneProgressCancel as Notification>::Params as Wire>⟧.shape }
-    ensures open_notebook { IsTold ToldMethod.OpenNotebook
+    ensures open_notebook { IsToldMarker ToldMethod.OpenNotebook
         ⟦<DidOpenNotebookDocument as Notification>⟧.name
         ⟦<<DidOpenNotebookDocument as Notification>::Params as Wire>⟧.shape }
-    ensures change_notebook { IsTold ToldMethod.ChangeNotebook
+    ensures change_notebook { IsToldMarker ToldMethod.ChangeNotebook
         ⟦<DidChangeNotebookDocument as Notification>⟧.name
         ⟦<<DidChangeNotebookDocument as Notification>::Params as Wire>⟧.shape }
-    ensures save_notebook { IsTold ToldMethod.SaveNotebook
+    ensures save_notebook { IsToldMarker ToldMethod.SaveNotebook
         ⟦<DidSaveNotebookDocument as Notification>⟧.name
         ⟦<<DidSaveNotebookDocument as Notification>::Params as Wire>⟧.shape }
-    ensures close_notebook { IsTold ToldMethod.CloseNotebook
+    ensures close_notebook { IsToldMarker ToldMethod.CloseNotebook
         ⟦<DidCloseNotebookDocument as Notification>⟧.name
         ⟦<<DidCloseNotebookDocument as Notification>::Params as Wire>⟧.shape }
-    ensures cancel { IsTold ToldMethod.Cancel ⟦<Cancel as Notification>⟧.name
+    ensures cancel { IsToldMarker ToldMethod.Cancel ⟦<Cancel as Notification>⟧.name
         ⟦<<Cancel as Notification>::Params as Wire>⟧.shape }
-    ensures exit { IsTold ToldMethod.Exit ⟦<Exit as Notification>⟧.name
+    ensures exit { IsToldMarker ToldMethod.Exit ⟦<Exit as Notification>⟧.name
         ⟦<<Exit as Notification>::Params as Wire>⟧.shape }
 {}

@@ -1,5 +1,5 @@
 // The markers of the methods that a client calls on a server. Nothing runs here.
-ghost use Rattle.lsp_markers.specs.Marker.{IsAnswered, IsAnsweredBySymbols, IsNoted};
+ghost use Rattle.lsp_markers.specs.Marker.{IsAnsweredMarker, IsSymbolsMarker, IsNotedMarker};
 
 use lsp_methods::notification::{
     DidChangeConfiguration, DidChangeTextDocument, DidChangeWatchedFiles,
@@ -29,60 +29,60 @@ use lsp_shape::Wire;
 
 /// The markers of the life of a session.
 pub fn life_markers()
-    ensures initialize { IsAnswered (Method.Life LifeMethod.Initialize)
+    ensures initialize { IsAnsweredMarker (Method.Life LifeMethod.Initialize)
         ⟦<Initialize as Request>⟧.name ⟦<<Initialize as Request>::Params as Wire>⟧.shape
         ⟦<<Initialize as Request>::Result as Wire>⟧.shape }
-    ensures initialized { IsNoted (Method.Life LifeMethod.Initialized)
+    ensures initialized { IsNotedMarker (Method.Life LifeMethod.Initialized)
         ⟦<Initialized as Notification>⟧.name
         ⟦<<Initialized as Notification>::Params as Wire>⟧.shape }
-    ensures shutdown { IsAnswered (Method.Life LifeMethod.Shutdown) ⟦<Shutdown as Request>⟧.name
-        ⟦<<Shutdown as Request>::Params as Wire>⟧.shape
+    ensures shutdown { IsAnsweredMarker (Method.Life LifeMethod.Shutdown)
+        ⟦<Shutdown as Request>⟧.name ⟦<<Shutdown as Request>::Params as Wire>⟧.shape
         ⟦<<Shutdown as Request>::Result as Wire>⟧.shape }
 {}
 
 /// The markers of the synchronization of documents.
 pub fn sync_markers()
-    ensures did_open { IsNoted (Method.Sync SyncMethod.DidOpen)
+    ensures did_open { IsNotedMarker (Method.Sync SyncMethod.DidOpen)
         ⟦<DidOpenTextDocument as Notification>⟧.name
         ⟦<<DidOpenTextDocument as Notification>::Params as Wire>⟧.shape }
-    ensures did_change { IsNoted (Method.Sync SyncMethod.DidChange)
+    ensures did_change { IsNotedMarker (Method.Sync SyncMethod.DidChange)
         ⟦<DidChangeTextDocument as Notification>⟧.name
         ⟦<<DidChangeTextDocument as Notification>::Params as Wire>⟧.shape }
-    ensures will_save { IsNoted (Method.Sync SyncMethod.WillSave)
+    ensures will_save { IsNotedMarker (Method.Sync SyncMethod.WillSave)
         ⟦<WillSaveTextDocument as Notification>⟧.name
         ⟦<<WillSaveTextDocument as Notification>::Params as Wire>⟧.shape }
-    ensures will_save_wait_until { IsAnswered (Method.Sync SyncMethod.WillSaveWaitUntil)
+    ensures will_save_wait_until { IsAnsweredMarker (Method.Sync SyncMethod.WillSaveWaitUntil)
         ⟦<WillSaveWaitUntil as Request>⟧.name
         ⟦<<WillSaveWaitUntil as Request>::Params as Wire>⟧.shape
         ⟦<<WillSaveWaitUntil as Request>::Result as Wire>⟧.shape }
-    ensures did_save { IsNoted (Method.Sync SyncMethod.DidSave)
+    ensures did_save { IsNotedMarker (Method.Sync SyncMethod.DidSave)
         ⟦<DidSaveTextDocument as Notification>⟧.name
         ⟦<<DidSaveTextDocument as Notification>::Params as Wire>⟧.shape }
-    ensures did_close { IsNoted (Method.Sync SyncMethod.DidClose)
+    ensures did_close { IsNotedMarker (Method.Sync SyncMethod.DidClose)
         ⟦<DidCloseTextDocument as Notification>⟧.name
         ⟦<<DidCloseTextDocument as Notification>::Params as Wire>⟧.shape }
 {}
 
 /// The markers of places to go to.
 pub fn goto_markers()
-    ensures goto_declaration { IsAnswered (Method.Goto GotoMethod.GotoDeclaration)
+    ensures goto_declaration { IsAnsweredMarker (Method.Goto GotoMethod.GotoDeclaration)
         ⟦<GotoDeclaration as Request>⟧.name ⟦<<GotoDeclaration as Request>::Params as Wire>⟧.shape
         ⟦<<GotoDeclaration as Request>::Result as Wire>⟧.shape }
-    ensures goto_definition { IsAnswered (Method.Goto GotoMethod.GotoDefinition)
+    ensures goto_definition { IsAnsweredMarker (Method.Goto GotoMethod.GotoDefinition)
         ⟦<GotoDefinition as Request>⟧.name ⟦<<GotoDefinition as Request>::Params as Wire>⟧.shape
         ⟦<<GotoDefinition as Request>::Result as Wire>⟧.shape }
-    ensures goto_type_definition { IsAnswered (Method.Goto GotoMethod.GotoTypeDefinition)
+    ensures goto_type_definition { IsAnsweredMarker (Method.Goto GotoMethod.GotoTypeDefinition)
         ⟦<GotoTypeDefinition as Request>⟧.name
         ⟦<<GotoTypeDefinition as Request>::Params as Wire>⟧.shape
         ⟦<<GotoTypeDefinition as Request>::Result as Wire>⟧.shape }
-    ensures goto_implementation { IsAnswered (Method.Goto GotoMethod.GotoImplementation)
+    ensures goto_implementation { IsAnsweredMarker (Method.Goto GotoMethod.GotoImplementation)
         ⟦<GotoImplementation as Request>⟧.name
         ⟦<<GotoImplementation as Request>::Params as Wire>⟧.shape
         ⟦<<GotoImplementation as Request>::Result as Wire>⟧.shape }
-    ensures references { IsAnswered (Method.Goto GotoMethod.References)
+    ensures references { IsAnsweredMarker (Method.Goto GotoMethod.References)
         ⟦<References as Request>⟧.name ⟦<<References as Request>::Params as Wire>⟧.shape
         ⟦<<References as Request>::Result as Wire>⟧.shape }
-    ensures document_highlight { IsAnswered (Method.Goto GotoMethod.DocumentHighlight)
+    ensures document_highlight { IsAnsweredMarker (Method.Goto GotoMethod.DocumentHighlight)
         ⟦<DocumentHighlightRequest as Request>⟧.name
         ⟦<<DocumentHighlightRequest as Request>::Params as Wire>⟧.shape
         ⟦<<DocumentHighlightRequest as Request>::Result as Wire>⟧.shape }
@@ -90,27 +90,29 @@ pub fn goto_markers()
 
 /// The markers of hierarchies of calls and types.
 pub fn hierarchy_markers()
-    ensures prepare_call_hierarchy { IsAnswered (Method.Hierarchy HierarchyMethod.PrepareCallHierarchy)
+    ensures prepare_call_hierarchy { IsAnsweredMarker
+        (Method.Hierarchy HierarchyMethod.PrepareCallHierarchy)
         ⟦<CallHierarchyPrepare as Request>⟧.name
         ⟦<<CallHierarchyPrepare as Request>::Params as Wire>⟧.shape
         ⟦<<CallHierarchyPrepare as Request>::Result as Wire>⟧.shape }
-    ensures incoming_calls { IsAnswered (Method.Hierarchy HierarchyMethod.IncomingCalls)
+    ensures incoming_calls { IsAnsweredMarker (Method.Hierarchy HierarchyMethod.IncomingCalls)
         ⟦<CallHierarchyIncomingCalls as Request>⟧.name
         ⟦<<CallHierarchyIncomingCalls as Request>::Params as Wire>⟧.shape
         ⟦<<CallHierarchyIncomingCalls as Request>::Result as Wire>⟧.shape }
-    ensures outgoing_calls { IsAnswered (Method.Hierarchy HierarchyMethod.OutgoingCalls)
+    ensures outgoing_calls { IsAnsweredMarker (Method.Hierarchy HierarchyMethod.OutgoingCalls)
         ⟦<CallHierarchyOutgoingCalls as Request>⟧.name
         ⟦<<CallHierarchyOutgoingCalls as Request>::Params as Wire>⟧.shape
         ⟦<<CallHierarchyOutgoingCalls as Request>::Result as Wire>⟧.shape }
-    ensures prepare_type_hierarchy { IsAnswered (Method.Hierarchy HierarchyMethod.PrepareTypeHierarchy)
+    ensures prepare_type_hierarchy { IsAnsweredMarker
+        (Method.Hierarchy HierarchyMethod.PrepareTypeHierarchy)
         ⟦<TypeHierarchyPrepare as Request>⟧.name
         ⟦<<TypeHierarchyPrepare as Request>::Params as Wire>⟧.shape
         ⟦<<TypeHierarchyPrepare as Request>::Result as Wire>⟧.shape }
-    ensures supertypes { IsAnswered (Method.Hierarchy HierarchyMethod.Supertypes)
+    ensures supertypes { IsAnsweredMarker (Method.Hierarchy HierarchyMethod.Supertypes)
         ⟦<TypeHierarchySupertypes as Request>⟧.name
         ⟦<<TypeHierarchySupertypes as Request>::Params as Wire>⟧.shape
         ⟦<<TypeHierarchySupertypes as Request>::Result as Wire>⟧.shape }
-    ensures subtypes { IsAnswered (Method.Hierarchy HierarchyMethod.Subtypes)
+    ensures subtypes { IsAnsweredMarker (Method.Hierarchy HierarchyMethod.Subtypes)
         ⟦<TypeHierarchySubtypes as Request>⟧.name
         ⟦<<TypeHierarchySubtypes as Request>::Params as Wire>⟧.shape
         ⟦<<TypeHierarchySubtypes as Request>::Result as Wire>⟧.shape }
@@ -118,63 +120,63 @@ pub fn hierarchy_markers()
 
 /// The markers of what is shown in a document.
 pub fn show_markers()
-    ensures document_link { IsAnswered (Method.Show ShowMethod.DocumentLink)
+    ensures document_link { IsAnsweredMarker (Method.Show ShowMethod.DocumentLink)
         ⟦<DocumentLinkRequest as Request>⟧.name
         ⟦<<DocumentLinkRequest as Request>::Params as Wire>⟧.shape
         ⟦<<DocumentLinkRequest as Request>::Result as Wire>⟧.shape }
-    ensures document_link_resolve { IsAnswered (Method.Show ShowMethod.DocumentLinkResolve)
+    ensures document_link_resolve { IsAnsweredMarker (Method.Show ShowMethod.DocumentLinkResolve)
         ⟦<DocumentLinkResolve as Request>⟧.name
         ⟦<<DocumentLinkResolve as Request>::Params as Wire>⟧.shape
         ⟦<<DocumentLinkResolve as Request>::Result as Wire>⟧.shape }
-    ensures hover { IsAnswered (Method.Show ShowMethod.Hover) ⟦<HoverRequest as Request>⟧.name
+    ensures hover { IsAnsweredMarker (Method.Show ShowMethod.Hover) ⟦<HoverRequest as Request>⟧.name
         ⟦<<HoverRequest as Request>::Params as Wire>⟧.shape
         ⟦<<HoverRequest as Request>::Result as Wire>⟧.shape }
-    ensures code_lens { IsAnswered (Method.Show ShowMethod.CodeLens)
+    ensures code_lens { IsAnsweredMarker (Method.Show ShowMethod.CodeLens)
         ⟦<CodeLensRequest as Request>⟧.name ⟦<<CodeLensRequest as Request>::Params as Wire>⟧.shape
         ⟦<<CodeLensRequest as Request>::Result as Wire>⟧.shape }
-    ensures code_lens_resolve { IsAnswered (Method.Show ShowMethod.CodeLensResolve)
+    ensures code_lens_resolve { IsAnsweredMarker (Method.Show ShowMethod.CodeLensResolve)
         ⟦<CodeLensResolve as Request>⟧.name ⟦<<CodeLensResolve as Request>::Params as Wire>⟧.shape
         ⟦<<CodeLensResolve as Request>::Result as Wire>⟧.shape }
-    ensures folding_range { IsAnswered (Method.Show ShowMethod.FoldingRange)
+    ensures folding_range { IsAnsweredMarker (Method.Show ShowMethod.FoldingRange)
         ⟦<FoldingRangeRequest as Request>⟧.name
         ⟦<<FoldingRangeRequest as Request>::Params as Wire>⟧.shape
         ⟦<<FoldingRangeRequest as Request>::Result as Wire>⟧.shape }
-    ensures selection_range { IsAnswered (Method.Show ShowMethod.SelectionRange)
+    ensures selection_range { IsAnsweredMarker (Method.Show ShowMethod.SelectionRange)
         ⟦<SelectionRangeRequest as Request>⟧.name
         ⟦<<SelectionRangeRequest as Request>::Params as Wire>⟧.shape
         ⟦<<SelectionRangeRequest as Request>::Result as Wire>⟧.shape }
-    ensures document_symbol { IsAnswered (Method.Show ShowMethod.DocumentSymbol)
+    ensures document_symbol { IsAnsweredMarker (Method.Show ShowMethod.DocumentSymbol)
         ⟦<DocumentSymbolRequest as Request>⟧.name
         ⟦<<DocumentSymbolRequest as Request>::Params as Wire>⟧.shape
         ⟦<<DocumentSymbolRequest as Request>::Result as Wire>⟧.shape }
-    ensures moniker { IsAnswered (Method.Show ShowMethod.Moniker)
+    ensures moniker { IsAnsweredMarker (Method.Show ShowMethod.Moniker)
         ⟦<MonikerRequest as Request>⟧.name ⟦<<MonikerRequest as Request>::Params as Wire>⟧.shape
         ⟦<<MonikerRequest as Request>::Result as Wire>⟧.shape }
 {}
 
 /// The markers of tokens, hints and values in a document.
 pub fn token_markers()
-    ensures semantic_tokens_full { IsAnswered (Method.Token TokenMethod.SemanticTokensFull)
+    ensures semantic_tokens_full { IsAnsweredMarker (Method.Token TokenMethod.SemanticTokensFull)
         ⟦<SemanticTokensFullRequest as Request>⟧.name
         ⟦<<SemanticTokensFullRequest as Request>::Params as Wire>⟧.shape
         ⟦<<SemanticTokensFullRequest as Request>::Result as Wire>⟧.shape }
-    ensures semantic_tokens_full_delta { IsAnswered (Method.Token TokenMethod.SemanticTokensFullDelta)
+    ensures semantic_tokens_full_delta { IsAnsweredMarker
+        (Method.Token TokenMethod.SemanticTokensFullDelta)
         ⟦<SemanticTokensFullDeltaRequest as Request>⟧.name
         ⟦<<SemanticTokensFullDeltaRequest as Request>::Params as Wire>⟧.shape
         ⟦<<SemanticTokensFullDeltaRequest as Request>::Result as Wire>⟧.shape }
-    ensures semantic_tokens_range { IsAnswered (Method.Token TokenMethod.SemanticTokensRange)
+    ensures semantic_tokens_range { IsAnsweredMarker (Method.Token TokenMethod.SemanticTokensRange)
         ⟦<SemanticTokensRangeRequest as Request>⟧.name
         ⟦<<SemanticTokensRangeRequest as Request>::Params as Wire>⟧.shape
         ⟦<<SemanticTokensRangeRequest as Request>::Result as Wire>⟧.shape }
-    ensures inline_value { IsAnswered (Method.Token TokenMethod.InlineValue)
+    ensures inline_value { IsAnsweredMarker (Method.Token TokenMethod.InlineValue)
         ⟦<InlineValueRequest as Request>⟧.name
         ⟦<<InlineValueRequest as Request>::Params as Wire>⟧.shape
         ⟦<<InlineValueRequest as Request>::Result as Wire>⟧.shape }
-    ensures inlay_hint { IsAnswered (Method.Token TokenMethod.InlayHint)
-        ⟦<InlayHintRequest as Request>⟧.name
-        ⟦<<InlayHintRequest as Request>::Params as Wire>⟧.shape
+    ensures inlay_hint { IsAnsweredMarker (Method.Token TokenMethod.InlayHint)
+        ⟦<InlayHintRequest as Request>⟧.name ⟦<<InlayHintRequest as Request>::Params as Wire>⟧.shape
         ⟦<<InlayHintRequest as Request>::Result as Wire>⟧.shape }
-    ensures inlay_hint_resolve { IsAnswered (Method.Token TokenMethod.InlayHintResolve)
+    ensures inlay_hint_resolve { IsAnsweredMarker (Method.Token TokenMethod.InlayHintResolve)
         ⟦<InlayHintResolveRequest as Request>⟧.name
         ⟦<<InlayHintResolveRequest as Request>::Params as Wire>⟧.shape
         ⟦<<InlayHintResolveRequest as Request>::Result as Wire>⟧.shape }
@@ -182,47 +184,46 @@ pub fn token_markers()
 
 /// The markers of completion, edits and diagnostics.
 pub fn edit_markers()
-    ensures completion { IsAnswered (Method.Edit EditMethod.Completion)
+    ensures completion { IsAnsweredMarker (Method.Edit EditMethod.Completion)
         ⟦<Completion as Request>⟧.name ⟦<<Completion as Request>::Params as Wire>⟧.shape
         ⟦<<Completion as Request>::Result as Wire>⟧.shape }
-    ensures completion_resolve { IsAnswered (Method.Edit EditMethod.CompletionResolve)
+    ensures completion_resolve { IsAnsweredMarker (Method.Edit EditMethod.CompletionResolve)
         ⟦<ResolveCompletionItem as Request>⟧.name
         ⟦<<ResolveCompletionItem as Request>::Params as Wire>⟧.shape
         ⟦<<ResolveCompletionItem as Request>::Result as Wire>⟧.shape }
-    ensures signature_help { IsAnswered (Method.Edit EditMethod.SignatureHelp)
+    ensures signature_help { IsAnsweredMarker (Method.Edit EditMethod.SignatureHelp)
         ⟦<SignatureHelpRequest as Request>⟧.name
         ⟦<<SignatureHelpRequest as Request>::Params as Wire>⟧.shape
         ⟦<<SignatureHelpRequest as Request>::Result as Wire>⟧.shape }
-    ensures code_action { IsAnswered (Method.Edit EditMethod.CodeAction)
+    ensures code_action { IsAnsweredMarker (Method.Edit EditMethod.CodeAction)
         ⟦<CodeActionRequest as Request>⟧.name
         ⟦<<CodeActionRequest as Request>::Params as Wire>⟧.shape
         ⟦<<CodeActionRequest as Request>::Result as Wire>⟧.shape }
-    ensures code_action_resolve { IsAnswered (Method.Edit EditMethod.CodeActionResolve)
+    ensures code_action_resolve { IsAnsweredMarker (Method.Edit EditMethod.CodeActionResolve)
         ⟦<CodeActionResolveRequest as Request>⟧.name
         ⟦<<CodeActionResolveRequest as Request>::Params as Wire>⟧.shape
         ⟦<<CodeActionResolveRequest as Request>::Result as Wire>⟧.shape }
-    ensures formatting { IsAnswered (Method.Edit EditMethod.Formatting)
+    ensures formatting { IsAnsweredMarker (Method.Edit EditMethod.Formatting)
         ⟦<Formatting as Request>⟧.name ⟦<<Formatting as Request>::Params as Wire>⟧.shape
         ⟦<<Formatting as Request>::Result as Wire>⟧.shape }
-    ensures range_formatting { IsAnswered (Method.Edit EditMethod.RangeFormatting)
+    ensures range_formatting { IsAnsweredMarker (Method.Edit EditMethod.RangeFormatting)
         ⟦<RangeFormatting as Request>⟧.name ⟦<<RangeFormatting as Request>::Params as Wire>⟧.shape
         ⟦<<RangeFormatting as Request>::Result as Wire>⟧.shape }
-    ensures on_type_formatting { IsAnswered (Method.Edit EditMethod.OnTypeFormatting)
-        ⟦<OnTypeFormatting as Request>⟧.name
-        ⟦<<OnTypeFormatting as Request>::Params as Wire>⟧.shape
+    ensures on_type_formatting { IsAnsweredMarker (Method.Edit EditMethod.OnTypeFormatting)
+        ⟦<OnTypeFormatting as Request>⟧.name ⟦<<OnTypeFormatting as Request>::Params as Wire>⟧.shape
         ⟦<<OnTypeFormatting as Request>::Result as Wire>⟧.shape }
-    ensures rename { IsAnswered (Method.Edit EditMethod.Rename) ⟦<Rename as Request>⟧.name
+    ensures rename { IsAnsweredMarker (Method.Edit EditMethod.Rename) ⟦<Rename as Request>⟧.name
         ⟦<<Rename as Request>::Params as Wire>⟧.shape
         ⟦<<Rename as Request>::Result as Wire>⟧.shape }
-    ensures prepare_rename { IsAnswered (Method.Edit EditMethod.PrepareRename)
+    ensures prepare_rename { IsAnsweredMarker (Method.Edit EditMethod.PrepareRename)
         ⟦<PrepareRenameRequest as Request>⟧.name
         ⟦<<PrepareRenameRequest as Request>::Params as Wire>⟧.shape
         ⟦<<PrepareRenameRequest as Request>::Result as Wire>⟧.shape }
-    ensures linked_editing_range { IsAnswered (Method.Edit EditMethod.LinkedEditingRange)
+    ensures linked_editing_range { IsAnsweredMarker (Method.Edit EditMethod.LinkedEditingRange)
         ⟦<LinkedEditingRange as Request>⟧.name
         ⟦<<LinkedEditingRange as Request>::Params as Wire>⟧.shape
         ⟦<<LinkedEditingRange as Request>::Result as Wire>⟧.shape }
-    ensures diagnostic { IsAnswered (Method.Edit EditMethod.Diagnostic)
+    ensures diagnostic { IsAnsweredMarker (Method.Edit EditMethod.Diagnostic)
         ⟦<DocumentDiagnosticRequest as Request>⟧.name
         ⟦<<DocumentDiagnosticRequest as Request>::Params as Wire>⟧.shape
         ⟦<<DocumentDiagnosticRequest as Request>::Result as Wire>⟧.shape }
@@ -230,46 +231,47 @@ pub fn edit_markers()
 
 /// The markers of the workspace.
 pub fn work_markers()
-    ensures workspace_diagnostic { IsAnswered (Method.Work WorkMethod.WorkspaceDiagnostic)
+    ensures workspace_diagnostic { IsAnsweredMarker (Method.Work WorkMethod.WorkspaceDiagnostic)
         ⟦<WorkspaceDiagnosticRequest as Request>⟧.name
         ⟦<<WorkspaceDiagnosticRequest as Request>::Params as Wire>⟧.shape
         ⟦<<WorkspaceDiagnosticRequest as Request>::Result as Wire>⟧.shape }
-    ensures symbol { IsAnsweredBySymbols (Method.Work WorkMethod.Symbol)
+    ensures symbol { IsSymbolsMarker (Method.Work WorkMethod.Symbol)
         ⟦<WorkspaceSymbolRequest as Request>⟧.name
         ⟦<<WorkspaceSymbolRequest as Request>::Params as Wire>⟧.shape
         ⟦<<WorkspaceSymbolRequest as Request>::Result as Wire>⟧.shape }
-    ensures symbol_resolve { IsAnswered (Method.Work WorkMethod.SymbolResolve)
+    ensures symbol_resolve { IsAnsweredMarker (Method.Work WorkMethod.SymbolResolve)
         ⟦<WorkspaceSymbolResolve as Request>⟧.name
         ⟦<<WorkspaceSymbolResolve as Request>::Params as Wire>⟧.shape
         ⟦<<WorkspaceSymbolResolve as Request>::Result as Wire>⟧.shape }
-    ensures did_change_configuration { IsNoted (Method.Work WorkMethod.DidChangeConfiguration)
+    ensures did_change_configuration { IsNotedMarker (Method.Work WorkMethod.DidChangeConfiguration)
         ⟦<DidChangeConfiguration as Notification>⟧.name
         ⟦<<DidChangeConfiguration as Notification>::Params as Wire>⟧.shape }
-    ensures did_change_workspace_folders { IsNoted (Method.Work WorkMethod.DidChangeWorkspaceFolders)
+    ensures did_change_workspace_folders { IsNotedMarker
+        (Method.Work WorkMethod.DidChangeWorkspaceFolders)
         ⟦<DidChangeWorkspaceFolders as Notification>⟧.name
         ⟦<<DidChangeWorkspaceFolders as Notification>::Params as Wire>⟧.shape }
-    ensures will_create_files { IsAnswered (Method.Work WorkMethod.WillCreateFiles)
+    ensures will_create_files { IsAnsweredMarker (Method.Work WorkMethod.WillCreateFiles)
         ⟦<WillCreateFiles as Request>⟧.name ⟦<<WillCreateFiles as Request>::Params as Wire>⟧.shape
         ⟦<<WillCreateFiles as Request>::Result as Wire>⟧.shape }
-    ensures did_create_files { IsNoted (Method.Work WorkMethod.DidCreateFiles)
+    ensures did_create_files { IsNotedMarker (Method.Work WorkMethod.DidCreateFiles)
         ⟦<DidCreateFiles as Notification>⟧.name
         ⟦<<DidCreateFiles as Notification>::Params as Wire>⟧.shape }
-    ensures will_rename_files { IsAnswered (Method.Work WorkMethod.WillRenameFiles)
+    ensures will_rename_files { IsAnsweredMarker (Method.Work WorkMethod.WillRenameFiles)
         ⟦<WillRenameFiles as Request>⟧.name ⟦<<WillRenameFiles as Request>::Params as Wire>⟧.shape
         ⟦<<WillRenameFiles as Request>::Result as Wire>⟧.shape }
-    ensures did_rename_files { IsNoted (Method.Work WorkMethod.DidRenameFiles)
+    ensures did_rename_files { IsNotedMarker (Method.Work WorkMethod.DidRenameFiles)
         ⟦<DidRenameFiles as Notification>⟧.name
         ⟦<<DidRenameFiles as Notification>::Params as Wire>⟧.shape }
-    ensures will_delete_files { IsAnswered (Method.Work WorkMethod.WillDeleteFiles)
+    ensures will_delete_files { IsAnsweredMarker (Method.Work WorkMethod.WillDeleteFiles)
         ⟦<WillDeleteFiles as Request>⟧.name ⟦<<WillDeleteFiles as Request>::Params as Wire>⟧.shape
         ⟦<<WillDeleteFiles as Request>::Result as Wire>⟧.shape }
-    ensures did_delete_files { IsNoted (Method.Work WorkMethod.DidDeleteFiles)
+    ensures did_delete_files { IsNotedMarker (Method.Work WorkMethod.DidDeleteFiles)
         ⟦<DidDeleteFiles as Notification>⟧.name
         ⟦<<DidDeleteFiles as Notification>::Params as Wire>⟧.shape }
-    ensures did_change_watched_files { IsNoted (Method.Work WorkMethod.DidChangeWatchedFiles)
+    ensures did_change_watched_files { IsNotedMarker (Method.Work WorkMethod.DidChangeWatchedFiles)
         ⟦<DidChangeWatchedFiles as Notification>⟧.name
         ⟦<<DidChangeWatchedFiles as Notification>::Params as Wire>⟧.shape }
-    ensures execute_command { IsAnswered (Method.Work WorkMethod.ExecuteCommand)
+    ensures execute_command { IsAnsweredMarker (Method.Work WorkMethod.ExecuteCommand)
         ⟦<ExecuteCommand as Request>⟧.name ⟦<<ExecuteCommand as Request>::Params as Wire>⟧.shape
         ⟦<<ExecuteCommand as Request>::Result as Wire>⟧.shape }
 {}
