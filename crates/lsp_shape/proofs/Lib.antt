@@ -1,5 +1,6 @@
 pub mod Clones
 pub mod Items
+pub mod Options
 pub mod Pairs
 pub mod Refusals
 pub mod Told

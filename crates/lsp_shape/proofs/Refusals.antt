@@ -22,6 +22,7 @@ use Rattle.lsp_shape.specs.declared.why.Why.{Why}
 use Rattle.lsp_shape.proofs.Ascending.{text_order}
 use Rattle.lsp_shape.proofs.Tested.{never_read}
 use Rattle.lsp_shape.proofs.Names.{are_same}
+use Rattle.lsp_shape.proofs.Options.{then_some, then_assoc, not_some}
 
 pub none_right : (o : Option Plain) (r : Option Parts) → r ≡ None → and_part o r ≡ None
 none_right None r a = refl
@@ -32,20 +33,6 @@ none_left o r a = rw a refl
 
 true≢false : {A : Type 0} → true ≡ false → A
 true≢false e = absurd (false≢true (sym e))
-
--- ---- options
-
-then_some : {A B : Type 0} (f : A → Option B) (o : Option A) (y : B) → option_and_then f o ≡ Some y → (x : A) × (o ≡ Some x) × (f x ≡ Some y)
-then_some f None y e = absurd (none-some y e)
-then_some f (Some x) y e = (x, refl, e)
-
-then_assoc : {A B C : Type 0} (f : A → Option B) (g : B → Option C) (h : A → Option C) → ((x : A) → h x ≡ option_and_then g (f x)) → (o : Option A) → option_and_then h o ≡ option_and_then g (option_and_then f o)
-then_assoc f g h e None = refl
-then_assoc f g h e (Some x) = e x
-
-not_some : {A : Type 0} (o : Option A) → is_some o ≡ false → o ≡ None
-not_some None e = refl
-not_some (Some x) e = true≢false e
 
 -- ---- paths
 
