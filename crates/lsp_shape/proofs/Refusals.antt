@@ -1,10 +1,10 @@
 -- Why a value is not read: from a part of it to the whole.
-use Rattle.std.proofs.Common.{◌≡◌, ◌⊎◌, inl, inr, ℕ, zero, suc, ◌+◌, ◌<◌, ◌≤◌, length, take, add-one, arith, Bor, List, [], ◌∷◌, ◌++◌, Bool, true, false, cond, ℤ, pos, Option, Some, None, option_map, is_some, refl, ap, sym, subst, ◌∙◌, Ordering, Less, Equal, Greater, nat_cmp}
+use Rattle.std.proofs.Common.{◌≡◌, ◌⊎◌, inl, inr, ℕ, zero, suc, ◌+◌, ◌<◌, ◌≤◌, length, take, arith, Bor, List, [], ◌∷◌, ◌++◌, Bool, true, false, cond, ℤ, pos, Option, Some, None, option_map, is_some, refl, ap, sym, subst, ◌∙◌, Ordering, Less, Equal, Greater, nat_cmp}
 use Rattle.std.specs.Prelude.{Result, Ok, Err, IsErrAnd, bytes_eq, option_and_then}
 use Rattle.std.specs.Cmp.Lexicographic.{slice_cmp}
 use Rattle.std.specs.Ordering.{match_ordering}
 use Rattle.std.proofs.lemmas.Bool.{false≢true}
-use Rattle.std.proofs.lemmas.List.{length-append, take-append-le}
+use Rattle.std.proofs.lemmas.List.{length-append}
 use Rattle.std.proofs.lemmas.Option.{none-some, same_Some, some_pair_parts}
 use Rattle.serde_json.specs.View.{view}
 use Rattle.serde_json.specs.declared.value.Value.{Value}
@@ -777,13 +777,6 @@ item_told is u o = item_refuses is (u o.inner o.was) o.inside
 pub entry_told : {A : Type 0} (ns : List (List ℕ)) (test : List ℕ → Bool) {s : Shape} (k : List ℕ) (ms : Members) (x : Data) {member : Result A Misfit} {why : Why} → has_name k ns ≡ false → get_member k ms ≡ Some x
     → IfUnfit member (λ w. Refuses s x w) → IsOfMember k ms member why → Fails (read_map (read_entries ns test (read s))) (object ms) why
 entry_told ns test k ms x apart is u o = entry_fails ns test k ms x apart is (u o.inner o.was) o.inside
-
--- ---- steps
-
--- a step before others, where eight have room
-pub with_room : (k n a b c d e f g h : ℕ) → k < 8 → take (k + 1) (n ∷ a ∷ b ∷ c ∷ d ∷ e ∷ f ∷ g ∷ []) ≡ n ∷ take k (a ∷ b ∷ c ∷ d ∷ e ∷ f ∷ g ∷ h ∷ [])
-with_room k n a b c d e f g h small =
-    rw add-one (ap (λ (ns : List ℕ). n ∷ ns) (sym (take-append-le k (a ∷ b ∷ c ∷ d ∷ e ∷ f ∷ g ∷ []) (h ∷ []) (omega arith))))
 
 -- ---- what a question mark passes on
 
