@@ -1,5 +1,5 @@
 -- A list of two items.
-use Rattle.std.proofs.Common.{◌≡◌, ◌==◌, ◌<◌, ◌≤◌, ℕ, List, [], ◌∷◌, length, get_or, true, false, Option, Some, None, refl, ap, sym, ◌∙◌, arith}
+use Rattle.std.proofs.Common.{◌≡◌, ◌==◌, ◌<◌, ◌≤◌, List, [], ◌∷◌, length, get_or, false, Option, None, refl, ap, ◌∙◌, arith}
 use Rattle.std.proofs.lemmas.Bool.{ne_eqb}
 use Rattle.serde_json.specs.Data.{Data, array, item, no_items}
 use Rattle.serde_json.specs.View.{view, items_view}

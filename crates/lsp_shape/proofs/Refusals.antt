@@ -1,5 +1,5 @@
 -- Why a value is not read: from a part of it to the whole.
-use Rattle.std.proofs.Common.{◌≡◌, ◌⊎◌, inl, inr, ℕ, zero, suc, ◌+◌, ◌<◌, ◌≤◌, length, take, arith, Bor, List, [], ◌∷◌, ◌++◌, Bool, true, false, cond, ℤ, pos, Option, Some, None, option_map, is_some, refl, ap, sym, subst, ◌∙◌, Ordering, Less, Equal, Greater, nat_cmp}
+use Rattle.std.proofs.Common.{◌≡◌, ◌⊎◌, inl, inr, ℕ, zero, suc, ◌+◌, ◌≤◌, length, arith, Bor, List, [], ◌∷◌, ◌++◌, Bool, true, false, cond, ℤ, pos, Option, Some, None, option_map, is_some, refl, ap, sym, subst, ◌∙◌, Ordering, Less, Equal, Greater, nat_cmp}
 use Rattle.std.specs.Prelude.{Result, Ok, Err, IsErrAnd, bytes_eq, option_and_then}
 use Rattle.std.specs.Cmp.Lexicographic.{slice_cmp}
 use Rattle.std.specs.Ordering.{match_ordering}
@@ -11,7 +11,7 @@ use Rattle.serde_json.specs.declared.value.Value.{Value}
 use Rattle.serde_json.specs.Data.{Data, null, boolean, number, string, array, object, Items, no_items, item, Members, no_members, member}
 use Rattle.serde_json.specs.Find.{get, get_member, get_item, at, as_null, as_bool, as_number, as_str, as_array, as_object}
 use Rattle.lsp_shape.specs.Plain.{Plain, present, parts, entry, Parts, no_parts, part}
-use Rattle.lsp_shape.specs.Shape.{Rule, Count, required, omitted, nullable, or_empty, or_false, unless_empty, unless_false, Shape, truth, nil, integer, bits, text, list_of, list, maybe, map_of, recursive, fields, fields_and, union, tagged, any, Fields, no_fields, field, flat, supported, again, has_name, field_names}
+use Rattle.lsp_shape.specs.Shape.{Rule, Count, required, omitted, nullable, or_empty, or_false, unless_empty, unless_false, Shape, truth, nil, integer, bits, text, list_of, list, maybe, map_of, recursive, fields, fields_and, union, tagged, Fields, no_fields, field, flat, supported, again, has_name, field_names}
 use Rattle.lsp_shape.specs.Read.{read, read_nil, read_truth, read_integer, read_text, read_fields, read_member, read_supported, read_or_truth, read_maybe, read_items, read_list, item_count, read_entry, read_entries, read_map, and_part, and_rest, read_count, reads_none}
 use Rattle.lsp_shape.specs.Why.{Downward, to_member, to_item, below, found_at, name_at, nth_step, step_before, and_further, path_by, is_kind, is_all, is_left_out, is_long, IsReason, steps_of, Fails, Refuses, IfUnfit, IsUnfit, IsWhole, IsForMember, IsUnder, IsInMember, IsInItem, IsOfMember, IsOfItem, one_field, one_supported, fields_of, read_rule, named_field, named_supported, HasFlat, IsMapBeside, AnyRefuses, suits, Lacks}
 use Rattle.lsp_shape.specs.declared.why.Misfit.{Misfit}

@@ -3,7 +3,7 @@ use Rattle.std.specs.Prelude.{◌≡◌, ◌⊎◌, ◌≤◌, ℕ, zero, suc, L
 use Rattle.serde_json.specs.Data.{Data, null, boolean, number, string, array, object, Members, no_members, member}
 use Rattle.serde_json.specs.Find.{get, get_member, get_item, at, as_null, as_bool, as_number, as_str, as_array, as_object}
 use Rattle.lsp_shape.specs.Plain.{Plain}
-use Rattle.lsp_shape.specs.Shape.{Rule, required, omitted, nullable, or_empty, or_false, unless_empty, unless_false, Shape, nil, truth, integer, bits, text, any, list_of, maybe, map_of, fields, fields_and, recursive, union, tagged, Fields, no_fields, field, flat, supported, again, field_names}
+use Rattle.lsp_shape.specs.Shape.{Rule, required, omitted, nullable, or_empty, or_false, unless_empty, unless_false, Shape, nil, truth, integer, bits, text, list_of, map_of, fields, fields_and, recursive, union, tagged, Fields, no_fields, field, flat, supported, again, field_names}
 use Rattle.lsp_shape.specs.Read.{read}
 use Rattle.lsp_shape.specs.declared.why.MemberName.{MemberName}
 use Rattle.lsp_shape.specs.declared.why.Misfit.{Misfit}

@@ -22,8 +22,8 @@ pub enum Step {
     Item(u16),
 }
 
-/// Why a value does not fit: the path to the first place in it where something else is wanted, and
-/// what is wanted there. Of a member that is missing, the path is that of the object without it.
+/// Why a value does not fit: the path to a place in it where something else is wanted, and what is
+/// wanted there. Of a member that is missing, the path is that of the object without it.
 ///
 /// It is written as `textDocument.position.line: an unsigned integer is wanted`, or
 /// `textDocument.uri: is missing`.

@@ -1,4 +1,4 @@
-use Rattle.std.proofs.Common.{◌≡◌, ◌+◌, ℕ, [], Vec, drop, length, rules, ap, sym, subst, ◌∙◌, map, arith, Some, List}
+use Rattle.std.proofs.Common.{◌≡◌, ◌+◌, ℕ, [], drop, length, rules, ap, sym, subst, ◌∙◌, map, arith, Some, List}
 use Rattle.std.specs.Prelude.{Err}
 use Rattle.std.proofs.lemmas.Grind.{common_steps}
 use Rattle.std.proofs.lemmas.List.{length-append}

@@ -2,7 +2,6 @@ use Rattle.std.proofs.Common.{ap, sym, subst, refl, ◌∙◌, is_some}
 use Rattle.std.proofs.lemmas.Result.{IfOk-weaker}
 use Rattle.serde_json.specs.Data.{Data, array}
 use Rattle.serde_json.specs.View.{view, items_view}
-use Rattle.serde_json.specs.declared.value.Value.{Value}
 use Rattle.lsp_shape.specs.Shape.{pair}
 use Rattle.lsp_shape.specs.Read.{read}
 use Rattle.lsp_shape.specs.Why.{Refuses}

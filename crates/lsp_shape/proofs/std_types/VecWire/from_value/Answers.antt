@@ -1,4 +1,4 @@
-use Rattle.std.proofs.Common.{ap, sym, refl, subst, ◌∙◌, is_some}
+use Rattle.std.proofs.Common.{ap, sym, refl, subst, is_some}
 use Rattle.serde_json.specs.Data.{Data}
 use Rattle.serde_json.specs.View.{view}
 use Rattle.lsp_shape.specs.Shape.{list}

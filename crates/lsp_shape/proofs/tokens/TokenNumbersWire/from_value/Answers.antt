@@ -1,5 +1,5 @@
 use Rattle.std.proofs.Common.{◌≡◌, ◌≢◌, ◌==◌, ◌%◌, false, length, map, refl, ap, sym, subst, ◌∙◌, arith}
-use Rattle.std.specs.Prelude.{Result, Err}
+use Rattle.std.specs.Prelude.{Err}
 use Rattle.std.proofs.lemmas.Bool.{false≢true}
 use Rattle.std.proofs.lemmas.Grind.{common_steps}
 use Rattle.serde_json.specs.View.{view}
@@ -7,7 +7,6 @@ use Rattle.lsp_shape.specs.Plain.{parts_of}
 use Rattle.lsp_shape.specs.Shape.{tokens}
 use Rattle.lsp_shape.specs.Shown.{show_unsigned}
 use Rattle.lsp_shape.specs.Why.{IsUnfit}
-use Rattle.lsp_shape.specs.declared.why.Misfit.{Misfit}
 use Rattle.lsp_shape.proofs.Refusals.{passed, tested_refuses}
 use Rattle.lsp_shape.proofs.Tested.{fives_read, tested_unread, part_count-map}
 use Rattle.lsp_shape.proofs.tokens.TokenNumbersWire.from_value.Goals as goal
