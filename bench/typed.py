@@ -53,14 +53,14 @@ impl Answering for Both {
             }
             Call::Life(LifeCall::Shutdown) => Ok(Reply::Life(LifeReply::Shutdown(Ok(())))),
             Call::Show(ShowCall::Hover(params)) => {
-                let hover = hover(alloc, params)?;
+                let hover = hover(alloc, &params)?;
                 Ok(Reply::Show(ShowReply::Hover(Ok(Some(hover)))))
             }
             Call::Edit(EditCall::Completion(params)) => {
-                let items = items(alloc, params)?;
+                let items = items(alloc, &params)?;
                 Ok(Reply::Edit(EditReply::Completion(Ok(Some(items)))))
             }
-            Call::Sync(SyncCall::DidChange(params)) => Ok(changed(params)),
+            Call::Sync(SyncCall::DidChange(params)) => Ok(changed(&params)),
             Call::Custom(0, Some(params)) => Ok(Reply::Custom(Ok(plain_hover(alloc, params)?))),
             Call::Custom(1, Some(params)) => Ok(Reply::Custom(Ok(plain_items(alloc, params)?))),
             Call::Custom(_, _) => Ok(Reply::Noted),
@@ -69,11 +69,11 @@ impl Answering for Both {
     }
 }
 
-fn changed(_params: DidChangeTextDocumentParams) -> Reply {
+fn changed(_params: &DidChangeTextDocumentParams) -> Reply {
     Reply::Noted
 }
 
-fn hover(alloc: Global, params: HoverParams) -> Result<Hover, NoMemory> {
+fn hover(alloc: Global, params: &HoverParams) -> Result<Hover, NoMemory> {
     let line = params.text_document_position_params.position.line;
     let text = MarkedString::String(format!(in alloc; "Hello from line {line}")?);
     Ok(Hover {
@@ -94,7 +94,7 @@ fn plain_hover(alloc: Global, params: Value) -> Result<Value, NoMemory> {
     }
 }
 
-fn items(alloc: Global, _params: CompletionParams) -> Result<CompletionResponse, NoMemory> {
+fn items(alloc: Global, _params: &CompletionParams) -> Result<CompletionResponse, NoMemory> {
     let mut items = Vec::new(alloc);
     for _ in 0..100 {
         let label = String::from_str(alloc, "hello")?;

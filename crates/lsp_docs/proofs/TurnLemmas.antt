@@ -1,5 +1,7 @@
 -- What a poll of a typed call comes to is what the call that it shows comes to.
 use Rattle.std.proofs.Common.{◌≡◌, ℕ, [], Option, refl, sym, ◌∙◌, subst}
+use Rattle.std.specs.Prelude.{Box}
+use Rattle.std.specs.declared.alloc.Global.{Global}
 use Rattle.serde_json.specs.declared.value.Value.{Value}
 use Rattle.lsp_desk.specs.Meaning.{Meaning, PollsOn}
 use Rattle.lsp_desk.specs.Trace.{owns}
@@ -57,7 +59,7 @@ unknown_group ds (calls.Custom n p) life sync custom = absurd (custom n p refl)
 unknown_group ds c life sync custom = refl
 
 -- a call of the group isn't known that isn't a notification of a document
-pub unknown_sync : (c : SyncCall) → ((p : DidOpenTextDocumentParams) → c ≡ sync_calls.DidOpen p → ⊥) → ((p : DidChangeTextDocumentParams) → c ≡ sync_calls.DidChange p → ⊥) → ((p : DidCloseTextDocumentParams) → c ≡ sync_calls.DidClose p → ⊥) → sync_turn c ≡ unknown_turn
+pub unknown_sync : (c : SyncCall) → ((p : Box DidOpenTextDocumentParams Global) → c ≡ sync_calls.DidOpen p → ⊥) → ((p : Box DidChangeTextDocumentParams Global) → c ≡ sync_calls.DidChange p → ⊥) → ((p : Box DidCloseTextDocumentParams Global) → c ≡ sync_calls.DidClose p → ⊥) → sync_turn c ≡ unknown_turn
 unknown_sync (sync_calls.DidOpen p) opened changed closed = absurd (opened p refl)
 unknown_sync (sync_calls.DidChange p) opened changed closed = absurd (changed p refl)
 unknown_sync (sync_calls.DidClose p) opened changed closed = absurd (closed p refl)

@@ -42,9 +42,9 @@ life_turn (life_calls.Initialized p) = unknown_turn
 life_turn life_calls.Shutdown = replies (answer (methods.Life life.Shutdown) (Ok (nil_row.shown tt)))
 
 abbrev pub sync_turn : SyncCall → DocsTurn
-sync_turn (sync_calls.DidOpen p) = tells (opening_of p)
-sync_turn (sync_calls.DidChange p) = tells (changes_of p)
-sync_turn (sync_calls.DidClose p) = tells (closing_of p)
+sync_turn (sync_calls.DidOpen p) = tells (opening_of p.value)
+sync_turn (sync_calls.DidChange p) = tells (changes_of p.value)
+sync_turn (sync_calls.DidClose p) = tells (closing_of p.value)
 sync_turn c = unknown_turn
 
 abbrev pub call_turn : DocumentMap → Call → DocsTurn

@@ -22,7 +22,7 @@ use lsp_offer_text::TextDocumentSyncOptions;
 use lsp_rpc::{Error, ErrorCode};
 use lsp_service::{
     Call, InitializeReply, LanguageServer, LifeCall, LifeReply, NoMemory, NoTask, Reply, Started,
-    SyncCall, not_found_for,
+    SyncCall, let_go, not_found_for,
 };
 use lsp_work::{
     DidChangeTextDocumentParams, DidCloseTextDocumentParams, DidOpenTextDocumentParams,
@@ -136,20 +136,24 @@ impl DocsServer {
         ensures failed { IfErr result (λ fault. PollFails D.meaning client.old client.new fault) }
     {
         match call {
-            SyncCall::DidOpen(params) => match self.open(alloc, params, client) {
+            SyncCall::DidOpen(params) => match self.open(alloc, Box::into_inner(params), client) {
                 Ok(()) => Ok(Ok(())),
                 Err(fault) => Err(fault),
             },
-            SyncCall::DidChange(params) => match self.change(alloc, params, client) {
+            SyncCall::DidChange(params) => match self.change(
+                alloc,
+                Box::into_inner(params),
+                client,
+            ) {
                 Ok(()) => Ok(Ok(())),
                 Err(fault) => Err(fault),
             },
-            SyncCall::DidClose(params) => match self.close(alloc, params, client) {
+            SyncCall::DidClose(params) => match self.close(alloc, Box::into_inner(params), client) {
                 Ok(()) => Ok(Ok(())),
                 Err(fault) => Err(fault),
             },
             other => {
-                drop(other);
+                let_go(Call::Sync(other));
                 match Error::method_not_found(alloc) {
                     Ok(error) => Ok(Err(error)),
                     Err(NoMemory) => Err(DeskFault::NoMemory),
@@ -243,7 +247,7 @@ fn life_reply(alloc: Global, call: LifeCall) -> Result<Result<LifeReply, Error>,
 {
     match call {
         LifeCall::Initialize(params) => {
-            drop(params);
+            let_go(Call::Life(LifeCall::Initialize(params)));
             match initialize(alloc) {
                 Ok(offered) => Ok(Ok(LifeReply::Initialize(Ok(offered)))),
                 Err(NoMemory) => Err(NoMemory),

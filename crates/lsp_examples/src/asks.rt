@@ -22,7 +22,7 @@ pub enum Task {
     /// `initialized`, until the folders of the workspace have come.
     Folders(Ticket<WorkspaceFoldersRequest>),
     /// `workspace/executeCommand`, until it is polled again.
-    Command(ExecuteCommandParams),
+    Command(Box<ExecuteCommandParams>),
 }
 
 impl<D: Caller> Asking<D> for Asks {
@@ -48,7 +48,7 @@ impl<D: Caller> Asking<D> for Asks {
                 }
             }
             Call::Sync(SyncCall::DidOpen(params)) => {
-                let document = params.text_document;
+                let document = Box::into_inner(params).text_document;
                 let found = greeting(alloc, &document)?;
                 client.publish_diagnostics(alloc, document.uri, found, Some(document.version))?;
                 Ok(Started::Now(Reply::Noted))
@@ -91,7 +91,7 @@ impl<D: Caller> Asking<D> for Asks {
                 Answered::Error(error) => Ok(Started::Now(Reply::Error(error))),
                 Answered::Pending(ticket) => Ok(Started::Later(Task::Folders(ticket))),
             },
-            Task::Command(params) => match ended(params) {
+            Task::Command(params) => match ended(Box::into_inner(params)) {
                 Some(progress) => {
                     client.send_notification::<Progress>(alloc, progress)?;
                     Ok(Started::Now(Reply::Work(WorkReply::ExecuteCommand(Ok(None)))))

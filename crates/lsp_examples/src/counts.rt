@@ -24,7 +24,7 @@ pub(crate) struct Counts<'a> {
 /// A command that the thread has.
 #[derive(Drop)]
 pub(crate) struct Counting {
-    params: ExecuteCommandParams,
+    params: Box<ExecuteCommandParams>,
     found: Found,
 }
 

@@ -21,11 +21,11 @@ impl Answering for Hello {
             }
             Call::Life(LifeCall::Shutdown) => Ok(Reply::Life(LifeReply::Shutdown(Ok(())))),
             Call::Show(ShowCall::Hover(params)) => {
-                let hover = hover(alloc, params)?;
+                let hover = hover(alloc, &params)?;
                 Ok(Reply::Show(ShowReply::Hover(Ok(Some(hover)))))
             }
             Call::Edit(EditCall::Completion(params)) => {
-                let items = completion(alloc, params)?;
+                let items = completion(alloc, &params)?;
                 Ok(Reply::Edit(EditReply::Completion(Ok(Some(items)))))
             }
             other => not_found_for(alloc, other),
@@ -41,7 +41,7 @@ fn initialize(alloc: Global, _params: InitializeCall) -> Result<InitializeReply,
     InitializeReply::offering(alloc, capabilities)
 }
 
-fn hover(alloc: Global, params: HoverParams) -> Result<Hover, NoMemory> {
+fn hover(alloc: Global, params: &HoverParams) -> Result<Hover, NoMemory> {
     let line = u64::from(params.text_document_position_params.position.line) + 1;
     let text = MarkedString::String(format!(in alloc; "Hello from line {line}")?);
     Ok(Hover {
@@ -50,7 +50,7 @@ fn hover(alloc: Global, params: HoverParams) -> Result<Hover, NoMemory> {
     })
 }
 
-fn completion(alloc: Global, _params: CompletionParams) -> Result<CompletionResponse, NoMemory> {
+fn completion(alloc: Global, _params: &CompletionParams) -> Result<CompletionResponse, NoMemory> {
     let hello = CompletionItem::new_simple(format!(in alloc; "hello")?, format!(in alloc; "hi")?);
     Ok(CompletionResponse::Array(vec![in alloc; hello]?))
 }

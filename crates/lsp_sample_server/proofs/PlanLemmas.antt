@@ -1,6 +1,7 @@
 -- What a call is taken for.
 use Rattle.std.proofs.Common.{◌≡◌, ◌∙◌, [], refl, ap, subst}
-use Rattle.std.specs.Prelude.{None}
+use Rattle.std.specs.Prelude.{None, Box}
+use Rattle.std.specs.declared.alloc.Global.{Global}
 use Rattle.lsp_desk.specs.Meaning.{Meaning, PollsOn}
 use Rattle.lsp_desk.proofs.TraceLemmas.{grows_none}
 use Rattle.lsp_session.specs.declared.table.Kind.TheVariants.{Request}
@@ -85,7 +86,7 @@ edit_other : (c : EditCall) → IsOther (show_edit c)
 edit_other (edit_calls.Completion p) = refl
 edit_other c = refl
 
-pub work_other : (c : WorkCall) → ((p : ExecuteCommandParams) → c ≡ work_calls.ExecuteCommand p → ⊥) → IsOther (show_work c)
+pub work_other : (c : WorkCall) → ((p : Box ExecuteCommandParams Global) → c ≡ work_calls.ExecuteCommand p → ⊥) → IsOther (show_work c)
 work_other (work_calls.ExecuteCommand p) not = absurd (not p refl)
 work_other c not = refl
 

@@ -43,7 +43,7 @@ pub(crate) fn plan_of(alloc: Global, call: Call) -> Result<Plan, NoMemory>
             LifeCall::Shutdown => Ok(Plan::Reply(Reply::Life(LifeReply::Shutdown(Ok(()))))),
         },
         Call::Work(call) => match call {
-            WorkCall::ExecuteCommand(params) => Ok(Plan::Execute(params)),
+            WorkCall::ExecuteCommand(params) => Ok(Plan::Execute(Box::into_inner(params))),
             other => Ok(Plan::Reply(other_reply(alloc, Call::Work(other))?)),
         },
         other => Ok(Plan::Reply(other_reply(alloc, other)?)),

@@ -86,12 +86,12 @@ life_method (life_calls.Initialized p) = life.Initialized
 life_method life_calls.Shutdown = life.Shutdown
 
 abbrev pub show_sync : SyncCall → MethodCall
-show_sync (sync_calls.DidOpen p) = typed (methods.Sync sync.DidOpen) (Some (did_open_text_document_params_row.shown p))
-show_sync (sync_calls.DidChange p) = typed (methods.Sync sync.DidChange) (Some (did_change_text_document_params_row.shown p))
-show_sync (sync_calls.WillSave p) = typed (methods.Sync sync.WillSave) (Some (will_save_text_document_params_row.shown p))
-show_sync (sync_calls.WillSaveWaitUntil p) = typed (methods.Sync sync.WillSaveWaitUntil) (Some (will_save_text_document_params_row.shown p))
-show_sync (sync_calls.DidSave p) = typed (methods.Sync sync.DidSave) (Some (did_save_text_document_params_row.shown p))
-show_sync (sync_calls.DidClose p) = typed (methods.Sync sync.DidClose) (Some (did_close_text_document_params_row.shown p))
+show_sync (sync_calls.DidOpen p) = typed (methods.Sync sync.DidOpen) (Some (did_open_text_document_params_row.shown p.value))
+show_sync (sync_calls.DidChange p) = typed (methods.Sync sync.DidChange) (Some (did_change_text_document_params_row.shown p.value))
+show_sync (sync_calls.WillSave p) = typed (methods.Sync sync.WillSave) (Some (will_save_text_document_params_row.shown p.value))
+show_sync (sync_calls.WillSaveWaitUntil p) = typed (methods.Sync sync.WillSaveWaitUntil) (Some (will_save_text_document_params_row.shown p.value))
+show_sync (sync_calls.DidSave p) = typed (methods.Sync sync.DidSave) (Some (did_save_text_document_params_row.shown p.value))
+show_sync (sync_calls.DidClose p) = typed (methods.Sync sync.DidClose) (Some (did_close_text_document_params_row.shown p.value))
 
 abbrev pub sync_method : SyncCall → SyncMethod
 sync_method (sync_calls.DidOpen p) = sync.DidOpen
@@ -102,12 +102,12 @@ sync_method (sync_calls.DidSave p) = sync.DidSave
 sync_method (sync_calls.DidClose p) = sync.DidClose
 
 abbrev pub show_goto : GotoCall → MethodCall
-show_goto (goto_calls.GotoDeclaration p) = typed (methods.Goto goto.GotoDeclaration) (Some (goto_definition_params_row.shown p))
-show_goto (goto_calls.GotoDefinition p) = typed (methods.Goto goto.GotoDefinition) (Some (goto_definition_params_row.shown p))
-show_goto (goto_calls.GotoTypeDefinition p) = typed (methods.Goto goto.GotoTypeDefinition) (Some (goto_definition_params_row.shown p))
-show_goto (goto_calls.GotoImplementation p) = typed (methods.Goto goto.GotoImplementation) (Some (goto_definition_params_row.shown p))
-show_goto (goto_calls.References p) = typed (methods.Goto goto.References) (Some (reference_params_row.shown p))
-show_goto (goto_calls.DocumentHighlight p) = typed (methods.Goto goto.DocumentHighlight) (Some (document_highlight_params_row.shown p))
+show_goto (goto_calls.GotoDeclaration p) = typed (methods.Goto goto.GotoDeclaration) (Some (goto_definition_params_row.shown p.value))
+show_goto (goto_calls.GotoDefinition p) = typed (methods.Goto goto.GotoDefinition) (Some (goto_definition_params_row.shown p.value))
+show_goto (goto_calls.GotoTypeDefinition p) = typed (methods.Goto goto.GotoTypeDefinition) (Some (goto_definition_params_row.shown p.value))
+show_goto (goto_calls.GotoImplementation p) = typed (methods.Goto goto.GotoImplementation) (Some (goto_definition_params_row.shown p.value))
+show_goto (goto_calls.References p) = typed (methods.Goto goto.References) (Some (reference_params_row.shown p.value))
+show_goto (goto_calls.DocumentHighlight p) = typed (methods.Goto goto.DocumentHighlight) (Some (document_highlight_params_row.shown p.value))
 
 abbrev pub goto_method : GotoCall → GotoMethod
 goto_method (goto_calls.GotoDeclaration p) = goto.GotoDeclaration
@@ -118,12 +118,12 @@ goto_method (goto_calls.References p) = goto.References
 goto_method (goto_calls.DocumentHighlight p) = goto.DocumentHighlight
 
 abbrev pub show_hierarchy : HierarchyCall → MethodCall
-show_hierarchy (hierarchy_calls.PrepareCallHierarchy p) = typed (methods.Hierarchy hierarchy.PrepareCallHierarchy) (Some (call_hierarchy_prepare_params_row.shown p))
-show_hierarchy (hierarchy_calls.IncomingCalls p) = typed (methods.Hierarchy hierarchy.IncomingCalls) (Some (call_hierarchy_incoming_calls_params_row.shown p))
-show_hierarchy (hierarchy_calls.OutgoingCalls p) = typed (methods.Hierarchy hierarchy.OutgoingCalls) (Some (call_hierarchy_outgoing_calls_params_row.shown p))
-show_hierarchy (hierarchy_calls.PrepareTypeHierarchy p) = typed (methods.Hierarchy hierarchy.PrepareTypeHierarchy) (Some (type_hierarchy_prepare_params_row.shown p))
-show_hierarchy (hierarchy_calls.Supertypes p) = typed (methods.Hierarchy hierarchy.Supertypes) (Some (type_hierarchy_supertypes_params_row.shown p))
-show_hierarchy (hierarchy_calls.Subtypes p) = typed (methods.Hierarchy hierarchy.Subtypes) (Some (type_hierarchy_subtypes_params_row.shown p))
+show_hierarchy (hierarchy_calls.PrepareCallHierarchy p) = typed (methods.Hierarchy hierarchy.PrepareCallHierarchy) (Some (call_hierarchy_prepare_params_row.shown p.value))
+show_hierarchy (hierarchy_calls.IncomingCalls p) = typed (methods.Hierarchy hierarchy.IncomingCalls) (Some (call_hierarchy_incoming_calls_params_row.shown p.value))
+show_hierarchy (hierarchy_calls.OutgoingCalls p) = typed (methods.Hierarchy hierarchy.OutgoingCalls) (Some (call_hierarchy_outgoing_calls_params_row.shown p.value))
+show_hierarchy (hierarchy_calls.PrepareTypeHierarchy p) = typed (methods.Hierarchy hierarchy.PrepareTypeHierarchy) (Some (type_hierarchy_prepare_params_row.shown p.value))
+show_hierarchy (hierarchy_calls.Supertypes p) = typed (methods.Hierarchy hierarchy.Supertypes) (Some (type_hierarchy_supertypes_params_row.shown p.value))
+show_hierarchy (hierarchy_calls.Subtypes p) = typed (methods.Hierarchy hierarchy.Subtypes) (Some (type_hierarchy_subtypes_params_row.shown p.value))
 
 abbrev pub hierarchy_method : HierarchyCall → HierarchyMethod
 hierarchy_method (hierarchy_calls.PrepareCallHierarchy p) = hierarchy.PrepareCallHierarchy
@@ -134,15 +134,15 @@ hierarchy_method (hierarchy_calls.Supertypes p) = hierarchy.Supertypes
 hierarchy_method (hierarchy_calls.Subtypes p) = hierarchy.Subtypes
 
 abbrev pub show_show : ShowCall → MethodCall
-show_show (show_calls.DocumentLink p) = typed (methods.Show show.DocumentLink) (Some (document_link_params_row.shown p))
-show_show (show_calls.DocumentLinkResolve p) = typed (methods.Show show.DocumentLinkResolve) (Some (document_link_row.shown p))
-show_show (show_calls.Hover p) = typed (methods.Show show.Hover) (Some (hover_params_row.shown p))
-show_show (show_calls.CodeLens p) = typed (methods.Show show.CodeLens) (Some (code_lens_params_row.shown p))
-show_show (show_calls.CodeLensResolve p) = typed (methods.Show show.CodeLensResolve) (Some (code_lens_row.shown p))
-show_show (show_calls.FoldingRange p) = typed (methods.Show show.FoldingRange) (Some (folding_range_params_row.shown p))
-show_show (show_calls.SelectionRange p) = typed (methods.Show show.SelectionRange) (Some (selection_range_params_row.shown p))
-show_show (show_calls.DocumentSymbol p) = typed (methods.Show show.DocumentSymbol) (Some (document_symbol_params_row.shown p))
-show_show (show_calls.Moniker p) = typed (methods.Show show.Moniker) (Some (moniker_params_row.shown p))
+show_show (show_calls.DocumentLink p) = typed (methods.Show show.DocumentLink) (Some (document_link_params_row.shown p.value))
+show_show (show_calls.DocumentLinkResolve p) = typed (methods.Show show.DocumentLinkResolve) (Some (document_link_row.shown p.value))
+show_show (show_calls.Hover p) = typed (methods.Show show.Hover) (Some (hover_params_row.shown p.value))
+show_show (show_calls.CodeLens p) = typed (methods.Show show.CodeLens) (Some (code_lens_params_row.shown p.value))
+show_show (show_calls.CodeLensResolve p) = typed (methods.Show show.CodeLensResolve) (Some (code_lens_row.shown p.value))
+show_show (show_calls.FoldingRange p) = typed (methods.Show show.FoldingRange) (Some (folding_range_params_row.shown p.value))
+show_show (show_calls.SelectionRange p) = typed (methods.Show show.SelectionRange) (Some (selection_range_params_row.shown p.value))
+show_show (show_calls.DocumentSymbol p) = typed (methods.Show show.DocumentSymbol) (Some (document_symbol_params_row.shown p.value))
+show_show (show_calls.Moniker p) = typed (methods.Show show.Moniker) (Some (moniker_params_row.shown p.value))
 
 abbrev pub show_method : ShowCall → ShowMethod
 show_method (show_calls.DocumentLink p) = show.DocumentLink
@@ -156,12 +156,12 @@ show_method (show_calls.DocumentSymbol p) = show.DocumentSymbol
 show_method (show_calls.Moniker p) = show.Moniker
 
 abbrev pub show_token : TokenCall → MethodCall
-show_token (token_calls.SemanticTokensFull p) = typed (methods.Token token.SemanticTokensFull) (Some (semantic_tokens_params_row.shown p))
-show_token (token_calls.SemanticTokensFullDelta p) = typed (methods.Token token.SemanticTokensFullDelta) (Some (semantic_tokens_delta_params_row.shown p))
-show_token (token_calls.SemanticTokensRange p) = typed (methods.Token token.SemanticTokensRange) (Some (semantic_tokens_range_params_row.shown p))
-show_token (token_calls.InlineValue p) = typed (methods.Token token.InlineValue) (Some (inline_value_params_row.shown p))
-show_token (token_calls.InlayHint p) = typed (methods.Token token.InlayHint) (Some (inlay_hint_params_row.shown p))
-show_token (token_calls.InlayHintResolve p) = typed (methods.Token token.InlayHintResolve) (Some (inlay_hint_row.shown p))
+show_token (token_calls.SemanticTokensFull p) = typed (methods.Token token.SemanticTokensFull) (Some (semantic_tokens_params_row.shown p.value))
+show_token (token_calls.SemanticTokensFullDelta p) = typed (methods.Token token.SemanticTokensFullDelta) (Some (semantic_tokens_delta_params_row.shown p.value))
+show_token (token_calls.SemanticTokensRange p) = typed (methods.Token token.SemanticTokensRange) (Some (semantic_tokens_range_params_row.shown p.value))
+show_token (token_calls.InlineValue p) = typed (methods.Token token.InlineValue) (Some (inline_value_params_row.shown p.value))
+show_token (token_calls.InlayHint p) = typed (methods.Token token.InlayHint) (Some (inlay_hint_params_row.shown p.value))
+show_token (token_calls.InlayHintResolve p) = typed (methods.Token token.InlayHintResolve) (Some (inlay_hint_row.shown p.value))
 
 abbrev pub token_method : TokenCall → TokenMethod
 token_method (token_calls.SemanticTokensFull p) = token.SemanticTokensFull
@@ -172,18 +172,18 @@ token_method (token_calls.InlayHint p) = token.InlayHint
 token_method (token_calls.InlayHintResolve p) = token.InlayHintResolve
 
 abbrev pub show_edit : EditCall → MethodCall
-show_edit (edit_calls.Completion p) = typed (methods.Edit edit.Completion) (Some (completion_params_row.shown p))
+show_edit (edit_calls.Completion p) = typed (methods.Edit edit.Completion) (Some (completion_params_row.shown p.value))
 show_edit (edit_calls.CompletionResolve p) = typed (methods.Edit edit.CompletionResolve) (Some (completion_item_row.shown p.value))
-show_edit (edit_calls.SignatureHelp p) = typed (methods.Edit edit.SignatureHelp) (Some (signature_help_params_row.shown p))
-show_edit (edit_calls.CodeAction p) = typed (methods.Edit edit.CodeAction) (Some (code_action_params_row.shown p))
+show_edit (edit_calls.SignatureHelp p) = typed (methods.Edit edit.SignatureHelp) (Some (signature_help_params_row.shown p.value))
+show_edit (edit_calls.CodeAction p) = typed (methods.Edit edit.CodeAction) (Some (code_action_params_row.shown p.value))
 show_edit (edit_calls.CodeActionResolve p) = typed (methods.Edit edit.CodeActionResolve) (Some (code_action_row.shown p.value))
-show_edit (edit_calls.Formatting p) = typed (methods.Edit edit.Formatting) (Some (document_formatting_params_row.shown p))
-show_edit (edit_calls.RangeFormatting p) = typed (methods.Edit edit.RangeFormatting) (Some (document_range_formatting_params_row.shown p))
-show_edit (edit_calls.OnTypeFormatting p) = typed (methods.Edit edit.OnTypeFormatting) (Some (document_on_type_formatting_params_row.shown p))
-show_edit (edit_calls.Rename p) = typed (methods.Edit edit.Rename) (Some (rename_params_row.shown p))
-show_edit (edit_calls.PrepareRename p) = typed (methods.Edit edit.PrepareRename) (Some (text_document_position_params_row.shown p))
-show_edit (edit_calls.LinkedEditingRange p) = typed (methods.Edit edit.LinkedEditingRange) (Some (linked_editing_range_params_row.shown p))
-show_edit (edit_calls.Diagnostic p) = typed (methods.Edit edit.Diagnostic) (Some (document_diagnostic_params_row.shown p))
+show_edit (edit_calls.Formatting p) = typed (methods.Edit edit.Formatting) (Some (document_formatting_params_row.shown p.value))
+show_edit (edit_calls.RangeFormatting p) = typed (methods.Edit edit.RangeFormatting) (Some (document_range_formatting_params_row.shown p.value))
+show_edit (edit_calls.OnTypeFormatting p) = typed (methods.Edit edit.OnTypeFormatting) (Some (document_on_type_formatting_params_row.shown p.value))
+show_edit (edit_calls.Rename p) = typed (methods.Edit edit.Rename) (Some (rename_params_row.shown p.value))
+show_edit (edit_calls.PrepareRename p) = typed (methods.Edit edit.PrepareRename) (Some (text_document_position_params_row.shown p.value))
+show_edit (edit_calls.LinkedEditingRange p) = typed (methods.Edit edit.LinkedEditingRange) (Some (linked_editing_range_params_row.shown p.value))
+show_edit (edit_calls.Diagnostic p) = typed (methods.Edit edit.Diagnostic) (Some (document_diagnostic_params_row.shown p.value))
 
 abbrev pub edit_method : EditCall → EditMethod
 edit_method (edit_calls.Completion p) = edit.Completion
@@ -200,19 +200,19 @@ edit_method (edit_calls.LinkedEditingRange p) = edit.LinkedEditingRange
 edit_method (edit_calls.Diagnostic p) = edit.Diagnostic
 
 abbrev pub show_work : WorkCall → MethodCall
-show_work (work_calls.WorkspaceDiagnostic p) = typed (methods.Work work.WorkspaceDiagnostic) (Some (workspace_diagnostic_params_row.shown p))
-show_work (work_calls.Symbol p) = typed (methods.Work work.Symbol) (Some (workspace_symbol_params_row.shown p))
-show_work (work_calls.SymbolResolve p) = typed (methods.Work work.SymbolResolve) (Some (workspace_symbol_row.shown p))
-show_work (work_calls.DidChangeConfiguration p) = typed (methods.Work work.DidChangeConfiguration) (Some (did_change_configuration_params_row.shown p))
-show_work (work_calls.DidChangeWorkspaceFolders p) = typed (methods.Work work.DidChangeWorkspaceFolders) (Some (did_change_workspace_folders_params_row.shown p))
-show_work (work_calls.WillCreateFiles p) = typed (methods.Work work.WillCreateFiles) (Some (create_files_params_row.shown p))
-show_work (work_calls.DidCreateFiles p) = typed (methods.Work work.DidCreateFiles) (Some (create_files_params_row.shown p))
-show_work (work_calls.WillRenameFiles p) = typed (methods.Work work.WillRenameFiles) (Some (rename_files_params_row.shown p))
-show_work (work_calls.DidRenameFiles p) = typed (methods.Work work.DidRenameFiles) (Some (rename_files_params_row.shown p))
-show_work (work_calls.WillDeleteFiles p) = typed (methods.Work work.WillDeleteFiles) (Some (delete_files_params_row.shown p))
-show_work (work_calls.DidDeleteFiles p) = typed (methods.Work work.DidDeleteFiles) (Some (delete_files_params_row.shown p))
-show_work (work_calls.DidChangeWatchedFiles p) = typed (methods.Work work.DidChangeWatchedFiles) (Some (did_change_watched_files_params_row.shown p))
-show_work (work_calls.ExecuteCommand p) = typed (methods.Work work.ExecuteCommand) (Some (execute_command_params_row.shown p))
+show_work (work_calls.WorkspaceDiagnostic p) = typed (methods.Work work.WorkspaceDiagnostic) (Some (workspace_diagnostic_params_row.shown p.value))
+show_work (work_calls.Symbol p) = typed (methods.Work work.Symbol) (Some (workspace_symbol_params_row.shown p.value))
+show_work (work_calls.SymbolResolve p) = typed (methods.Work work.SymbolResolve) (Some (workspace_symbol_row.shown p.value))
+show_work (work_calls.DidChangeConfiguration p) = typed (methods.Work work.DidChangeConfiguration) (Some (did_change_configuration_params_row.shown p.value))
+show_work (work_calls.DidChangeWorkspaceFolders p) = typed (methods.Work work.DidChangeWorkspaceFolders) (Some (did_change_workspace_folders_params_row.shown p.value))
+show_work (work_calls.WillCreateFiles p) = typed (methods.Work work.WillCreateFiles) (Some (create_files_params_row.shown p.value))
+show_work (work_calls.DidCreateFiles p) = typed (methods.Work work.DidCreateFiles) (Some (create_files_params_row.shown p.value))
+show_work (work_calls.WillRenameFiles p) = typed (methods.Work work.WillRenameFiles) (Some (rename_files_params_row.shown p.value))
+show_work (work_calls.DidRenameFiles p) = typed (methods.Work work.DidRenameFiles) (Some (rename_files_params_row.shown p.value))
+show_work (work_calls.WillDeleteFiles p) = typed (methods.Work work.WillDeleteFiles) (Some (delete_files_params_row.shown p.value))
+show_work (work_calls.DidDeleteFiles p) = typed (methods.Work work.DidDeleteFiles) (Some (delete_files_params_row.shown p.value))
+show_work (work_calls.DidChangeWatchedFiles p) = typed (methods.Work work.DidChangeWatchedFiles) (Some (did_change_watched_files_params_row.shown p.value))
+show_work (work_calls.ExecuteCommand p) = typed (methods.Work work.ExecuteCommand) (Some (execute_command_params_row.shown p.value))
 
 abbrev pub work_method : WorkCall → WorkMethod
 work_method (work_calls.WorkspaceDiagnostic p) = work.WorkspaceDiagnostic

@@ -54,91 +54,91 @@ pub enum LifeCall {
 #[derive(Drop)]
 pub enum SyncCall {
     /// `textDocument/didOpen`.
-    DidOpen(DidOpenTextDocumentParams),
+    DidOpen(Box<DidOpenTextDocumentParams>),
     /// `textDocument/didChange`.
-    DidChange(DidChangeTextDocumentParams),
+    DidChange(Box<DidChangeTextDocumentParams>),
     /// `textDocument/willSave`.
-    WillSave(WillSaveTextDocumentParams),
+    WillSave(Box<WillSaveTextDocumentParams>),
     /// `textDocument/willSaveWaitUntil`.
-    WillSaveWaitUntil(WillSaveTextDocumentParams),
+    WillSaveWaitUntil(Box<WillSaveTextDocumentParams>),
     /// `textDocument/didSave`.
-    DidSave(DidSaveTextDocumentParams),
+    DidSave(Box<DidSaveTextDocumentParams>),
     /// `textDocument/didClose`.
-    DidClose(DidCloseTextDocumentParams),
+    DidClose(Box<DidCloseTextDocumentParams>),
 }
 
 /// The calls of places to go to.
 #[derive(Drop)]
 pub enum GotoCall {
     /// `textDocument/declaration`.
-    GotoDeclaration(GotoDeclarationParams),
+    GotoDeclaration(Box<GotoDeclarationParams>),
     /// `textDocument/definition`.
-    GotoDefinition(GotoDefinitionParams),
+    GotoDefinition(Box<GotoDefinitionParams>),
     /// `textDocument/typeDefinition`.
-    GotoTypeDefinition(GotoTypeDefinitionParams),
+    GotoTypeDefinition(Box<GotoTypeDefinitionParams>),
     /// `textDocument/implementation`.
-    GotoImplementation(GotoImplementationParams),
+    GotoImplementation(Box<GotoImplementationParams>),
     /// `textDocument/references`.
-    References(ReferenceParams),
+    References(Box<ReferenceParams>),
     /// `textDocument/documentHighlight`.
-    DocumentHighlight(DocumentHighlightParams),
+    DocumentHighlight(Box<DocumentHighlightParams>),
 }
 
 /// The calls of hierarchies of calls and types.
 #[derive(Drop)]
 pub enum HierarchyCall {
     /// `textDocument/prepareCallHierarchy`.
-    PrepareCallHierarchy(CallHierarchyPrepareParams),
+    PrepareCallHierarchy(Box<CallHierarchyPrepareParams>),
     /// `callHierarchy/incomingCalls`.
-    IncomingCalls(CallHierarchyIncomingCallsParams),
+    IncomingCalls(Box<CallHierarchyIncomingCallsParams>),
     /// `callHierarchy/outgoingCalls`.
-    OutgoingCalls(CallHierarchyOutgoingCallsParams),
+    OutgoingCalls(Box<CallHierarchyOutgoingCallsParams>),
     /// `textDocument/prepareTypeHierarchy`.
-    PrepareTypeHierarchy(TypeHierarchyPrepareParams),
+    PrepareTypeHierarchy(Box<TypeHierarchyPrepareParams>),
     /// `typeHierarchy/supertypes`.
-    Supertypes(TypeHierarchySupertypesParams),
+    Supertypes(Box<TypeHierarchySupertypesParams>),
     /// `typeHierarchy/subtypes`.
-    Subtypes(TypeHierarchySubtypesParams),
+    Subtypes(Box<TypeHierarchySubtypesParams>),
 }
 
 /// The calls of what is shown in a document.
 #[derive(Drop)]
 pub enum ShowCall {
     /// `textDocument/documentLink`.
-    DocumentLink(DocumentLinkParams),
+    DocumentLink(Box<DocumentLinkParams>),
     /// `documentLink/resolve`.
-    DocumentLinkResolve(DocumentLink),
+    DocumentLinkResolve(Box<DocumentLink>),
     /// `textDocument/hover`.
-    Hover(HoverParams),
+    Hover(Box<HoverParams>),
     /// `textDocument/codeLens`.
-    CodeLens(CodeLensParams),
+    CodeLens(Box<CodeLensParams>),
     /// `codeLens/resolve`.
-    CodeLensResolve(CodeLens),
+    CodeLensResolve(Box<CodeLens>),
     /// `textDocument/foldingRange`.
-    FoldingRange(FoldingRangeParams),
+    FoldingRange(Box<FoldingRangeParams>),
     /// `textDocument/selectionRange`.
-    SelectionRange(SelectionRangeParams),
+    SelectionRange(Box<SelectionRangeParams>),
     /// `textDocument/documentSymbol`.
-    DocumentSymbol(DocumentSymbolParams),
+    DocumentSymbol(Box<DocumentSymbolParams>),
     /// `textDocument/moniker`.
-    Moniker(MonikerParams),
+    Moniker(Box<MonikerParams>),
 }
 
 /// The calls of tokens, hints and values in a document.
 #[derive(Drop)]
 pub enum TokenCall {
     /// `textDocument/semanticTokens/full`.
-    SemanticTokensFull(SemanticTokensParams),
+    SemanticTokensFull(Box<SemanticTokensParams>),
     /// `textDocument/semanticTokens/full/delta`.
-    SemanticTokensFullDelta(SemanticTokensDeltaParams),
+    SemanticTokensFullDelta(Box<SemanticTokensDeltaParams>),
     /// `textDocument/semanticTokens/range`.
-    SemanticTokensRange(SemanticTokensRangeParams),
+    SemanticTokensRange(Box<SemanticTokensRangeParams>),
     /// `textDocument/inlineValue`.
-    InlineValue(InlineValueParams),
+    InlineValue(Box<InlineValueParams>),
     /// `textDocument/inlayHint`.
-    InlayHint(InlayHintParams),
+    InlayHint(Box<InlayHintParams>),
     /// `inlayHint/resolve`.
-    InlayHintResolve(InlayHint),
+    InlayHintResolve(Box<InlayHint>),
 }
 
 /// The calls of completion, edits and diagnostics.
@@ -147,60 +147,60 @@ pub enum TokenCall {
 #[derive(Drop)]
 pub enum EditCall {
     /// `textDocument/completion`.
-    Completion(CompletionParams),
+    Completion(Box<CompletionParams>),
     /// `completionItem/resolve`.
     CompletionResolve(Box<CompletionItem>),
     /// `textDocument/signatureHelp`.
-    SignatureHelp(SignatureHelpParams),
+    SignatureHelp(Box<SignatureHelpParams>),
     /// `textDocument/codeAction`.
-    CodeAction(CodeActionParams),
+    CodeAction(Box<CodeActionParams>),
     /// `codeAction/resolve`.
     CodeActionResolve(Box<CodeAction>),
     /// `textDocument/formatting`.
-    Formatting(DocumentFormattingParams),
+    Formatting(Box<DocumentFormattingParams>),
     /// `textDocument/rangeFormatting`.
-    RangeFormatting(DocumentRangeFormattingParams),
+    RangeFormatting(Box<DocumentRangeFormattingParams>),
     /// `textDocument/onTypeFormatting`.
-    OnTypeFormatting(DocumentOnTypeFormattingParams),
+    OnTypeFormatting(Box<DocumentOnTypeFormattingParams>),
     /// `textDocument/rename`.
-    Rename(RenameParams),
+    Rename(Box<RenameParams>),
     /// `textDocument/prepareRename`.
-    PrepareRename(TextDocumentPositionParams),
+    PrepareRename(Box<TextDocumentPositionParams>),
     /// `textDocument/linkedEditingRange`.
-    LinkedEditingRange(LinkedEditingRangeParams),
+    LinkedEditingRange(Box<LinkedEditingRangeParams>),
     /// `textDocument/diagnostic`.
-    Diagnostic(DocumentDiagnosticParams),
+    Diagnostic(Box<DocumentDiagnosticParams>),
 }
 
 /// The calls of the workspace.
 #[derive(Drop)]
 pub enum WorkCall {
     /// `workspace/diagnostic`.
-    WorkspaceDiagnostic(WorkspaceDiagnosticParams),
+    WorkspaceDiagnostic(Box<WorkspaceDiagnosticParams>),
     /// `workspace/symbol`.
-    Symbol(WorkspaceSymbolParams),
+    Symbol(Box<WorkspaceSymbolParams>),
     /// `workspaceSymbol/resolve`.
-    SymbolResolve(WorkspaceSymbol),
+    SymbolResolve(Box<WorkspaceSymbol>),
     /// `workspace/didChangeConfiguration`.
-    DidChangeConfiguration(DidChangeConfigurationParams),
+    DidChangeConfiguration(Box<DidChangeConfigurationParams>),
     /// `workspace/didChangeWorkspaceFolders`.
-    DidChangeWorkspaceFolders(DidChangeWorkspaceFoldersParams),
+    DidChangeWorkspaceFolders(Box<DidChangeWorkspaceFoldersParams>),
     /// `workspace/willCreateFiles`.
-    WillCreateFiles(CreateFilesParams),
+    WillCreateFiles(Box<CreateFilesParams>),
     /// `workspace/didCreateFiles`.
-    DidCreateFiles(CreateFilesParams),
+    DidCreateFiles(Box<CreateFilesParams>),
     /// `workspace/willRenameFiles`.
-    WillRenameFiles(RenameFilesParams),
+    WillRenameFiles(Box<RenameFilesParams>),
     /// `workspace/didRenameFiles`.
-    DidRenameFiles(RenameFilesParams),
+    DidRenameFiles(Box<RenameFilesParams>),
     /// `workspace/willDeleteFiles`.
-    WillDeleteFiles(DeleteFilesParams),
+    WillDeleteFiles(Box<DeleteFilesParams>),
     /// `workspace/didDeleteFiles`.
-    DidDeleteFiles(DeleteFilesParams),
+    DidDeleteFiles(Box<DeleteFilesParams>),
     /// `workspace/didChangeWatchedFiles`.
-    DidChangeWatchedFiles(DidChangeWatchedFilesParams),
+    DidChangeWatchedFiles(Box<DidChangeWatchedFilesParams>),
     /// `workspace/executeCommand`.
-    ExecuteCommand(ExecuteCommandParams),
+    ExecuteCommand(Box<ExecuteCommandParams>),
 }
 
 /// A call of a client: a method with its params.

@@ -24,14 +24,14 @@ impl Answering for Strange {
                 Ok(Reply::Life(LifeReply::Initialize(Ok(offered))))
             }
             Call::Work(WorkCall::ExecuteCommand(params)) => {
-                if has_arguments(params) {
+                if has_arguments(&params) {
                     Ok(Reply::Noted)
                 } else {
                     Ok(Reply::Show(ShowReply::Hover(Ok(None))))
                 }
             }
             Call::Token(TokenCall::InlayHintResolve(hint)) => {
-                let hint = with_float(hint);
+                let hint = with_float(Box::into_inner(hint));
                 Ok(Reply::Token(TokenReply::InlayHintResolve(Ok(hint))))
             }
             Call::Custom(0, Some(params)) => Ok(Reply::Custom(Ok(params))),
@@ -58,7 +58,7 @@ fn namesake(alloc: Global, call: InitializeCall) -> Result<InitializeReply, NoMe
     InitializeReply::new(alloc, &result)
 }
 
-fn has_arguments(params: ExecuteCommandParams) -> bool {
+fn has_arguments(params: &ExecuteCommandParams) -> bool {
     !params.arguments.is_empty()
 }
 
