@@ -91,12 +91,12 @@ pub shown_turn : (ds : DocumentMap) (c : Call) â†’ docs_turn ds (show_call c) â‰
 shown_turn ds (calls.Life (life_calls.Initialize p)) = refl
 shown_turn ds (calls.Life (life_calls.Initialized p)) = refl
 shown_turn ds (calls.Life life_calls.Shutdown) = refl
-shown_turn ds (calls.Sync (sync_calls.DidOpen p)) = ap tells (opened p)
-shown_turn ds (calls.Sync (sync_calls.DidChange p)) = ap tells (changed p)
+shown_turn ds (calls.Sync (sync_calls.DidOpen p)) = ap tells (opened p.value)
+shown_turn ds (calls.Sync (sync_calls.DidChange p)) = ap tells (changed p.value)
 shown_turn ds (calls.Sync (sync_calls.WillSave p)) = refl
 shown_turn ds (calls.Sync (sync_calls.WillSaveWaitUntil p)) = refl
 shown_turn ds (calls.Sync (sync_calls.DidSave p)) = refl
-shown_turn ds (calls.Sync (sync_calls.DidClose p)) = ap tells (closed p)
+shown_turn ds (calls.Sync (sync_calls.DidClose p)) = ap tells (closed p.value)
 shown_turn ds (calls.Goto c) = goto_shown ds c
 shown_turn ds (calls.Hierarchy c) = hierarchy_shown ds c
 shown_turn ds (calls.Show c) = show_shown ds c
