@@ -37,12 +37,15 @@ pub(crate) fn put_item(
         else listed_items (get_at same_key table.old q))) }
 {
     match table.get_mut(&id) {
-        Some(items) => items.push(item)?,
+        Some(items) => {
+            items.push(item)?;
+            Ok(())
+        }
         None => {
             let mut items = Vec::new(alloc);
             items.push(item)?;
             table.insert(id, items)?;
+            Ok(())
         }
     }
-    Ok(())
 }

@@ -142,8 +142,6 @@ pub enum TokenCall {
 }
 
 /// The calls of completion, edits and diagnostics.
-///
-/// The widest params are in a box, so that no other call is as wide.
 #[derive(Drop)]
 pub enum EditCall {
     /// `textDocument/completion`.
@@ -203,7 +201,7 @@ pub enum WorkCall {
     ExecuteCommand(Box<ExecuteCommandParams>),
 }
 
-/// A call of a client: a method with its params.
+/// A call of a client: a method with its params, which stand in a box.
 #[derive(Drop)]
 pub enum Call {
     Life(LifeCall),
