@@ -1,7 +1,8 @@
 // What becomes of what is asked and told, as texts.
-ghost use Rattle.std.specs.Prelude.{◌≡◌, false};
+ghost use Rattle.std.specs.Prelude.{◌≡◌, false, IfOk};
 ghost use Rattle.lsp_desk.specs.Call.{call_has_float};
-ghost use Rattle.lsp_desk.specs.Shown.{show_server_call};
+ghost use Rattle.lsp_desk.specs.Reply.{reply_has_float};
+ghost use Rattle.lsp_desk.specs.Shown.{show_server_call, show_server_reply};
 
 use lsp_client::{Answered, Asked, Told};
 use lsp_desk::{Desk, DeskFault, ServerCall, ServerReply};
@@ -24,6 +25,12 @@ pub(crate) fn asked<R>(
     alloc: Global,
     asked: Result<Asked<R>, DeskFault>,
 ) -> Result<String, Misfit> {
+    let text = asked_text(alloc, &asked);
+    drop(asked);
+    text
+}
+
+fn asked_text<R>(alloc: Global, asked: &Result<Asked<R>, DeskFault>) -> Result<String, Misfit> {
     match asked {
         Ok(Asked::Ticket(_)) => Ok(String::from_str(alloc, "Ticket")?),
         Ok(Asked::Refused(error)) => Ok(format!(in alloc; "Refused({})", error.code.code())?),
@@ -36,8 +43,17 @@ pub(crate) fn answered<R, A: Wire>(
     alloc: Global,
     answered: Result<Answered<R, A>, DeskFault>,
 ) -> Result<String, Misfit> {
+    let text = answer_text(alloc, &answered);
+    drop(answered);
+    text
+}
+
+fn answer_text<R, A: Wire>(
+    alloc: Global,
+    answered: &Result<Answered<R, A>, DeskFault>,
+) -> Result<String, Misfit> {
     match answered {
-        Ok(Answered::Value(value)) => Ok(text_of(alloc, &value)?),
+        Ok(Answered::Value(value)) => Ok(text_of(alloc, value)?),
         Ok(Answered::Error(error)) => Ok(format!(in alloc; "Error({})", error.code.code())?),
         Ok(Answered::Pending(_)) => Ok(String::from_str(alloc, "Pending")?),
         Err(fault) => Ok(format!(in alloc; "{fault:?}")?),
@@ -60,7 +76,16 @@ pub(crate) fn serve<D: Desk>(
 ) -> Result<String, Misfit>
     requires { call_has_float (show_server_call call) ≡ false }
 {
-    match desk.server(call) {
+    let reply = desk.server(call);
+    let text = reply_text(alloc, &reply);
+    drop(reply);
+    text
+}
+
+fn reply_text(alloc: Global, reply: &Result<ServerReply, DeskFault>) -> Result<String, Misfit>
+    requires { IfOk reply.now (λ reply. reply_has_float (show_server_reply reply) ≡ false) }
+{
+    match reply {
         Ok(ServerReply::First(Some(request))) => Ok(request.to_text(alloc)?),
         Ok(ServerReply::Messages(_)) => Ok(String::from_str(alloc, "Messages")?),
         Ok(reply) => Ok(format!(in alloc; "{reply:?}")?),

@@ -1,8 +1,10 @@
-//! The methods of LSP 3.17, by their markers. Whether a method is answered is told by the function
-//! that takes the marker.
+//! The methods of LSP 3.17. Whether a marker's method is answered is told by the function that takes
+//! it.
+use lsp_methods::METHODS;
 use lsp_methods::notification::{self, Notification};
 use lsp_methods::request::{self, Request};
 use lsp_rows::{RowError, Trial};
+use lsp_session::Kind;
 
 // The request has that name.
 fn answered<R: Request>(trial: &mut Trial, name: &str) {
@@ -14,117 +16,80 @@ fn unanswered<N: Notification>(trial: &mut Trial, name: &str) {
     trial.same(name, N::method(), name);
 }
 
-#[test]
-fn life(rt: HostRuntime) -> Result<(), RowError> {
-    let mut trial = Trial::new(rt.alloc());
-    answered::<request::Initialize>(&mut trial, "initialize");
-    unanswered::<notification::Initialized>(&mut trial, "initialized");
-    answered::<request::Shutdown>(&mut trial, "shutdown");
-    unanswered::<notification::Cancel>(&mut trial, "$/cancelRequest");
-    unanswered::<notification::Exit>(&mut trial, "exit");
-    trial.end()
-}
+// The methods that a client calls on a server, in the order of their table. That each marker has the
+// name of its method is proved in lsp_markers.
+const SERVED: &[(&str, Kind)] = &[
+    ("initialize", Kind::Request),
+    ("initialized", Kind::Notification),
+    ("shutdown", Kind::Request),
+    ("textDocument/didOpen", Kind::Notification),
+    ("textDocument/didChange", Kind::Notification),
+    ("textDocument/willSave", Kind::Notification),
+    ("textDocument/willSaveWaitUntil", Kind::Request),
+    ("textDocument/didSave", Kind::Notification),
+    ("textDocument/didClose", Kind::Notification),
+    ("textDocument/declaration", Kind::Request),
+    ("textDocument/definition", Kind::Request),
+    ("textDocument/typeDefinition", Kind::Request),
+    ("textDocument/implementation", Kind::Request),
+    ("textDocument/references", Kind::Request),
+    ("textDocument/documentHighlight", Kind::Request),
+    ("textDocument/prepareCallHierarchy", Kind::Request),
+    ("callHierarchy/incomingCalls", Kind::Request),
+    ("callHierarchy/outgoingCalls", Kind::Request),
+    ("textDocument/prepareTypeHierarchy", Kind::Request),
+    ("typeHierarchy/supertypes", Kind::Request),
+    ("typeHierarchy/subtypes", Kind::Request),
+    ("textDocument/documentLink", Kind::Request),
+    ("documentLink/resolve", Kind::Request),
+    ("textDocument/hover", Kind::Request),
+    ("textDocument/codeLens", Kind::Request),
+    ("codeLens/resolve", Kind::Request),
+    ("textDocument/foldingRange", Kind::Request),
+    ("textDocument/selectionRange", Kind::Request),
+    ("textDocument/documentSymbol", Kind::Request),
+    ("textDocument/moniker", Kind::Request),
+    ("textDocument/semanticTokens/full", Kind::Request),
+    ("textDocument/semanticTokens/full/delta", Kind::Request),
+    ("textDocument/semanticTokens/range", Kind::Request),
+    ("textDocument/inlineValue", Kind::Request),
+    ("textDocument/inlayHint", Kind::Request),
+    ("inlayHint/resolve", Kind::Request),
+    ("textDocument/completion", Kind::Request),
+    ("completionItem/resolve", Kind::Request),
+    ("textDocument/signatureHelp", Kind::Request),
+    ("textDocument/codeAction", Kind::Request),
+    ("codeAction/resolve", Kind::Request),
+    ("textDocument/formatting", Kind::Request),
+    ("textDocument/rangeFormatting", Kind::Request),
+    ("textDocument/onTypeFormatting", Kind::Request),
+    ("textDocument/rename", Kind::Request),
+    ("textDocument/prepareRename", Kind::Request),
+    ("textDocument/linkedEditingRange", Kind::Request),
+    ("textDocument/diagnostic", Kind::Request),
+    ("workspace/diagnostic", Kind::Request),
+    ("workspace/symbol", Kind::Request),
+    ("workspaceSymbol/resolve", Kind::Request),
+    ("workspace/didChangeConfiguration", Kind::Notification),
+    ("workspace/didChangeWorkspaceFolders", Kind::Notification),
+    ("workspace/willCreateFiles", Kind::Request),
+    ("workspace/didCreateFiles", Kind::Notification),
+    ("workspace/willRenameFiles", Kind::Request),
+    ("workspace/didRenameFiles", Kind::Notification),
+    ("workspace/willDeleteFiles", Kind::Request),
+    ("workspace/didDeleteFiles", Kind::Notification),
+    ("workspace/didChangeWatchedFiles", Kind::Notification),
+    ("workspace/executeCommand", Kind::Request),
+];
 
 #[test]
-fn documents_and_places(rt: HostRuntime) -> Result<(), RowError> {
+fn served(rt: HostRuntime) -> Result<(), RowError> {
     let mut trial = Trial::new(rt.alloc());
-    unanswered::<notification::DidOpenTextDocument>(&mut trial, "textDocument/didOpen");
-    unanswered::<notification::DidChangeTextDocument>(&mut trial, "textDocument/didChange");
-    unanswered::<notification::WillSaveTextDocument>(&mut trial, "textDocument/willSave");
-    answered::<request::WillSaveWaitUntil>(&mut trial, "textDocument/willSaveWaitUntil");
-    unanswered::<notification::DidSaveTextDocument>(&mut trial, "textDocument/didSave");
-    unanswered::<notification::DidCloseTextDocument>(&mut trial, "textDocument/didClose");
-    answered::<request::GotoDeclaration>(&mut trial, "textDocument/declaration");
-    answered::<request::GotoDefinition>(&mut trial, "textDocument/definition");
-    answered::<request::GotoTypeDefinition>(&mut trial, "textDocument/typeDefinition");
-    answered::<request::GotoImplementation>(&mut trial, "textDocument/implementation");
-    answered::<request::References>(&mut trial, "textDocument/references");
-    answered::<request::DocumentHighlightRequest>(&mut trial, "textDocument/documentHighlight");
-    trial.end()
-}
-
-#[test]
-fn hierarchies_and_tokens(rt: HostRuntime) -> Result<(), RowError> {
-    let mut trial = Trial::new(rt.alloc());
-    answered::<request::CallHierarchyPrepare>(&mut trial, "textDocument/prepareCallHierarchy");
-    answered::<request::CallHierarchyIncomingCalls>(&mut trial, "callHierarchy/incomingCalls");
-    answered::<request::CallHierarchyOutgoingCalls>(&mut trial, "callHierarchy/outgoingCalls");
-    answered::<request::TypeHierarchyPrepare>(&mut trial, "textDocument/prepareTypeHierarchy");
-    answered::<request::TypeHierarchySupertypes>(&mut trial, "typeHierarchy/supertypes");
-    answered::<request::TypeHierarchySubtypes>(&mut trial, "typeHierarchy/subtypes");
-    answered::<request::SemanticTokensFullRequest>(&mut trial, "textDocument/semanticTokens/full");
-    answered::<request::SemanticTokensFullDeltaRequest>(
-        &mut trial,
-        "textDocument/semanticTokens/full/delta",
-    );
-    answered::<request::SemanticTokensRangeRequest>(
-        &mut trial,
-        "textDocument/semanticTokens/range",
-    );
-    answered::<request::InlineValueRequest>(&mut trial, "textDocument/inlineValue");
-    answered::<request::InlayHintRequest>(&mut trial, "textDocument/inlayHint");
-    answered::<request::InlayHintResolveRequest>(&mut trial, "inlayHint/resolve");
-    trial.end()
-}
-
-#[test]
-fn shown(rt: HostRuntime) -> Result<(), RowError> {
-    let mut trial = Trial::new(rt.alloc());
-    answered::<request::DocumentLinkRequest>(&mut trial, "textDocument/documentLink");
-    answered::<request::DocumentLinkResolve>(&mut trial, "documentLink/resolve");
-    answered::<request::HoverRequest>(&mut trial, "textDocument/hover");
-    answered::<request::CodeLensRequest>(&mut trial, "textDocument/codeLens");
-    answered::<request::CodeLensResolve>(&mut trial, "codeLens/resolve");
-    answered::<request::FoldingRangeRequest>(&mut trial, "textDocument/foldingRange");
-    answered::<request::SelectionRangeRequest>(&mut trial, "textDocument/selectionRange");
-    answered::<request::DocumentSymbolRequest>(&mut trial, "textDocument/documentSymbol");
-    answered::<request::MonikerRequest>(&mut trial, "textDocument/moniker");
-    trial.end()
-}
-
-#[test]
-fn edits(rt: HostRuntime) -> Result<(), RowError> {
-    let mut trial = Trial::new(rt.alloc());
-    answered::<request::Completion>(&mut trial, "textDocument/completion");
-    answered::<request::ResolveCompletionItem>(&mut trial, "completionItem/resolve");
-    answered::<request::SignatureHelpRequest>(&mut trial, "textDocument/signatureHelp");
-    answered::<request::CodeActionRequest>(&mut trial, "textDocument/codeAction");
-    answered::<request::CodeActionResolveRequest>(&mut trial, "codeAction/resolve");
-    answered::<request::Formatting>(&mut trial, "textDocument/formatting");
-    answered::<request::RangeFormatting>(&mut trial, "textDocument/rangeFormatting");
-    answered::<request::OnTypeFormatting>(&mut trial, "textDocument/onTypeFormatting");
-    answered::<request::Rename>(&mut trial, "textDocument/rename");
-    answered::<request::PrepareRenameRequest>(&mut trial, "textDocument/prepareRename");
-    answered::<request::LinkedEditingRange>(&mut trial, "textDocument/linkedEditingRange");
-    answered::<request::DocumentDiagnosticRequest>(&mut trial, "textDocument/diagnostic");
-    trial.end()
-}
-
-#[test]
-fn workspaces(rt: HostRuntime) -> Result<(), RowError> {
-    let mut trial = Trial::new(rt.alloc());
-    answered::<request::WorkspaceDiagnosticRequest>(&mut trial, "workspace/diagnostic");
-    answered::<request::WorkspaceSymbolRequest>(&mut trial, "workspace/symbol");
-    answered::<request::WorkspaceSymbolResolve>(&mut trial, "workspaceSymbol/resolve");
-    unanswered::<notification::DidChangeConfiguration>(
-        &mut trial,
-        "workspace/didChangeConfiguration",
-    );
-    unanswered::<notification::DidChangeWorkspaceFolders>(
-        &mut trial,
-        "workspace/didChangeWorkspaceFolders",
-    );
-    answered::<request::WillCreateFiles>(&mut trial, "workspace/willCreateFiles");
-    unanswered::<notification::DidCreateFiles>(&mut trial, "workspace/didCreateFiles");
-    answered::<request::WillRenameFiles>(&mut trial, "workspace/willRenameFiles");
-    unanswered::<notification::DidRenameFiles>(&mut trial, "workspace/didRenameFiles");
-    answered::<request::WillDeleteFiles>(&mut trial, "workspace/willDeleteFiles");
-    unanswered::<notification::DidDeleteFiles>(&mut trial, "workspace/didDeleteFiles");
-    unanswered::<notification::DidChangeWatchedFiles>(
-        &mut trial,
-        "workspace/didChangeWatchedFiles",
-    );
-    answered::<request::ExecuteCommand>(&mut trial, "workspace/executeCommand");
+    trial.same("how many", METHODS.len(), SERVED.len());
+    for (method, (name, kind)) in METHODS.iter().zip(SERVED) {
+        trial.same(*name, method.name(), *name);
+        trial.same(*name, method.kind(), *kind);
+    }
     trial.end()
 }
 
@@ -153,6 +118,8 @@ fn asked_of_a_client(rt: HostRuntime) -> Result<(), RowError> {
 #[test]
 fn traces_progress_and_notebooks(rt: HostRuntime) -> Result<(), RowError> {
     let mut trial = Trial::new(rt.alloc());
+    unanswered::<notification::Cancel>(&mut trial, "$/cancelRequest");
+    unanswered::<notification::Exit>(&mut trial, "exit");
     unanswered::<notification::SetTrace>(&mut trial, "$/setTrace");
     unanswered::<notification::LogTrace>(&mut trial, "$/logTrace");
     unanswered::<notification::Progress>(&mut trial, "$/progress");

@@ -15,6 +15,17 @@ use std::alloc::Global;
 fn next(alloc: Global, found: Result<Poll<Option<Request>>, DeskFault>) -> Result<String, NoMemory>
     requires { IfOk found (λ next. next_has_float (show_next next) ≡ false) }
 {
+    let text = next_text(alloc, &found);
+    drop(found);
+    text
+}
+
+fn next_text(
+    alloc: Global,
+    found: &Result<Poll<Option<Request>>, DeskFault>,
+) -> Result<String, NoMemory>
+    requires { IfOk found.now (λ next. next_has_float (show_next next) ≡ false) }
+{
     match found {
         Ok(Poll::Ready(Some(request))) => request.to_text(alloc),
         other => Ok(format!(in alloc; "{other:?}")?),
