@@ -14,11 +14,11 @@ use serde_json::Value;
 use std::alloc::Global;
 
 #[derive(Drop)]
-pub struct Asks;
+pub(crate) struct Asks;
 
 /// What is left of a call that goes on.
 #[derive(Drop)]
-pub enum Task {
+pub(crate) enum Task {
     /// `initialized`, until the folders of the workspace have come.
     Folders(Ticket<WorkspaceFoldersRequest>),
     /// `workspace/executeCommand`, until it is polled again.

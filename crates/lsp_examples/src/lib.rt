@@ -9,7 +9,6 @@ mod service;
 mod unfit;
 mod worker;
 
-pub use asks::{Asks, Task};
 pub use beside::count_beside;
-pub use service::asks_service;
+pub use service::serve_asks;
 pub use unfit::unfit_line;

@@ -2,13 +2,17 @@
 ghost use Rattle.std.specs.Prelude.{◌≡◌, IfOk};
 
 use crate::asks::Asks;
-use lsp_desk::{ClientSocket, Desk};
-use lsp_service::{InTime, LspService, NoMemory};
+use lsp_desk::{ClientSocket, Desk, PlainDesk};
+use lsp_server::Server;
+use lsp_service::{InTime, LspService, NoMemory, serve_stdio};
 use lsp_session::Kind;
+use lsp_stdio::Status;
 use std::alloc::Global;
+use std::io::{Read, Write};
+use std::process::ExitCode;
 
-/// A service of the server, with `asks/echo` as its one custom method, and the socket over the desk.
-pub fn asks_service<D: Desk + Drop>(
+// A service of the server, with `asks/echo` as its one custom method, and the socket over the desk.
+fn asks_service<D: Desk + Drop>(
     alloc: Global,
     desk: D,
 ) -> Result<(LspService<InTime<Asks>>, ClientSocket<D>), NoMemory>
@@ -19,4 +23,12 @@ pub fn asks_service<D: Desk + Drop>(
     };
     builder.custom_method("asks/echo", Kind::Request)?;
     Ok(builder.finish())
+}
+
+/// Serves from `input` to `output`, and answers what `main` returns.
+pub fn serve_asks<R: Read + Drop, W: Write + Drop>(alloc: Global, input: R, output: W) -> ExitCode {
+    match asks_service(alloc, PlainDesk::new(alloc)) {
+        Ok((service, socket)) => serve_stdio(alloc, input, output, service, Server::new(socket)),
+        Err(NoMemory) => ExitCode::from(Status::NoMemory as u8),
+    }
 }

@@ -1,8 +1,7 @@
 // What services write in their sessions: replies, and answers to params that are none of their method's.
 use crate::made::make_service;
 use crate::served::{framed, frames, new_sample, served};
-use lsp_desk::PlainDesk;
-use lsp_examples::asks_service;
+use lsp_examples::serve_asks;
 use lsp_program::Status;
 use lsp_rows::{RowError, Trial};
 use lsp_server::{NeverSink, NeverSource, Server};
@@ -308,8 +307,13 @@ fn of_strange(alloc: Global, sent: &[&str]) -> Result<String, RowError> {
 }
 
 fn of_asks(alloc: Global, sent: &[&str]) -> Result<String, RowError> {
-    let (service, socket) = asks_service(alloc, PlainDesk::new(alloc))?;
-    served(alloc, service, socket, sent)
+    let bytes = framed(alloc, sent)?;
+    let mut written = Vec::new(alloc);
+    let _ = serve_asks(alloc, bytes.as_slice(), &mut written);
+    match String::from_utf8(written) {
+        Ok(text) => Ok(text),
+        Err(_) => Err(RowError::NoMemory),
+    }
 }
 
 // The input ends before an exit.
