@@ -1,6 +1,7 @@
 //! The types of LSP 3.17, each by its name: what servers use, as they use the Rust crate of that name.
 #![tactic(auto)]
 
+pub mod law;
 pub mod lsif;
 
 pub use lsp_base::AnnotatedTextEdit;
