@@ -7,7 +7,7 @@ ghost use Rattle.lsp_documents.specs.Documents.{after_open, after_changes, after
 use crate::document::Document;
 use crate::error::{ChangeError, OpenError};
 use lsp_base::TextDocumentContentChangeEvent;
-use std::alloc::Global;
+use std::alloc::{AllocError, Global};
 use std::collections::HashMap;
 use std::marker::Model;
 
@@ -59,6 +59,17 @@ impl Documents {
         if self.documents.contains_key(uri) {
             return Err(OpenError::AlreadyOpen);
         }
+        match self.insert(uri, version, text) {
+            Ok(()) => Ok(()),
+            Err(_) => Err(OpenError::NoMemory),
+        }
+    }
+
+    fn insert(&mut self, uri: &str, version: i32, text: String) -> Result<(), AllocError>
+        ensures ok { OnOk result (self.new
+            ≡ fin.insert self.old uri.now (document_of version (chars (string_bytes text)))) }
+        ensures err { OnErr result (self.new ≡ self.old) }
+    {
         let key = String::from_str(self.alloc, uri)?;
         self.documents.insert(key, Document::new(version, text))?;
         Ok(())

@@ -3,8 +3,8 @@ ghost use Rattle.std.specs.Prelude.{◌≡◌, OnOk, [], map, option_map, string
 ghost use Rattle.lsp_base.specs.Position.{id_of};
 ghost use Rattle.lsp_rpc.specs.Shown.{show_id};
 ghost use Rattle.lsp_uri.specs.Uri.{uri_text};
-ghost use Rattle.lsp_index.specs.Entries.{entry_data, vertex_data, edge_data, result_data, item_data};
-ghost use Rattle.lsp_index.specs.Graph.{Graph, graph_of, vertex_entry};
+ghost use Rattle.lsp_index.specs.Entries.{entry_data, entry_ids, vertex_data, edge_data, result_data, item_data};
+ghost use Rattle.lsp_index.specs.Graph.{Graph, graph_of, vertex_entry, contains_edge, next_edge};
 ghost use Rattle.lsp_index.specs.Kept.{IsKept, with_entry};
 ghost use Rattle.lsp_index.specs.Queries.{document_in, range_in, hover_in, document_at, range_at, hover_at, items_from};
 ghost use Rattle.lsp_index.specs.Shown.{show_node, show_item_edge};
@@ -199,18 +199,8 @@ impl Index {
             → IsKept (with_entry g (edge_data request edge)) self.new) }
     {
         match edge {
-            Edge::Contains(edge) => {
-                self.contained.push(Outgoing {
-                    from: Id::from(edge.out_v),
-                    targets: edge.in_vs,
-                })?;
-                Ok(())
-            }
-            Edge::Next(edge) => put_first(
-                &mut self.nexts,
-                Id::from(edge.out_v),
-                Id::from(edge.in_v),
-            ),
+            Edge::Contains(edge) => self.keep_contained(edge),
+            Edge::Next(edge) => self.keep_next(edge),
             Edge::Definition(edge) => self.keep_result(request.is_definition(), edge),
             Edge::References(edge) => self.keep_result(request.is_references(), edge),
             Edge::Hover(edge) => self.keep_result(request.is_hover(), edge),
@@ -224,6 +214,25 @@ impl Index {
                 Ok(())
             }
         }
+    }
+
+    fn keep_contained(&mut self, edge: EdgeDataMultiIn) -> Result<(), NoMemory>
+        ensures { OnOk result ((g : Graph) → IsKept g self.old → IsKept
+            (with_entry g (contains_edge (id_of edge.out_v) (entry_ids edge.in_vs.items))) self.new) }
+    {
+        let EdgeDataMultiIn { in_vs, out_v } = edge;
+        self.contained.push(Outgoing {
+            from: Id::from(out_v),
+            targets: in_vs,
+        })?;
+        Ok(())
+    }
+
+    fn keep_next(&mut self, edge: EdgeData) -> Result<(), NoMemory>
+        ensures { OnOk result ((g : Graph) → IsKept g self.old
+            → IsKept (with_entry g (next_edge (id_of edge.out_v) (id_of edge.in_v))) self.new) }
+    {
+        put_first(&mut self.nexts, Id::from(edge.out_v), Id::from(edge.in_v))
     }
 
     // Keeps an edge to a result, if its label is the one that is asked for.

@@ -324,6 +324,25 @@ impl Index {
         Ok(self.walk(self.closest(&named, position)))
     }
 
+    // Puts the places of a result, and of all that it includes, into an empty set, the results into
+    // another, and the text of the places into an empty text.
+    fn put_places(
+        &self,
+        reached: Option<&Id>,
+        found: &mut IndexSet<Location>,
+        results: &mut IndexSet<Id>,
+        text: &mut String,
+    ) -> Result<(), NoMemory>
+        requires found { found.old.keys ≡ [] }
+        requires results { results.old.keys ≡ [] }
+        requires text { string_bytes text.old ≡ [] }
+        ensures { OnOk result ((g : Graph) → IsKept g self.now → IsListed g
+            (option_map (λ id. show_id id.now) reached.entry) (string_bytes text.new)) }
+    {
+        self.add_reached(reached, found, results)?;
+        put_locations(self.alloc, found, text)
+    }
+
     // Puts the text of the places of a result, and of all that it includes, into an empty text.
     fn put_reached(&self, reached: Option<&Id>, text: &mut String) -> Result<(), NoMemory>
         requires { string_bytes text.old ≡ [] }
@@ -332,8 +351,10 @@ impl Index {
     {
         let mut found = IndexSet::new(self.alloc);
         let mut results = IndexSet::new(self.alloc);
-        self.add_reached(reached, &mut found, &mut results)?;
-        put_locations(self.alloc, &found, text)
+        let put = self.put_places(reached, &mut found, &mut results, text);
+        drop(found);
+        drop(results);
+        put
     }
 
     // The text of the hover of a result.

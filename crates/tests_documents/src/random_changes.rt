@@ -108,7 +108,22 @@ struct Both {
     random: Pcg32,
 }
 
-// One change both ways.
+// A change both ways.
+fn try_change(
+    trial: &mut Trial,
+    alloc: Global,
+    both: &mut Both,
+    version: i32,
+    change: &TextDocumentContentChangeEvent,
+) -> Result<(), AllocError> {
+    let shown = plain_change(alloc, &mut both.text, change)?;
+    let made = both.documents.change(URI, version, from_ref(change));
+    trial.shows(version, made, shown);
+    has_text(trial, version, &both.documents, "", both.text.as_str());
+    Ok(())
+}
+
+// A random one.
 fn step(
     trial: &mut Trial,
     alloc: Global,
@@ -122,12 +137,9 @@ fn step(
         range_length: None,
         text: some_text(alloc, &mut both.random, scale.pieces)?,
     };
-    let shown = plain_change(alloc, &mut both.text, &change)?;
-    let made = both.documents.change(URI, version, from_ref(&change));
+    let made = try_change(trial, alloc, both, version, &change);
     drop(change);
-    trial.shows(version, made, shown);
-    has_text(trial, version, &both.documents, "", both.text.as_str());
-    Ok(())
+    made
 }
 
 // So many changes both ways.

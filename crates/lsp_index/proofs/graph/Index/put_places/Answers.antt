@@ -6,7 +6,7 @@ use Rattle.lsp_rpc.specs.Shown.{show_id}
 use Rattle.lsp_rpc.specs.declared.id.Id.{Id}
 use Rattle.lsp_index.specs.Queries.{IsListed}
 use Rattle.lsp_index.proofs.ValueLemmas.{on_ok}
-use Rattle.lsp_index.proofs.graph.Index.put_reached.Goals as goal
+use Rattle.lsp_index.proofs.graph.Index.put_places.Goals as goal
 
 pub returns : goal.returns
 returns c = on_ok c.put_locations.result (λ p g kept.
