@@ -7,13 +7,13 @@ ghost use Rattle.lsp_frame.specs.Frames.{framed};
 ghost use Rattle.lsp_server.specs.SourceSink.{CountRose, IsFlushed};
 ghost use Rattle.lsp_sample_run.specs.Bulk.{next_drawn, body_of, bodies, echo_text, wait_text, unknown_text as unknown_text_def, unknown_command as unknown_command_def, shutdown as shutdown_def, generated, read_of, is_reply, is_error, is_own, summary as summary_def, IsSummary, WroteSummary, WroteSome};
 
-use crate::Sample;
 use crate::arguments::{DEFAULT, MadeUp};
 use crate::program::serve;
 use lsp_desk::PlainDesk;
 use lsp_frame::{Decoded, LanguageServerCodec};
 use lsp_program::Status;
 use lsp_rpc::{Message, NoMemory};
+use lsp_sample_server::Sample;
 use lsp_server::{NeverSink, NeverSource, Sink};
 use lsp_service::LspService;
 use lsp_session::Handlers;

@@ -6,7 +6,4 @@ mod bulk;
 mod program;
 
 pub use arguments::{Clones, Form, MOST, MOST_CLONES, MOST_SAID, MadeUp, Setting};
-pub use lsp_docs::DocsServer;
-pub use lsp_program::Status;
-pub use lsp_sample_server::Sample;
 pub use program::run;

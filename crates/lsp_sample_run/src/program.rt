@@ -13,15 +13,14 @@ ghost use Rattle.lsp_sample_run.specs.Arguments.{form_asked};
 ghost use Rattle.lsp_sample_run.specs.Bulk.{EndsBulk};
 ghost use Rattle.lsp_sample_run.specs.Run.{ServesSample, PumpsSample, ServesDocs, EndsTalking, NeverUnread, ToldByStatus, ToldByForm, WhereServing, WhereDocs, WherePumping, WhereMadeUp, WhereTalking, WhereOther};
 
-use crate::arguments::{DEFAULT, Form, read_arguments};
+use crate::arguments::{DEFAULT, Form, Setting, read_arguments};
 use crate::bulk::bulk;
-use crate::{DocsServer, Sample, Setting};
 use lsp_desk::PlainDesk;
-use lsp_docs::docs_service;
+use lsp_docs::{DocsServer, docs_service};
 use lsp_frame::Floats;
 use lsp_program::Status;
 use lsp_rpc::NoMemory;
-use lsp_sample_server::sample_service;
+use lsp_sample_server::{Sample, sample_service};
 use lsp_server::{Server, Sink, Source};
 use lsp_service::{LanguageServer, LspService, pump};
 use lsp_session::Handlers;
