@@ -1,5 +1,6 @@
 // The server behind its methods.
-ghost use Rattle.std.specs.Prelude.{◌≡◌, IfOk};
+ghost use Rattle.std.specs.Prelude.{◌≡◌, ◌≢◌, ◌≤◌, IfOk};
+ghost use Rattle.std.specs.Process.{exit_status};
 
 use crate::asks::Asks;
 use lsp_desk::{ClientSocket, Desk, PlainDesk};
@@ -25,8 +26,11 @@ fn asks_service<D: Desk + Drop>(
     Ok(builder.finish())
 }
 
-/// Serves from `input` to `output`, and answers what `main` returns.
-pub fn serve_asks<R: Read + Drop, W: Write + Drop>(alloc: Global, input: R, output: W) -> ExitCode {
+/// Serves from `input` to `output`, and answers what `main` returns: never 2, since there are no
+/// arguments.
+pub fn serve_asks<R: Read + Drop, W: Write + Drop>(alloc: Global, input: R, output: W) -> ExitCode
+    ensures { (exit_status result ≤ 7) × (exit_status result ≢ 2) }
+{
     match asks_service(alloc, PlainDesk::new(alloc)) {
         Ok((service, socket)) => serve_stdio(alloc, input, output, service, Server::new(socket)),
         Err(NoMemory) => ExitCode::from(Status::NoMemory as u8),

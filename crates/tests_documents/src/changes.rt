@@ -242,29 +242,18 @@ const EDGES: &[Edge] = &[
 
 // The changes, so many lines and characters further on, make that text behind another, or are
 // refused and leave the one before.
-fn try_changes(
-    trial: &mut Trial,
-    alloc: Global,
-    documents: &mut Documents,
-    by: Position,
-    before: &str,
-    row: &Row,
-) {
+fn try_row(trial: &mut Trial, alloc: Global, by: Position, before: &str, row: &Row) {
     let Row(what, text, changes, after) = row;
-    let opened = open(alloc, documents, URI, 1, before, text);
+    let mut documents = Documents::new(alloc);
+    let opened = open(alloc, &mut documents, URI, 1, before, text);
     trial.shows(*what, opened, "Ok(())");
     let (shown, left) = match after {
         Some(after) => ("Ok(())", after),
         None => ("Err(StartBehindEnd)", text),
     };
-    let made = make_changes(alloc, documents, 2, None, by, changes);
+    let made = make_changes(alloc, &mut documents, 2, None, by, changes);
     trial.shows(*what, made, shown);
-    has_text(trial, *what, documents, before, left);
-}
-
-fn try_row(trial: &mut Trial, alloc: Global, by: Position, before: &str, row: &Row) {
-    let mut documents = Documents::new(alloc);
-    try_changes(trial, alloc, &mut documents, by, before, row);
+    has_text(trial, *what, &documents, before, left);
     drop(documents);
 }
 

@@ -108,22 +108,7 @@ struct Both {
     random: Pcg32,
 }
 
-// A change both ways.
-fn try_change(
-    trial: &mut Trial,
-    alloc: Global,
-    both: &mut Both,
-    version: i32,
-    change: &TextDocumentContentChangeEvent,
-) -> Result<(), AllocError> {
-    let shown = plain_change(alloc, &mut both.text, change)?;
-    let made = both.documents.change(URI, version, from_ref(change));
-    trial.shows(version, made, shown);
-    has_text(trial, version, &both.documents, "", both.text.as_str());
-    Ok(())
-}
-
-// A random one.
+// One change both ways.
 fn step(
     trial: &mut Trial,
     alloc: Global,
@@ -137,9 +122,12 @@ fn step(
         range_length: None,
         text: some_text(alloc, &mut both.random, scale.pieces)?,
     };
-    let made = try_change(trial, alloc, both, version, &change);
+    let shown = plain_change(alloc, &mut both.text, &change)?;
+    let made = both.documents.change(URI, version, from_ref(&change));
     drop(change);
-    made
+    trial.shows(version, made, shown);
+    has_text(trial, version, &both.documents, "", both.text.as_str());
+    Ok(())
 }
 
 // So many changes both ways.

@@ -128,39 +128,25 @@ impl Tried {
             .text(query.word, given, self.answer.line.as_str());
     }
 
-    fn draw_positions(&mut self, random: &mut Pcg32, size: &Size) {
+    // The same query at some positions.
+    fn round(&mut self, random: &mut Pcg32, size: &Size) {
+        let mut query = some_query(random, size);
         self.positions.clear();
         for _ in 0..size.positions {
             let _ = self.positions.push(some_position(random, size));
         }
-    }
-
-    // Compares the line given for a query.
-    fn compare(&mut self, query: &Query, line: &str) {
-        self.answer(query);
-        let answer = self.answer.line.as_str().strip_prefix("0 ");
-        self.trial.same(query.word, Some(line), answer);
-    }
-
-    // Compares the line given at each of the positions.
-    fn compare_each(&mut self, query: &mut Query, size: &Size, lines: &[String]) {
+        let dump = self.dump.text.as_str();
+        let lines = asked_each(self.alloc, dump, &query, &self.positions);
         self.trial
             .same("lines", lines.len(), size.positions as usize);
         for (i, line) in lines.iter().enumerate() {
             if let Some(position) = self.positions.get(i) {
                 query.position = *position;
-                self.compare(query, line.as_str());
+                self.answer(&query);
+                let answer = self.answer.line.as_str().strip_prefix("0 ");
+                self.trial.same(query.word, Some(line.as_str()), answer);
             }
         }
-    }
-
-    // The same query at some positions.
-    fn round(&mut self, random: &mut Pcg32, size: &Size) {
-        let mut query = some_query(random, size);
-        self.draw_positions(random, size);
-        let dump = self.dump.text.as_str();
-        let lines = asked_each(self.alloc, dump, &query, &self.positions);
-        self.compare_each(&mut query, size, &lines);
     }
 
     // All queries of the random dumps of a size.

@@ -245,30 +245,8 @@ fn source_of(
     Ok(MemorySource::new(dump, piece, vec![in alloc; u64::from(failing)]?))
 }
 
-fn sink_of(alloc: Global, failing: u32) -> Result<MemorySink, AllocError> {
-    Ok(MemorySink::new(alloc, vec![in alloc; u64::from(failing)]?))
-}
-
-// The status, and what is written, of the program with these words.
-fn run_over(
-    alloc: Global,
-    words: &str,
-    source: &mut MemorySource,
-    sink: &mut MemorySink,
-) -> Result<String, AllocError> {
-    let words = words_of(alloc, words)?;
-    let status = answer(alloc, &words, source, sink);
-    drop(words);
-    shown(alloc, status, sink.bytes())
-}
-
-fn shown(alloc: Global, status: u8, written: &[u8]) -> Result<String, AllocError> {
-    let written = String::from_utf8_lossy(alloc, written)?;
-    format!(in alloc; "{status} {written}")
-}
-
-// The same over the bytes, of which it reads so many at a time, where the read and the call of the
-// sink of these numbers fail.
+// The status, and what is written, of the program with these words over the bytes, of which it reads
+// so many at a time, where the read and the call of the sink of these numbers fail.
 pub(crate) fn run(
     alloc: Global,
     words: &str,
@@ -280,11 +258,13 @@ pub(crate) fn run(
 {
     let [read, call] = failing;
     let mut source = source_of(alloc, dump, piece, read)?;
-    let mut sink = sink_of(alloc, call)?;
-    let found = run_over(alloc, words, &mut source, &mut sink);
+    let mut sink = MemorySink::new(alloc, vec![in alloc; u64::from(call)]?);
+    let words = words_of(alloc, words)?;
+    let status = answer(alloc, &words, &mut source, &mut sink);
+    drop(words);
     drop(source);
-    drop(sink);
-    found
+    let written = String::from_utf8_lossy(alloc, sink.bytes())?;
+    format!(in alloc; "{status} {written}")
 }
 
 // Two texts, so many bytes of pieces, and another text.

@@ -74,11 +74,6 @@ fn shows(trial: &mut Trial, what: &str, document: Option<&Document>, shown: &str
     }
 }
 
-fn try_close(trial: &mut Trial, what: &str, documents: &mut Documents, uri: &str, gives: &str) {
-    let closed = documents.close(uri);
-    shows(trial, what, closed.as_ref(), gives);
-}
-
 // A call gives what `Debug` shows so.
 fn try_call(trial: &mut Trial, alloc: Global, documents: &mut Documents, row: &Row) {
     let Row(what, call, gives) = row;
@@ -92,7 +87,10 @@ fn try_call(trial: &mut Trial, alloc: Global, documents: &mut Documents, row: &R
             let made = make_changes(alloc, documents, *version, *range_length, start, changes);
             trial.shows(*what, made, gives);
         }
-        Call::Close(uri) => try_close(trial, what, documents, uri, gives),
+        Call::Close(uri) => {
+            let closed = documents.close(uri);
+            shows(trial, what, closed.as_ref(), gives);
+        }
         Call::Get(uri) => shows(trial, what, documents.get(uri), gives),
     }
 }
