@@ -1,13 +1,9 @@
 // A record without one of its members.
-use crate::error::{RowError, compare, untrue};
-use crate::{json, read_as, text_of};
-use lsp_shape::{Wire, attempt};
+use crate::error::{RowError, untrue};
+use crate::question::{Asked, Question, ask, json};
+use crate::told::{Told, UNFIT};
 use serde_json::{Map, Value};
 use std::alloc::Global;
-use std::fmt;
-
-// What stands in the place of what is written, where nothing is read.
-const UNFIT: &str = "none: it does not fit";
 
 // What a line says of a record without a member.
 enum Without<'w> {
@@ -30,9 +26,13 @@ fn said_of<'w>(words: &'w str, name: &str) -> Without<'w> {
     Without::Unwritten
 }
 
-fn object(alloc: Global, line: &str, value: Value) -> Result<Map<String, Value>, RowError> {
+fn object<'v>(
+    alloc: Global,
+    line: &str,
+    value: Option<&'v Value>,
+) -> Result<&'v Map<String, Value>, RowError> {
     match value {
-        Value::Object(members) => Ok(members),
+        Some(Value::Object(members)) => Ok(members),
         _ => Err(untrue(alloc, line, "an object", "another value")?),
     }
 }
@@ -56,20 +56,6 @@ fn expected(
     Ok(Value::Object(members).to_string(alloc)?)
 }
 
-// What is written of what the object without that member is read as.
-fn found<T: Wire>(
-    alloc: Global,
-    name: &str,
-    whole: &Map<String, Value>,
-) -> Result<String, RowError> {
-    let mut members = whole.clone()?;
-    drop(members.remove(name));
-    match attempt::<T>(alloc, &Value::Object(members))? {
-        None => Ok(String::from_str(alloc, UNFIT)?),
-        Some(value) => Ok(text_of(alloc, &value)?),
-    }
-}
-
 // Each word without a value names a member of the text.
 fn are_members(alloc: Global, words: &str, whole: &Map<String, Value>) -> Result<(), RowError> {
     for word in words.split_whitespace() {
@@ -80,23 +66,39 @@ fn are_members(alloc: Global, words: &str, whole: &Map<String, Value>) -> Result
     Ok(())
 }
 
-/// The text without each of its members in turn is as the words say: it does not fit without a
-/// member that they name, is written with `value` in the place of one in `member=value`, and
-/// without the member otherwise.
-pub(crate) fn members_hold<T: Wire + fmt::Debug>(
+// What is written of the object without that member.
+fn ask_member(
     alloc: Global,
     words: &str,
-    text: &str,
+    name: &str,
+    whole: &Map<String, Value>,
+    written: &Map<String, Value>,
+) -> Result<Question, RowError> {
+    let expected = expected(alloc, words, name, written)?;
+    let mut members = whole.clone()?;
+    drop(members.remove(name));
+    let value = Value::Object(members);
+    Question::new(alloc, name, Asked::Written, value, expected.as_str())
+}
+
+/// Asks of the value, of which the type told that, without each of its members in turn, what the
+/// words say: it does not fit without a member that they name, is written with `value` in the place
+/// of one in `member=value`, and without the member otherwise.
+pub(crate) fn ask_members(
+    alloc: Global,
+    words: &str,
+    value: &Value,
+    told: &Told,
+    questions: &mut Vec<Question>,
 ) -> Result<(), RowError> {
-    let whole = object(alloc, words, json(alloc, words, text)?)?;
-    let value: T = read_as(alloc, words, text)?;
-    let written = object(alloc, words, value.to_value(alloc)?)?;
-    are_members(alloc, words, &whole)?;
+    let whole = object(alloc, words, Some(value))?;
+    let written = object(alloc, words, told.written())?;
+    are_members(alloc, words, whole)?;
     for (name, _) in whole.iter() {
-        let name = name.as_str();
-        let expected = expected(alloc, words, name, &written)?;
-        let found = found::<T>(alloc, name, &whole)?;
-        compare(alloc, name, expected.as_str(), found.as_str())?;
+        ask(
+            questions,
+            ask_member(alloc, words, name.as_str(), whole, written)?,
+        )?;
     }
     Ok(())
 }

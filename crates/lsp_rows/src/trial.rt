@@ -1,18 +1,47 @@
 // What a test tries in turn.
-use crate::error::{RowError, untrue};
-use crate::{clones, holds, text_of};
-use lsp_shape::Wire;
-use std::alloc::Global;
+use crate::error::{RowError, compare};
+use crate::question::Question;
+use crate::told::Told;
+use crate::{holds, text_of};
+use lsp_shape::{Wire, attempt};
+use std::alloc::{AllocError, Global};
 use std::fmt::{Debug, Display};
+
+// The two texts are the same. What stands between is the same for all types, and so is compiled
+// once.
+fn is_text(
+    alloc: Global,
+    line: Result<String, AllocError>,
+    expected: &str,
+    found: Result<String, AllocError>,
+) -> Result<(), RowError> {
+    compare(alloc, line?.as_str(), expected, found?.as_str())
+}
 
 // An error's line is what Debug shows of the value, since that has the type's name.
 fn is_written<T: Wire + Debug>(alloc: Global, value: &T, text: &str) -> Result<(), RowError> {
     let found = text_of(alloc, value)?;
-    if found.as_str() == text {
-        return Ok(());
-    }
+    is_text(alloc, format!(in alloc; "{value:?}"), text, Ok(found))
+}
+
+// The copy is written and shown as the value is.
+fn is_copy<T: Wire + Debug>(alloc: Global, value: &T, copy: &T) -> Result<(), RowError> {
+    is_written(alloc, copy, text_of(alloc, value)?.as_str())?;
     let shown = format!(in alloc; "{value:?}")?;
-    Err(untrue(alloc, shown.as_str(), text, found.as_str())?)
+    is_text(
+        alloc,
+        Ok(text_of(alloc, copy)?),
+        shown.as_str(),
+        format!(in alloc; "{copy:?}"),
+    )
+}
+
+fn clones<T: Wire + Clone + Debug>(alloc: Global, rows: &str) -> Result<(), RowError> {
+    let first = Question::first(alloc, rows)?;
+    match attempt::<T>(alloc, &first.value)? {
+        Some(value) => is_copy(alloc, &value, &value.clone()?),
+        None => first.compare(alloc, Told::Written(Ok(None))),
+    }
 }
 
 fn is_same<W: Display, T: PartialEq + Debug>(
@@ -24,39 +53,13 @@ fn is_same<W: Display, T: PartialEq + Debug>(
     if *found == *expected {
         return Ok(());
     }
-    let what = format!(in alloc; "{what}")?;
-    let found = format!(in alloc; "{found:?}")?;
-    let expected = format!(in alloc; "{expected:?}")?;
-    Err(untrue(alloc, what.as_str(), expected.as_str(), found.as_str())?)
-}
-
-fn shows<W: Display, T: Debug>(
-    alloc: Global,
-    what: &W,
-    found: &T,
-    expected: &str,
-) -> Result<(), RowError> {
-    let found = format!(in alloc; "{found:?}")?;
-    if found.as_str() == expected {
-        return Ok(());
-    }
-    let what = format!(in alloc; "{what}")?;
-    Err(untrue(alloc, what.as_str(), expected, found.as_str())?)
-}
-
-fn is_text<W: Display, E: Debug + Drop>(
-    alloc: Global,
-    what: &W,
-    found: Result<String, E>,
-    expected: &str,
-) -> Result<(), RowError> {
-    let found = match found {
-        Ok(text) if text.as_str() == expected => return Ok(()),
-        Ok(text) => text,
-        Err(error) => format!(in alloc; "the error {error:?}")?,
-    };
-    let what = format!(in alloc; "{what}")?;
-    Err(untrue(alloc, what.as_str(), expected, found.as_str())?)
+    let shown = format!(in alloc; "{expected:?}")?;
+    is_text(
+        alloc,
+        format!(in alloc; "{what}"),
+        shown.as_str(),
+        format!(in alloc; "{found:?}"),
+    )
 }
 
 /// Tables and values that are tried in turn. `end` tells the first that is not as it should be, and
@@ -80,31 +83,36 @@ impl Trial {
         }
     }
 
+    // Notes what came of the next.
+    fn note(&mut self, found: Result<(), RowError>) {
+        self.found = found;
+    }
+
     /// Each line of the table is true of the type.
     pub fn holds<T: Wire + Debug>(&mut self, rows: &str) {
         if self.found.is_ok() {
-            self.found = holds::<T>(self.alloc, rows);
+            self.note(holds::<T>(self.alloc, rows));
         }
     }
 
     /// A clone of what the first text of the table is read as is shown and written as that is.
     pub fn clones<T: Wire + Clone + Debug>(&mut self, rows: &str) {
         if self.found.is_ok() {
-            self.found = clones::<T>(self.alloc, rows);
+            self.note(clones::<T>(self.alloc, rows));
         }
     }
 
     /// The text is what is written for the value.
     pub fn is_written<T: Wire + Debug>(&mut self, value: T, text: &str) {
         if self.found.is_ok() {
-            self.found = is_written(self.alloc, &value, text);
+            self.note(is_written(self.alloc, &value, text));
         }
     }
 
     /// The text is what is written for the type's default.
     pub fn default<T: Wire + Default + Debug>(&mut self, text: &str) {
         if self.found.is_ok() {
-            self.found = is_written(self.alloc, &T::default(), text);
+            self.note(is_written(self.alloc, &T::default(), text));
         }
     }
 
@@ -116,14 +124,20 @@ impl Trial {
         expected: T,
     ) {
         if self.found.is_ok() {
-            self.found = is_same(self.alloc, &what, &found, &expected);
+            self.note(is_same(self.alloc, &what, &found, &expected));
         }
     }
 
     /// `Debug` shows the value so.
     pub fn shows<W: Display + Drop, T: Debug + Drop>(&mut self, what: W, value: T, shown: &str) {
         if self.found.is_ok() {
-            self.found = shows(self.alloc, &what, &value, shown);
+            let alloc = self.alloc;
+            self.note(is_text(
+                alloc,
+                format!(in alloc; "{what}"),
+                shown,
+                format!(in alloc; "{value:?}"),
+            ));
         }
     }
 
@@ -135,14 +149,19 @@ impl Trial {
         expected: &str,
     ) {
         if self.found.is_ok() {
-            self.found = is_text(self.alloc, &what, found, expected);
+            let alloc = self.alloc;
+            let found = match found {
+                Ok(text) => Ok(text),
+                Err(error) => format!(in alloc; "the error {error:?}"),
+            };
+            self.note(is_text(alloc, format!(in alloc; "{what}"), expected, found));
         }
     }
 
     /// It is so.
     pub fn is_true<W: Display + Drop>(&mut self, what: W, is_so: bool) {
         if self.found.is_ok() {
-            self.found = is_same(self.alloc, &what, &is_so, &true);
+            self.note(is_same(self.alloc, &what, &is_so, &true));
         }
     }
 
