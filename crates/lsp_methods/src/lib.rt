@@ -8,7 +8,7 @@ pub mod notification;
 pub mod request;
 mod table;
 
-pub use law::each_at_its_place;
+pub use law::{each_at_its_place, each_is_found_by_its_name};
 pub use method::{
     EditMethod, GotoMethod, HierarchyMethod, LifeMethod, METHODS, Method, STANDARD, ShowMethod,
     SyncMethod, TokenMethod, WorkMethod,
