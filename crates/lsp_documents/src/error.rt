@@ -1,5 +1,5 @@
 // Why the editor's notifications are not accepted.
-ghost use Rattle.std.specs.Prelude.{◌≡◌, Some, codes};
+ghost use Rattle.std.specs.Prelude.{◌≡◌, Some};
 ghost use Rattle.lsp_documents.specs.declared.error.ChangeError.TheVariants as change_errors;
 ghost use Rattle.lsp_documents.specs.declared.error.OpenError.TheVariants as open_errors;
 
@@ -33,6 +33,10 @@ impl<T: Drop> From<AllocFailed<T>> for OpenError {
 }
 
 impl fmt::Display for OpenError {
+    ghost use Rattle.lsp_documents.specs.Errors.{open_error_text};
+
+    ghost output = { λ e. Some (open_error_text e) };
+
     fn fmt<W: fmt::Write>(&self, f: &mut fmt::Formatter<W>) -> fmt::Result {
         f.write_str(match self {
             OpenError::AlreadyOpen => "the document is open",
@@ -63,6 +67,10 @@ impl From<AllocError> for ChangeError {
 }
 
 impl fmt::Display for ChangeError {
+    ghost use Rattle.lsp_documents.specs.Errors.{change_error_text};
+
+    ghost output = { λ e. Some (change_error_text e) };
+
     fn fmt<W: fmt::Write>(&self, f: &mut fmt::Formatter<W>) -> fmt::Result {
         f.write_str(match self {
             ChangeError::NotOpen => "the document is not open",

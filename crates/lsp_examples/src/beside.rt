@@ -1,4 +1,7 @@
 // The counting server as a program.
+ghost use Rattle.std.specs.Prelude.{◌≢◌, ◌≤◌};
+ghost use Rattle.std.specs.Process.{exit_status};
+
 use crate::counts::Counts;
 use crate::worker::{Jobs, PLACES, work};
 use lsp_desk::PlainDesk;
@@ -19,7 +22,9 @@ fn serve<T: Threads + Wait, R: Read + Send + Drop + 'static, W: Write + Drop>(
     input: R,
     output: W,
     jobs: Jobs<'_>,
-) -> ExitCode {
+) -> ExitCode
+    ensures { (exit_status result ≤ 7) × (exit_status result ≢ 2) }
+{
     let desk = PlainDesk::new(alloc);
     let server = Counts { jobs };
     let Ok((service, socket)) = LspService::new(alloc, InTime { server }, desk) else {
@@ -32,7 +37,7 @@ fn serve<T: Threads + Wait, R: Read + Send + Drop + 'static, W: Write + Drop>(
 }
 
 /// Serves from `input` to `output`, with a thread beside that counts primes, and answers what `main`
-/// returns: `count_beside(&rt, rt.alloc(), rt.stdin(), rt.stdout())`.
+/// returns, never 2: `count_beside(&rt, rt.alloc(), rt.stdin(), rt.stdout())`.
 ///
 /// It may wait for the input.
 pub fn count_beside<T: Threads + Wait + Sync, R: Read + Send + Drop + 'static, W: Write + Drop>(
@@ -40,7 +45,9 @@ pub fn count_beside<T: Threads + Wait + Sync, R: Read + Send + Drop + 'static, W
     alloc: Global,
     input: R,
     output: W,
-) -> ExitCode {
+) -> ExitCode
+    ensures { (exit_status result ≤ 7) × (exit_status result ≢ 2) }
+{
     let Ok((ring, jobs_there)) = RingBuffer::new(alloc, PLACES) else {
         return ExitCode::from(Status::NoMemory as u8);
     };
@@ -49,7 +56,9 @@ pub fn count_beside<T: Threads + Wait + Sync, R: Read + Send + Drop + 'static, W
     let ((), status) = thread::join(
         rt,
         || work(rt, jobs_there, &bell),
-        || serve(rt, alloc, input, output, jobs),
+        || -> ExitCode
+            ensures { (exit_status result ≤ 7) × (exit_status result ≢ 2) }
+        { serve(rt, alloc, input, output, jobs) },
     );
     status
 }
