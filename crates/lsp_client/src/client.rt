@@ -41,9 +41,9 @@ use lsp_work::{
 use serde_json::Value;
 use std::alloc::Global;
 
-/// What a server asks of its client and tells it, over a desk. A call that waits for `initialize`
-/// is refused, or suppressed, until that was answered; any is once the session has exited, or where
-/// it holds a float.
+/// What a server asks of its client and tells it, over a desk. What waits for `initialize` is
+/// refused, or suppressed, until that was answered, and after `exit`; any other message is after
+/// `exit`, and any that holds a float.
 pub trait Client: Caller {
     /// Registers features with the client: `client/registerCapability`. It waits for `initialize`.
     #[tactic(auto, unfolding(lsp_offer_work::specs::Registration::registration_params_row))]

@@ -1,4 +1,4 @@
--- A dump as a graph (LSIF 0.6), as far as a query looks at it.
+-- A dump as a graph (LSIF, in the form of lsp-types), as far as a query looks at it.
 use Rattle.std.specs.Prelude.{ℕ, List, [], ◌∷◌, ◌++◌, Option, Some, None, is_some, fold, if◌then◌else◌}
 use Rattle.std.specs.List.{filter_map}
 use Rattle.std.specs.Map.{lookup}

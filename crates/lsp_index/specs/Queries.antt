@@ -1,4 +1,4 @@
--- What a query answers over a graph: definition, references, hover (LSIF 0.6; LSP 3.17).
+-- What a query answers over a graph: definition, references, hover (LSIF; LSP 3.17).
 use Rattle.std.specs.Prelude.{◌≡◌, ◌==◌, ◌&&◌, ◌||◌, ℕ, zero, suc, List, [], ◌∷◌, ◌++◌, Bool, true, false, not, Option, Some, None, option_and_then, unwrap_or, fold, map, filter, nat_lt, bytes_eq, codes, if◌then◌else◌, slice_get}
 use Rattle.std.specs.List.{list_any}
 use Rattle.serde_json.specs.Data.{Data, array, string}
