@@ -19,6 +19,12 @@ earlier_more n m (r ∷ rest) more all =
     let below = leb-true r.taken n both.0 in
     both_true (le-leb r.taken m (omega (arith, below, more))) (earlier_more n m rest more both.1)
 
+pub earlier_push : (n : ℕ) (reads : List ReadAt) (last : ReadAt) → last.taken ≤ n → IsTrue (list_all (is_within n) reads) → IsTrue (list_all (is_within n) (reads ++ last ∷ []))
+earlier_push n [] last within all = both_true (le-leb last.taken n within) refl
+earlier_push n (r ∷ rest) last within all =
+    let both = both_of (is_within n r) (list_all (is_within n) rest) all in
+    both_true both.0 (earlier_push n rest last within both.1)
+
 pub made_kept : (bytes taken piece : List ℕ) (reads : List ReadAt) → IsTrue (list_all (is_within (length taken)) reads) → map (moment_at bytes (taken ++ piece)) reads ≡ map (moment_at bytes taken) reads
 made_kept bytes taken piece [] all = refl
 made_kept bytes taken piece (r ∷ rest) all =

@@ -4,8 +4,11 @@ use Rattle.std.specs.Prelude.{Option, Some, Result, Ok, Err, IfErr, IfSome, IfNo
 use Rattle.std.specs.Result.{result_err}
 use Rattle.std.specs.Io.KnownBytes.{Consumes, Appends}
 use Rattle.lsp_desk.specs.Meaning.{Meaning, Grown}
-use Rattle.lsp_frame.specs.Codec.{start_by as start_codec, more, items_at}
+use Rattle.lsp_desk.specs.declared.desk.Caller.{Ghosts as CallerGhosts}
+use Rattle.lsp_frame.specs.Codec.{At, start_by as start_codec, more, items_at}
 use Rattle.lsp_frame.specs.declared.settings.CodecSettings.{CodecSettings}
+use Rattle.lsp_session.specs.declared.handlers.Handlers.{Ghosts as HandlersGhosts}
+use Rattle.lsp_session.specs.declared.session.Session.{Session}
 use Rattle.lsp_session.specs.Semantics.{Semantics, IsLawfulHandlers}
 use Rattle.lsp_session.specs.State.{State}
 use Rattle.lsp_session.specs.Run.{Order, Picked, Step, served}
@@ -18,7 +21,9 @@ use Rattle.lsp_server.specs.Written.{Ran, IsPartOf}
 use Rattle.lsp_server.specs.Served.{ServedTold, call_bytes, RanFrom, ReadEnough, RanTold, AllAnswered, WrotePart, ServesOver}
 use Rattle.lsp_server.specs.Reads.{Moment, Made, InOrder}
 use Rattle.lsp_server.specs.Consuming.{Given, piece, end, ConsumerOutcome, goes_on, done, stops, last_outcome, Did, Took, AllTook, bytes_of, IsTimely, TookLast}
-use Rattle.lsp_server.specs.Serving.{after_taking, IsIdle, Here, find_here, Serves, serves}
+use Rattle.lsp_server.specs.Serving.{after_taking, IsIdle, Here, find_here, IsOpen, Serves, serves}
+use Rattle.lsp_server.specs.ServerView.{spot}
+use Rattle.lsp_server.specs.Steps.{MayServe}
 use Rattle.lsp_server.proofs.KnownLemmas.{consumes_none, end_before}
 use Rattle.lsp_server.proofs.OrderLemmas.{made_in_order}
 use Rattle.lsp_server.proofs.RanLemmas.{ran_onto, ran_grown, grown_after}
@@ -30,6 +35,9 @@ use Rattle.lsp_server.proofs.ServingLemmas.{Serving, way_from, exact, at_exit, e
 module _ {H D C T P : Type 0} (semantics : Semantics H C T) (m : Meaning D) (order : Order P) (a b : Here semantics m order) (start now : Moment) where
   took_idle : Took (serves semantics m order) a start now b → IsIdle b
   took_idle t = t.did.does.0.idle
+
+  pub took_open : Took (serves semantics m order) a start now b → IsOpen semantics m order b
+  took_open t = t.did.does.1
 
   took_grown : Took (serves semantics m order) a start now b → Grown m a.desk b.desk
   took_grown t = ran_grown (after_taking (Some []) a) (after_taking (Some t.did.written) b) (all_admitted t.did.does.0.told.given) t.did.does.0.told.ran
@@ -85,6 +93,11 @@ module _ {H D C T P : Type 0} (semantics : Semantics H C T) (m : Meaning D) (ord
       → IfErr r (λ e. IsBetweenReads e → Took (serves semantics m order) a start now b) → StaysWhole r → IsIdle b
   all_idle a b start now size (Ok x) last took whole = last_idle a b start now size (last tt)
   all_idle a b start now size (Err e) last took whole = took_idle semantics m order a b start now (took whole)
+
+-- a session that stands open may be served on
+pub may_serve : {H D C T P : Type 0} {h : HandlersGhosts H D C T} {d : CallerGhosts D} (semantics : Semantics H C T) (m : Meaning D) (order : Order P) (session : Session H D C T h d) (p : P) (codec : At) (rounds : ℕ)
+    → IsOpen semantics m order (spot semantics m session p codec rounds) → MayServe semantics m session
+may_serve semantics m order session p codec rounds is = record { ready = record { running = is.idle.running; taken = is.idle.taken }; alive = is.lives; unexited = is.exited }
 
 -- ---- where the bytes are told
 

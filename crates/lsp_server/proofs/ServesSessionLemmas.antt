@@ -1,10 +1,9 @@
 -- What a session comes to, by what the loop over its reads comes to.
-use Rattle.std.proofs.Common.{◌≡◌, ◌∙◌, ◌++◌, ℕ, true, ap, sym, subst}
+use Rattle.std.proofs.Common.{◌≡◌, ◌∙◌, ◌++◌, ℕ, sym, subst}
 use Rattle.std.specs.Prelude.{Option, Some, None, Result, Ok, Err, IfOk, IfErr, IfSome}
 use Rattle.lsp_desk.specs.Meaning.{Meaning, IsLawfulDesk, Grown}
 use Rattle.lsp_session.specs.Semantics.{Semantics, IsLawfulHandlers}
-use Rattle.lsp_session.specs.State.{State}
-use Rattle.lsp_session.specs.Run.{Order, Picked}
+use Rattle.lsp_session.specs.Run.{Order}
 use Rattle.lsp_session.specs.Session.{SessionView}
 use Rattle.lsp_server.specs.declared.server.Served.{Served}
 use Rattle.lsp_server.specs.declared.server.Stopped.{Stopped}
@@ -14,7 +13,7 @@ use Rattle.lsp_server.specs.Course.{Course, Setting, picked, course}
 use Rattle.lsp_server.specs.Errors.{IsBetweenReads, IsFlushedAt, SaysSpent, ComesUnfailed}
 use Rattle.lsp_server.specs.Leaves.{StaysFlushed, TellsFaults, WithinReads}
 use Rattle.lsp_server.specs.Reads.{moment}
-use Rattle.lsp_server.specs.Served.{ServedView, ServesOver, IsServed, WroteTold, WrotePart, handed_back}
+use Rattle.lsp_server.specs.Served.{ServedView, ServesOver, IsServed, WrotePicked, WrotePart, handed_back}
 use Rattle.lsp_server.specs.ServedView.{show_served}
 use Rattle.lsp_server.specs.ServesSession.{SourceSinkTold, bytes_told, ServesSession}
 use Rattle.lsp_server.proofs.KnownLemmas.{if_some, if_told, some_at, left_told}
@@ -79,7 +78,7 @@ module _ {H D C T P : Type 0} {semantics : Semantics H C T} (laws : IsLawfulHand
     grown_stopped = tt;
   }
 
-  module _ (error : ServeError) (p : Comes (Some error)) (stopped : Stopped D) (is : stopped.error ≡ error) (desk : stopped.desk ≡ view.desk) where
+  module _ (error : ServeError) (p : Comes (Some error)) (seen : m.now view.desk ≡ view.state.desk) (stopped : Stopped D) (is : stopped.error ≡ error) (desk : stopped.desk ≡ view.desk) where
     pub session_stopped : ServesSession (course semantics m order setting) told reads pick (Err stopped)
     session_stopped =
         let spent : SaysSpent m view.desk stopped.error = subst (SaysSpent m view.desk) (sym is) p.spent in
@@ -101,8 +100,8 @@ module _ {H D C T P : Type 0} {semantics : Semantics H C T} (laws : IsLawfulHand
               let part = (some_at told.left _ bytes told_is p.serves).part in
               unfailed m desk_laws setting.desk view.desk p.grown error p.spent _ _ reads bytes told.left_after (left_told bytes (part.early ++ part.piece) told.left_after part.gives)
               p.faults.read p.faults.write (λ e. some_at told.left _ bytes told_is (p.within.reads_spent e)) enough no_read no_write));
-          exact = λ between. if_some told.left (λ bytes s. subst (WroteTold (course semantics m order setting) (bytes_told told bytes)) (sym desk)
-              (record { last = picked view pick; told = s.exact (subst IsBetweenReads is between) })) p.serves;
+          exact = λ between. if_some told.left (λ bytes s. subst (λ d. WrotePicked (course semantics m order setting) (bytes_told told bytes) d pick) (sym desk)
+              (record { session = view.state; told = s.exact (subst IsBetweenReads is between); desk_is = seen })) p.serves;
           part = if_some told.left (λ bytes s. subst (WrotePart (course semantics m order setting) (bytes_told told bytes) 4096) (sym desk) s.part) p.serves;
           grown = tt;
           grown_stopped = subst (Grown m setting.desk) (sym desk) p.grown;
@@ -113,4 +112,4 @@ module _ {H D C T P : Type 0} {semantics : Semantics H C T} (laws : IsLawfulHand
       → IfOk result (λ served. show_served served ≡ handed_back view) → IfErr result (λ stopped. (stopped.error ≡ NoMemory) × (stopped.desk ≡ view.desk))
       → ServesSession (course semantics m order setting) told reads pick result
   session_ended p desk (Ok served) handed is = session_served p desk served handed
-  session_ended p desk (Err stopped) handed is = session_stopped NoMemory (lacks_memory (course semantics m order setting) told reads (picked view pick) view.desk p) stopped is.0 is.1
+  session_ended p desk (Err stopped) handed is = session_stopped NoMemory (lacks_memory (course semantics m order setting) told reads (picked view pick) view.desk p) desk stopped is.0 is.1

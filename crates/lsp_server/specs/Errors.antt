@@ -40,7 +40,7 @@ abbrev pub EndsInStep : {A : Type 0} → Result A ServeError → Type 0
 EndsInStep (Ok x) = ⊤
 EndsInStep (Err e) = IsInStep e
 
--- an answer after whose steps the session may go on
+-- an answer that leaves the session between two steps
 abbrev pub StaysWhole : {A : Type 0} → Result A ServeError → Type 0
 StaysWhole (Ok x) = ⊤
 StaysWhole (Err e) = IsBetweenReads e

@@ -30,6 +30,7 @@ reads_made t = map (moment_at t.bytes.items t.taken.items) t.reads.items
 
 -- what no write and no flush changes
 pub record KeepsReads (old new : MemoryTransport) : Type 0 where
+  pub all : all_bytes new ≡ all_bytes old
   pub left : bytes_left new ≡ bytes_left old
   pub reads : reads_made new ≡ reads_made old
   pub piece : read_size new ≡ read_size old

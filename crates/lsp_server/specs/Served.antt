@@ -107,6 +107,12 @@ pub record WroteTold {S D : Type 0} (course : Course S D) (call : CallBytes) (de
   pub last : S
   pub told : RanTold course call last desk
 
+-- the same, to the session that leaves this desk and left its pick in this state
+pub record WrotePicked {H D C T P : Type 0} (course : Course (Picked (State H C T) P) D) (call : CallBytes) (desk : D) (pick : P) : Type 0 where
+  pub session : State H C T
+  pub told : RanTold course call (record { session = session; pick = pick }) desk
+  pub desk_is : course.meaning.now desk ≡ session.desk
+
 -- as a read was made, what was written was the frames of a run over the items told by the bytes read until then, no
 -- exit was among them, and all of it was flushed, if all was at the start
 pub record AllAnswered {S D : Type 0} (course : Course S D) (bytes : List ℕ) (start : Moment) (m : Moment) : Type 0 where

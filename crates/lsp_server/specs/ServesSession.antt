@@ -8,7 +8,7 @@ use Rattle.lsp_server.specs.declared.server.Stopped.{Stopped}
 use Rattle.lsp_server.specs.declared.step.ServeError.TheVariants.{ReadFault, WriteFault, ReadsSpent, DeskSpent}
 use Rattle.lsp_server.specs.SourceSink.{CountRose, IsFlushed}
 use Rattle.lsp_server.specs.Course.{Course}
-use Rattle.lsp_server.specs.Served.{CallBytes, call_bytes, IsServed, ReadEnough, WroteTold, WrotePart}
+use Rattle.lsp_server.specs.Served.{CallBytes, call_bytes, IsServed, ReadEnough, WrotePicked, WrotePart}
 use Rattle.lsp_server.specs.ServedView.{show_served}
 use Rattle.lsp_server.specs.Errors.{IsBetweenReads, IsFlushedAt, ComesUnfailed, SaysSpent}
 
@@ -62,8 +62,8 @@ module _ {H D C T P : Type 0} (course : Course (Picked (State H C T) P) D) where
     -- so with no failure, and with more reads than bytes, only NoMemory may come, and DeskSpent over a desk that others use
     pub complete : IfErr result (λ stopped. IfSome told.left (λ bytes. length bytes < reads → ¬ CountRose told.reads_failed told.reads_failed_after
         → ¬ CountRose told.writes_failed told.writes_failed_after → ComesUnfailed (course.meaning.alone course.desk) stopped.error))
-    -- what was written by then
-    pub exact : IfErr result (λ stopped. IsBetweenReads stopped.error → IfSome told.left (λ bytes. WroteTold course (bytes_told told bytes) stopped.desk))
+    -- what was written by then; where the error is between reads, by the session that left the pick in this state
+    pub exact : IfErr result (λ stopped. IsBetweenReads stopped.error → IfSome told.left (λ bytes. WrotePicked course (bytes_told told bytes) stopped.desk pick))
     pub part : IfErr result (λ stopped. IfSome told.left (λ bytes. WrotePart course (bytes_told told bytes) 4096 stopped.desk))
     -- at each answer the desk that is handed back has grown from the one that was handed in
     pub grown : IfOk result (λ served. Grown course.meaning course.desk served.desk)

@@ -10,7 +10,7 @@ use Rattle.lsp_session.specs.Semantics.{Semantics}
 use Rattle.lsp_session.specs.Run.{Order, Step}
 use Rattle.lsp_session.specs.SessionView.{session_view, desk_of, life_of}
 use Rattle.lsp_server.specs.declared.step.ServeError.{ServeError}
-use Rattle.lsp_server.specs.Errors.{IsInStep, SaysSpent, StaysWhole}
+use Rattle.lsp_server.specs.Errors.{IsBetweenReads, IsInStep, SaysSpent, StaysWhole}
 use Rattle.lsp_server.specs.ServerView.{standing, IsReady}
 use Rattle.lsp_server.specs.Written.{Ran, RanPart}
 
@@ -33,10 +33,11 @@ module _ {H D C T : Type 0} {h : HandlersGhosts H D C T} {d : CallerGhosts D} (s
     pub spent : IfErr result (λ e. SaysSpent m (desk_of new) e)
     pub others : IfErr result IsInStep
 
-  -- a call that serves over reads leaves the session between two steps also where it stops between two reads, and the
-  -- desk has grown at any answer
+  -- a call that serves over reads leaves the session between two steps also where it stops between two reads, and there
+  -- it may be served on; the desk has grown at any answer
   pub record LeavesServed {A : Type 0} (old new : Session H D C T h d) (result : Result A ServeError) : Type 0 where
     pub ready : StaysWhole result → IsReady semantics m new
+    pub between : IfErr result (λ e. IsBetweenReads e → MayServe new)
     pub grown : Grown m (desk_of old) (desk_of new)
     pub desk_spent : IfErr result (λ e. SaysSpent m (desk_of new) e)
 

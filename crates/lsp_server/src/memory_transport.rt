@@ -1,5 +1,5 @@
 // A transport in memory.
-ghost use Rattle.std.specs.Prelude.{◌≡◌, ◌<◌, ◌≤◌, ℕ, List, Option, [], Some, IsTrue, IfOk, IsOk, IsErrOf, OnOk, OnErr, length, map};
+ghost use Rattle.std.specs.Prelude.{◌≡◌, ◌<◌, ◌≤◌, ℕ, List, Option, All, [], Some, IsTrue, IfOk, IsOk, IsErrOf, OnOk, OnErr, length, map};
 ghost use Rattle.std.specs.List.{list_all};
 ghost use Rattle.std.proofs.Common.{ap};
 ghost use Rattle.lsp_server.specs.Memory.{Fills};
@@ -32,6 +32,7 @@ pub struct MemoryTransport {
     faults: u64,
     ghost within: { at ≤ length bytes.items },
     ghost some: { 0 < piece },
+    ghost read: { All (λ r. r.read ≤ length bytes.items) reads.items },
     ghost earlier: { IsTrue (list_all (is_within (length taken.items)) reads.items) },
 }
 
@@ -41,6 +42,7 @@ impl MemoryTransport {
     /// Gives `piece` bytes a read, or as many as are left.
     pub fn new(alloc: Global, bytes: Vec<u8>, piece: usize) -> MemoryTransport
         requires { 0 < piece }
+        ensures all { all_bytes result ≡ bytes.items }
         ensures left { bytes_left result ≡ Some bytes.items }
         ensures taken { bytes_taken result ≡ [] }
         ensures flushed { bytes_flushed result ≡ 0 }
@@ -68,8 +70,9 @@ impl MemoryTransport {
 
     /// The reads that were made and didn't fail, in order.
     pub fn reads(&self) -> &[ReadAt]
-        ensures { map (moment_at (all_bytes self.now) (bytes_taken self.now)) result.now
+        ensures made { map (moment_at (all_bytes self.now) (bytes_taken self.now)) result.now
             ≡ reads_made self.now }
+        ensures read { All (λ r. r.read ≤ length (all_bytes self.now)) result.now }
     {
         self.reads.as_slice()
     }
@@ -117,7 +120,7 @@ impl Sink for MemoryTransport {
 }
 
 impl Transport for MemoryTransport {
-    ghost use Rattle.lsp_server.specs.MemoryTransport.{bytes_left, bytes_taken, bytes_flushed, read_size, reads_failed, reads_made};
+    ghost use Rattle.lsp_server.specs.MemoryTransport.{all_bytes, bytes_left, bytes_taken, bytes_flushed, read_size, reads_failed, reads_made};
 
     ghost left = { bytes_left };
 
@@ -144,6 +147,7 @@ impl Transport for MemoryTransport {
         ensures full { IfOk result (Fills (bytes_left self.old) (length piece.old)
             (read_size self.old)) }
         ensures tied { read_size self.new ≡ read_size self.old }
+        ensures all { all_bytes self.new ≡ all_bytes self.old }
     {
         let made = ReadAt {
             read: self.at,

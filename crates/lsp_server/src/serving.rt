@@ -116,7 +116,8 @@ pub fn serve_over<T: Transport, D: Desk + Drop, H: Handlers<D>, P: Pick>(
         (picked (session_view H.semantics D.meaning session.new) (P.state pick.new))
         (desk_of session.new) (result_err result)) }
 
-    // Between two reads the session stands where these items lead it, and may go on.
+    // At Ok the session is between two steps, and is served on only where no exit was admitted; at
+    // an error between two reads it stands where these items lead it, and may be served on.
     ensures session { LeavesServed H.semantics D.meaning session.old session.new result }
 
     // All is flushed, each failure is told and has its cause, and at most `reads` reads are made.

@@ -21,7 +21,8 @@ use std::alloc::Global;
 use std::convert::From;
 use thiserror::Error;
 
-/// Why a server stopped before the end of input and before any `exit`.
+/// Why a server stopped: between two reads, in a step, those of an `exit` and of the end of input
+/// among them, or out of memory as it handed the session back.
 #[derive(Clone, Copy, Debug, PartialEq, Eq, Error)]
 pub enum ServeError {
     /// The source failed.

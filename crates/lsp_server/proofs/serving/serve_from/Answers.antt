@@ -13,7 +13,7 @@ use Rattle.lsp_server.specs.ServerView.{spot, see_serving}
 use Rattle.lsp_server.proofs.KnownLemmas.{if_err, if_told}
 use Rattle.lsp_server.proofs.TakingLemmas.{through_lawful, seen_took, seen_last}
 use Rattle.lsp_server.proofs.ServesLemmas.{serves_lawful}
-use Rattle.lsp_server.proofs.ServedLemmas.{all_grown}
+use Rattle.lsp_server.proofs.ServedLemmas.{all_grown, may_serve, took_open}
 use Rattle.lsp_server.proofs.ServesOnLemmas.{serves_on}
 use Rattle.lsp_server.proofs.serving.serve_from.Goals as goal
 
@@ -53,6 +53,8 @@ returns-clause-session g c =
     let b = spot sem m c.over_reads.new.state (g.P.Pick.state c.over_reads.new.consumer.pick.now) c.over_reads.new.consumer.codec.now c.over_reads.new.consumer.rounds in
     record {
       ready = search rules;
+      between = if_err c.over_reads.result (λ e took between. may_serve sem m order c.over_reads.new.state (g.P.Pick.state c.over_reads.new.consumer.pick.now) c.over_reads.new.consumer.codec.now c.over_reads.new.consumer.rounds
+          (took_open sem m order a b start now (seen_took (see_serving sem m g.P.Pick.state) _ _ start now (took between)))) c.over_reads.ensures.took;
       grown = all_grown sem m order a b start now 4096 c.over_reads.result (λ ends. seen_last (see_serving sem m g.P.Pick.state) _ _ start now 4096 (last_outcome c.over_reads.result) (c.over_reads.ensures.last ends)) (if_err c.over_reads.result (λ e took between. seen_took (see_serving sem m g.P.Pick.state) _ _ start now (took between)) c.over_reads.ensures.took);
       desk_spent = search rules;
     }

@@ -76,5 +76,5 @@ returns-in-Err g c =
       within = c.in-Err.ensures.transport.within;
     }) in
     let ended : ServesSession (course sem m order set) told c.args.reads p2 (Err c.stop.result) =
-    session_stopped g.met.H.Handlers.laws m g.met.D.Caller.laws order set told c.args.reads after p2 c.in-Err.error comes c.stop.result c.stop.ensures.error c.stop.ensures.desk in
+    session_stopped g.met.H.Handlers.laws m g.met.D.Caller.laws order set told c.args.reads after p2 c.in-Err.error comes refl c.stop.result c.stop.ensures.error c.stop.ensures.desk in
     search rules
