@@ -1,7 +1,8 @@
 -- One call more of a caller, and its seat taken in.
 use Rattle.std.proofs.Common.{◌≡◌, ◌+◌, ℕ, List, [], ◌∷◌, ◌++◌, length, refl, sym, ap, ◌∙◌, Bool, true, false, true≢false, arith, append_assoc, Result, Ok, Err, inl, inr}
-use Rattle.std.specs.Prelude.{Option, Some, OnOk, IfOk, IsOk, ◌||◌, ◌⊎◌}
-use Rattle.std.specs.List.{flat_map}
+use Rattle.std.specs.Prelude.{Some, OnOk, IfOk, IsOk, ◌||◌, ◌⊎◌}
+use Rattle.std.specs.Option.{option_or}
+use Rattle.std.specs.Result.{result_err}
 use Rattle.std.proofs.lemmas.List.Concat.{flat_map-cons}
 use Rattle.lsp_desk.specs.declared.call.ClientCall.{ClientCall}
 use Rattle.lsp_desk.specs.declared.call.ClientReply.{ClientReply}
@@ -19,7 +20,7 @@ use Rattle.lsp_shared.specs.Steps.{Turned, AddsClients, item_for, by_client}
 use Rattle.lsp_callers.specs.declared.caller.Heard.{Heard}
 use Rattle.lsp_callers.specs.Said.{call_said, entry_said}
 use Rattle.lsp_callers.specs.Made.{entries_made}
-use Rattle.lsp_callers.specs.Callers.{said_of, all_said_of}
+use Rattle.lsp_callers.specs.Callers.{said_of, all_said_of, first_fault}
 use Rattle.lsp_callers.proofs.MadeLemmas.{made_turned}
 
 pub said_turned : {A E : Type 0} (v w : View) (call : ClientCall) (reply : ClientReply) (caller n : ℕ) (r : Result A E) → AllBelow (length v.seen) v.made
@@ -53,6 +54,12 @@ both_sent P total messages left left2 (Ok a) (Err e) (Ok n) both adds was said n
 both_sent P total messages left left2 (Err e) (Ok b) (Ok n) both adds was said next = absurd (true≢false (sym both.0))
 both_sent P total messages left left2 (Err e) (Err f) (Ok n) both adds was said next = absurd (true≢false (sym both.0))
 both_sent P total messages left left2 all one (Err f) both adds was said next = tt
+
+-- the first fault, of those so far and of those that are left
+pub first_so_far : (all sum : Result ℕ DeskFault) (h : Heard) (rest : List Heard) → result_err sum ≡ option_or (result_err all) (result_err h.sent)
+    → option_or (result_err sum) (first_fault rest) ≡ option_or (result_err all) (first_fault (h ∷ rest))
+first_so_far (Ok a) sum h rest first = ap (λ o. option_or o (first_fault rest)) first
+first_so_far (Err e) sum h rest first = ap (λ o. option_or o (first_fault rest)) first
 
 pub or_left : (a b : Bool) → a ≡ true → a || b ≡ true
 or_left a b is = ap (λ c. c || b) is

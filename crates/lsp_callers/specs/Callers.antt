@@ -1,9 +1,11 @@
 -- Callers before and after their calls.
-use Rattle.std.specs.Prelude.{◌≡◌, ◌-◌, ◌/◌, ◌^◌, ℕ, zero, suc, true, false, List, [], ◌∷◌, sum_by, flat_map, Err, IfOk}
+use Rattle.std.specs.Prelude.{◌≡◌, ◌-◌, ◌/◌, ◌^◌, ℕ, zero, suc, true, false, List, [], ◌∷◌, sum_by, flat_map, Option, None, Err, IfOk}
+use Rattle.std.specs.Option.{option_or}
+use Rattle.std.specs.Result.{result_err}
 use Rattle.atomic_table.specs.Seated.{TableId}
+use Rattle.lsp_desk.specs.declared.call.DeskFault.{DeskFault}
 use Rattle.lsp_desk.specs.declared.call.DeskFault.TheVariants as faults
 use Rattle.lsp_desk.specs.Trace.{DeskEntry}
-use Rattle.lsp_shared.specs.declared.rested.Rested.{Rested}
 use Rattle.lsp_shared.specs.declared.view.View.{View}
 use Rattle.lsp_shared.specs.Desks.{rested_desk, rested_view, rested_spent}
 use Rattle.lsp_callers.specs.declared.caller.Idle.{Idle}
@@ -50,6 +52,11 @@ all_said_of all = flat_map said_of all
 
 abbrev pub messages_of : List Heard → ℕ
 messages_of all = sum_by (λ heard. heard.messages) all
+
+-- the first fault that a caller was told
+abbrev pub first_fault : List Heard → Option DeskFault
+first_fault [] = None
+first_fault (heard ∷ rest) = option_or (result_err heard.sent) (first_fault rest)
 
 -- the shares of all seats
 abbrev pub idle_shares : List Idle → ℕ
