@@ -1,7 +1,8 @@
 -- One call more of a caller, and its seat taken in.
-use Rattle.std.proofs.Common.{◌≡◌, ◌+◌, ℕ, List, [], ◌∷◌, ◌++◌, length, refl, sym, ap, ◌∙◌, Bool, true, false, true≢false, arith, append_assoc, Result, Ok, Err, inl, inr}
-use Rattle.std.specs.Prelude.{Option, Some, OnOk, IfOk, IsOk, ◌||◌, ◌⊎◌}
-use Rattle.std.specs.List.{flat_map}
+use Rattle.std.proofs.Common.{◌≡◌, ◌+◌, ℕ, List, [], ◌∷◌, ◌++◌, length, refl, sym, ap, ◌∙◌, Bool, true, false, true≢false, arith, append_assoc, append-nil, Result, Ok, Err, inl, inr}
+use Rattle.std.specs.Prelude.{◌≢◌, Some, None, is_some, OnOk, OnErr, IfOk, IsOk, ◌||◌, ◌⊎◌}
+use Rattle.std.specs.Option.{option_or}
+use Rattle.std.specs.Result.{result_err}
 use Rattle.std.proofs.lemmas.List.Concat.{flat_map-cons}
 use Rattle.lsp_desk.specs.declared.call.ClientCall.{ClientCall}
 use Rattle.lsp_desk.specs.declared.call.ClientReply.{ClientReply}
@@ -15,11 +16,12 @@ use Rattle.lsp_shared.specs.declared.view.Asked.TheVariants as asked
 use Rattle.lsp_shared.specs.declared.view.Item.{Item}
 use Rattle.lsp_shared.specs.declared.view.View.{View}
 use Rattle.lsp_shared.specs.Rule.{AllClient}
-use Rattle.lsp_shared.specs.Steps.{Turned, AddsClients, item_for, by_client}
+use Rattle.lsp_shared.specs.Steps.{Turned, AddsClients, Answered, item_for, by_client}
 use Rattle.lsp_callers.specs.declared.caller.Heard.{Heard}
-use Rattle.lsp_callers.specs.Said.{call_said, entry_said}
+use Rattle.lsp_callers.specs.Said.{call_said, entry_said, EndsUnsent}
+use Rattle.lsp_callers.specs.Counted.{one_sent}
 use Rattle.lsp_callers.specs.Made.{entries_made}
-use Rattle.lsp_callers.specs.Callers.{said_of, all_said_of}
+use Rattle.lsp_callers.specs.Callers.{said_of, all_said_of, first_fault}
 use Rattle.lsp_callers.proofs.MadeLemmas.{made_turned}
 
 pub said_turned : {A E : Type 0} (v w : View) (call : ClientCall) (reply : ClientReply) (caller n : ℕ) (r : Result A E) → AllBelow (length v.seen) v.made
@@ -30,6 +32,45 @@ said_turned v w call reply caller n (Ok x) inside t is sent =
     ∙ ap (λ (k : Call). let e : DeskEntry = record { call = k; reply = Some (show_client_reply reply) } in entries_made v ++ e ∷ []) is
     ∙ ap (λ (k : ClientReply). let e : DeskEntry = record { call = call_said caller n; reply = Some (show_client_reply k) } in entries_made v ++ e ∷ []) sent
 said_turned v w call reply caller n (Err e) inside t is sent = tt
+
+-- ---- a caller stops
+
+-- the call ended by a fault
+pub unsent_fault : (v w : View) (call : ClientCall) (caller n : ℕ) (fault : DeskFault) → AllBelow (length v.seen) v.made → Answered by_client (asked.Client call) v (Err fault) w
+    → show_client_call call ≡ call_said caller n → EndsUnsent caller n (entries_made v) (entries_made w)
+unsent_fault v w call caller n faults.NoMemory inside t is = record {
+  last = Some (record { call = show_client_call call; reply = None });
+  made = made_turned v w _ inside t;
+  unsent = (is, λ same. true≢false (sym (ap is_some same)));
+}
+unsent_fault v w call caller n (faults.Spent k) inside t is = record { last = None; made = ap entries_made t.1 ∙ sym (append-nil (entries_made v)); unsent = tt }
+
+-- what holds anyway holds at a fault
+pub on_fault : {A E : Type 0} {P : Type 0} (r : Result A E) → P → OnErr r P
+on_fault (Ok x) p = tt
+on_fault (Err e) p = p
+
+sent_shown : (reply : ClientReply) → one_sent (Some (show_client_reply reply)) ≡ 1 → reply ≡ client_replies.Sent
+sent_shown (client_replies.Ticket n i) is = absurd (omega (arith, is))
+sent_shown client_replies.Sent is = refl
+sent_shown client_replies.Suppressed is = absurd (omega (arith, is))
+sent_shown client_replies.NotInitialized is = absurd (omega (arith, is))
+sent_shown client_replies.Exited is = absurd (omega (arith, is))
+sent_shown (client_replies.Answer r) is = absurd (omega (arith, is))
+sent_shown client_replies.Awaited is = absurd (omega (arith, is))
+sent_shown client_replies.Gone is = absurd (omega (arith, is))
+sent_shown (client_replies.Number n) is = absurd (omega (arith, is))
+
+-- the call had another reply
+pub unsent_turned : {A E : Type 0} (v w : View) (call : ClientCall) (reply : ClientReply) (caller n : ℕ) (r : Result A E) → AllBelow (length v.seen) v.made
+    → Turned v (item_for by_client (asked.Client call) (Ok reply)) w → show_client_call call ≡ call_said caller n → OnErr r (reply ≢ client_replies.Sent)
+    → OnErr r (EndsUnsent caller n (entries_made v) (entries_made w))
+unsent_turned v w call reply caller n (Ok x) inside t is other = tt
+unsent_turned v w call reply caller n (Err e) inside t is other = record {
+  last = Some (record { call = show_client_call call; reply = Some (show_client_reply reply) });
+  made = made_turned v w _ inside t;
+  unsent = (is, λ same. other (sent_shown reply (ap one_sent same)));
+}
 
 -- ---- a seat is taken in
 
@@ -53,6 +94,12 @@ both_sent P total messages left left2 (Ok a) (Err e) (Ok n) both adds was said n
 both_sent P total messages left left2 (Err e) (Ok b) (Ok n) both adds was said next = absurd (true≢false (sym both.0))
 both_sent P total messages left left2 (Err e) (Err f) (Ok n) both adds was said next = absurd (true≢false (sym both.0))
 both_sent P total messages left left2 all one (Err f) both adds was said next = tt
+
+-- the first fault, of those so far and of those that are left
+pub first_so_far : (all sum : Result ℕ DeskFault) (h : Heard) (rest : List Heard) → result_err sum ≡ option_or (result_err all) (result_err h.sent)
+    → option_or (result_err sum) (first_fault rest) ≡ option_or (result_err all) (first_fault (h ∷ rest))
+first_so_far (Ok a) sum h rest first = ap (λ o. option_or o (first_fault rest)) first
+first_so_far (Err e) sum h rest first = ap (λ o. option_or o (first_fault rest)) first
 
 pub or_left : (a b : Bool) → a ≡ true → a || b ≡ true
 or_left a b is = ap (λ c. c || b) is

@@ -1,14 +1,16 @@
 -- Callers before and after their calls.
-use Rattle.std.specs.Prelude.{◌≡◌, ◌-◌, ◌/◌, ◌^◌, ℕ, zero, suc, true, false, List, [], ◌∷◌, sum_by, flat_map, Err, IfOk}
+use Rattle.std.specs.Prelude.{◌≡◌, ◌-◌, ◌/◌, ◌^◌, ℕ, zero, suc, true, false, List, [], ◌∷◌, sum_by, flat_map, Option, None, Err, IfOk, OnErr}
+use Rattle.std.specs.Option.{option_or}
+use Rattle.std.specs.Result.{result_err}
 use Rattle.atomic_table.specs.Seated.{TableId}
+use Rattle.lsp_desk.specs.declared.call.DeskFault.{DeskFault}
 use Rattle.lsp_desk.specs.declared.call.DeskFault.TheVariants as faults
 use Rattle.lsp_desk.specs.Trace.{DeskEntry}
-use Rattle.lsp_shared.specs.declared.rested.Rested.{Rested}
 use Rattle.lsp_shared.specs.declared.view.View.{View}
 use Rattle.lsp_shared.specs.Desks.{rested_desk, rested_view, rested_spent}
 use Rattle.lsp_callers.specs.declared.caller.Idle.{Idle}
 use Rattle.lsp_callers.specs.declared.caller.Heard.{Heard}
-use Rattle.lsp_callers.specs.Said.{said_by}
+use Rattle.lsp_callers.specs.Said.{said_by, StopsShort}
 use Rattle.lsp_callers.specs.Made.{entries_made}
 
 -- a client's seat of this desk, through which no call was made
@@ -37,12 +39,13 @@ abbrev pub AreHeardOn : TableId → List Heard → Type 0
 AreHeardOn desk [] = Unit {0}
 AreHeardOn desk (heard ∷ rest) = IsHeardOn desk heard × AreHeardOn desk rest
 
--- what a caller comes to that was idle, and had so many messages to say
+-- what a caller comes to that was idle, and had so many messages to say: it says them all, or stops before
 pub record ComesOf (messages : ℕ) (caller : Idle) (heard : Heard) : Type 0 where
   pub numbered : heard.number ≡ caller.number
   pub counted : heard.messages ≡ messages
   pub heard_on : IsHeardOn (rested_desk caller.seat) heard
   pub share : (rested_view heard.seat).share ≡ (rested_view caller.seat).share
+  pub stopped : OnErr heard.sent (StopsShort heard.number heard.messages (entries_made (rested_view heard.seat)))
 
 -- what all of them say, and how many messages that is
 abbrev pub all_said_of : List Heard → List DeskEntry
@@ -50,6 +53,11 @@ all_said_of all = flat_map said_of all
 
 abbrev pub messages_of : List Heard → ℕ
 messages_of all = sum_by (λ heard. heard.messages) all
+
+-- the first fault that a caller was told
+abbrev pub first_fault : List Heard → Option DeskFault
+first_fault [] = None
+first_fault (heard ∷ rest) = option_or (result_err heard.sent) (first_fault rest)
 
 -- the shares of all seats
 abbrev pub idle_shares : List Idle → ℕ

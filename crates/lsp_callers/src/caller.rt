@@ -1,9 +1,9 @@
 //! What one caller does: it sends its messages through its seat, and hands the seat back.
-ghost use Rattle.std.specs.Prelude.{◌≡◌, ◌++◌, [], ◌∷◌, ℕ, true, Err, OnOk, OnErr, IfOk};
+ghost use Rattle.std.specs.Prelude.{◌≡◌, ◌≢◌, ◌++◌, [], ◌∷◌, ℕ, true, Err, OnOk, OnErr, IfOk};
 ghost use Rattle.lsp_desk.specs.Shown.{show_client_call};
 ghost use Rattle.lsp_shared.specs.Desks.{desk_id};
 ghost use Rattle.lsp_shared.specs.Seats.{seat_view, seat_desk, seat_meaning};
-ghost use Rattle.lsp_callers.specs.Said.{call_said, entry_said, said_by};
+ghost use Rattle.lsp_callers.specs.Said.{call_said, entry_said, said_by, EndsUnsent, StopsShort};
 ghost use Rattle.lsp_callers.specs.Made.{entries_made, KeepsSeat};
 ghost use Rattle.lsp_callers.specs.Callers.{IsIdleOn, ComesOf};
 
@@ -72,6 +72,8 @@ fn say_all<R: Wait + Sync>(
     requires { (seat_view client.old).made ≡ [] }
     ensures said { IfOk result (λ sent. (sent ≡ plan.messages)
         × (entries_made (seat_view client.new) ≡ said_by number plan.messages)) }
+    ensures stopped { OnErr result (StopsShort number plan.messages
+        (entries_made (seat_view client.new))) }
     ensures stays { KeepsSeat (seat_desk client.old) (seat_view client.old)
         (seat_desk client.new) (seat_view client.new) }
     ensures spent { (n : ℕ) → result ≡ Err (DeskFault.Spent n) → seat_meaning.spent client.new
@@ -95,6 +97,8 @@ fn say<R: Wait + Sync>(
 ) -> Result<(), DeskFault>
     ensures said { OnOk result (entries_made (seat_view client.new)
         ≡ entries_made (seat_view client.old) ++ entry_said caller n ∷ []) }
+    ensures unsent { OnErr result (EndsUnsent caller n (entries_made (seat_view client.old))
+        (entries_made (seat_view client.new))) }
     ensures stays { KeepsSeat (seat_desk client.old) (seat_view client.old)
         (seat_desk client.new) (seat_view client.new) }
     ensures spent { (m : ℕ) → result ≡ Err (DeskFault.Spent m) → seat_meaning.spent client.new
@@ -107,7 +111,8 @@ fn say<R: Wait + Sync>(
 
 fn if_sent(reply: ClientReply) -> Result<(), DeskFault>
     ensures sent { OnOk result (reply ≡ ClientReply.Sent) }
-    ensures other { OnErr result (result ≡ Err DeskFault.NoMemory) }
+    ensures other { OnErr result (reply ≢ ClientReply.Sent) }
+    ensures err { OnErr result (result ≡ Err DeskFault.NoMemory) }
 {
     match reply {
         ClientReply::Sent => Ok(()),

@@ -118,10 +118,15 @@ impl<'a, R: Wait + Sync> Caller for Tallied<'a, R> {
 
     fn client(&mut self, call: ClientCall) -> Result<ClientReply, DeskFault>
         requires { call_has_float (show_client_call call) ≡ false }
+        ensures turned { Answered by_client (asked.Client call) (tallied_view self.old) result
+            (tallied_view self.new) }
+        ensures same { tallied_desk self.new ≡ tallied_desk self.old }
         ensures calls { Calls tallied_meaning show_client_reply self.old
             (show_client_call call) result self.new }
         ensures spent { (n : ℕ) → result ≡ Err (DeskFault.Spent n) → (n ≡ 2 ^ 64 - 1)
             × (tallied_meaning.spent self.new ≡ true) }
+        ensures spent_stays { HasTurn result (tallied_meaning.spent self.new
+            ≡ tallied_meaning.spent self.old) }
         ensures float_free { IfOk result (λ reply. reply_has_float (show_client_reply reply)
             ≡ false) }
     {

@@ -1,11 +1,13 @@
 //! The callers' seats and threads.
 ghost use Rattle.std.specs.Prelude.{◌≡◌, ◌≤◌, ◌<◌, ◌+◌, ◌++◌, ◌^◌, ◌⊎◌, ℕ, true, length, Err, IsOk, OnOk, OnErr, IfOk};
 ghost use Rattle.std.specs.List.{AllZip};
+ghost use Rattle.std.specs.Option.{option_or};
+ghost use Rattle.std.specs.Result.{result_err};
 ghost use Rattle.lsp_shared.specs.Desks.{desk_id};
 ghost use Rattle.lsp_shared.specs.Seats.{seat_view, seat_desk, seat_meaning};
 ghost use Rattle.lsp_shared.specs.Steps.{AddsClients};
 ghost use Rattle.lsp_callers.specs.Made.{entries_made};
-ghost use Rattle.lsp_callers.specs.Callers.{IsIdleOn, AreIdleFrom, AreHeardOn, ComesOf, idle_shares, heard_shares, all_said_of, messages_of, KeepsHistory};
+ghost use Rattle.lsp_callers.specs.Callers.{IsIdleOn, AreIdleFrom, AreHeardOn, ComesOf, idle_shares, heard_shares, all_said_of, messages_of, first_fault, KeepsHistory};
 ghost use Rattle.lsp_callers.specs.Tallies.{tallied_view, tallied_desk, tallied_spent};
 
 use crate::caller::{Heard, Idle, Plan, call};
@@ -79,6 +81,7 @@ pub fn gather<R: Wait + Sync>(
     ensures said { OnOk result (entries_made (tallied_view tallied.new)
         ≡ entries_made (tallied_view tallied.old) ++ all_said_of heard.items) }
     ensures sent { IfOk result (λ sent. sent ≡ messages_of heard.items) }
+    ensures fault { result_err result ≡ first_fault heard.items }
     ensures spent { (n : ℕ) → result ≡ Err (DeskFault.Spent n) → tallied_spent tallied.new ≡ true }
     ensures stays { tallied_spent tallied.old ≡ true → tallied_spent tallied.new ≡ true }
     ensures shares { (tallied_view tallied.new).share
@@ -100,6 +103,7 @@ fn added(one: Result<u64, DeskFault>, other: Result<u64, DeskFault>) -> Result<u
     requires { IfOk one (λ a. IfOk other (λ b. a + b < 2 ^ 64)) }
     ensures ok { IfOk result (λ n. IfOk one (λ a. IfOk other (λ b. n ≡ a + b))) }
     ensures both { OnOk result (IsOk one × IsOk other) }
+    ensures fault { result_err result ≡ option_or (result_err one) (result_err other) }
     ensures err { (n : ℕ) → result ≡ Err (DeskFault.Spent n)
         → (one ≡ Err (DeskFault.Spent n)) ⊎ (other ≡ Err (DeskFault.Spent n)) }
 {

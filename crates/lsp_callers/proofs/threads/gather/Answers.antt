@@ -1,16 +1,18 @@
 -- One seat more is taken in.
-use Rattle.std.proofs.Common.{◌≡◌, ◌+◌, ◌∷◌, ◌++◌, ℕ, true, sym, ap, ◌∙◌, subst, arith}
+use Rattle.std.proofs.Common.{◌≡◌, ◌+◌, ◌∷◌, ◌++◌, sym, ap, ◌∙◌, subst, arith}
 use Rattle.std.specs.Prelude.{OnOk}
+use Rattle.std.specs.Option.{option_or}
+use Rattle.std.specs.Result.{result_err}
 use Rattle.std.proofs.lemmas.List.Sums.{sum_by-cons}
 use Rattle.lsp_shared.specs.declared.view.View.{View}
 use Rattle.lsp_shared.specs.Desks.{desk_id, rested_view}
 use Rattle.lsp_shared.specs.Seats.{seat_view, seat_meaning}
 use Rattle.lsp_callers.specs.declared.caller.Heard.{Heard}
 use Rattle.lsp_callers.specs.Made.{entries_made}
-use Rattle.lsp_callers.specs.Callers.{AreHeardOn, said_of, all_said_of, messages_of, heard_shares}
+use Rattle.lsp_callers.specs.Callers.{AreHeardOn, said_of, all_said_of, messages_of, heard_shares, first_fault}
 use Rattle.lsp_callers.specs.Tallies.{tallied_view, tallied_spent}
 use Rattle.lsp_callers.proofs.MadeLemmas.{made_joined}
-use Rattle.lsp_callers.proofs.SaidLemmas.{both_said, both_sent, joined_spent_by, or_left, clients_on}
+use Rattle.lsp_callers.proofs.SaidLemmas.{both_said, both_sent, first_so_far, joined_spent_by, or_left, clients_on}
 use Rattle.lsp_callers.proofs.threads.gather.Goals as goal
 
 pub loop-heard-preserved : goal.loop-heard-preserved
@@ -35,6 +37,8 @@ loop-heard-preserved g c =
           (subst (λ l. OnOk c.loop-heard.all (entries_made v ++ all_said_of l ≡ start)) step inv.said) heard.0.said made;
       sent = both_sent (λ n. entries_made (rested_view h.seat) ≡ said_of h) (messages_of c.args.heard.items) h.messages (messages_of c.loop-heard.rest.items) (messages_of rest) c.loop-heard.all h.sent c.added-all.result
           c.added-all.ensures.both c.added-all.ensures.ok inv.sent heard.0.said (ap messages_of step ∙ sum_by-cons (λ (x : Heard). x.messages) h rest);
+      fault = first_so_far c.loop-heard.all c.added-all.result h rest c.added-all.ensures.fault
+          ∙ ap (λ l. option_or (result_err c.loop-heard.all) (first_fault l)) (sym step) ∙ inv.fault;
       spent = λ n is. c.join.ensures.spent ∙ joined_spent_by (tallied_spent c.loop-heard.tallied) (seat_meaning.spent c.sit.result) (c.added-all.ensures.err n is) (inv.spent n) (λ e. c.sit.ensures.2 ∙ heard.0.spent n e);
       stays = λ is. c.join.ensures.spent ∙ or_left (tallied_spent c.loop-heard.tallied) (seat_meaning.spent c.sit.result) (inv.stays is);
       shares = let all = ap heard_shares step ∙ sum_by-cons (λ (x : Heard). (rested_view x.seat).share) h rest in let s = inv.shares in omega (arith, share, all, s);
