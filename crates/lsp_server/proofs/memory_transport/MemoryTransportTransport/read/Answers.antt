@@ -13,8 +13,7 @@ invariant_of-self-2-clause-read c =
 
 pub invariant_of-self-2-clause-earlier : goal.invariant_of-self-2-clause-earlier
 invariant_of-self-2-clause-earlier c =
-    let made : ReadAt = record { read = c.args.self.now.at; taken = c.len.result; flushed = c.args.self.now.flushed } in
-    rw c.in-Ok.ensures.items (earlier_push (length c.args.self.now.taken.items) c.args.self.now.reads.items made (omega (arith, c.len.ensures)) c.args.self.now.earlier)
+    rw c.in-Ok.ensures.items (earlier_push (length c.args.self.now.taken.items) c.args.self.now.reads.items (record { read = _; taken = c.len.result; flushed = _ }) (omega (arith, c.len.ensures)) c.args.self.now.earlier)
 
 pub returns-clause-gives : goal.returns-clause-gives
 returns-clause-gives c = record {
