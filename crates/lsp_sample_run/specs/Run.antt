@@ -202,7 +202,9 @@ ToldByForm form left reads reads_after writes writes_after taken count taken_aft
 -- callers talked on the owner's desk, and the line of its history was written; nothing was read
 pub record EndsTalking {I O : Type 0} (clones : Clones) (source source_after : I) (sink sink_after : O) (taken taken_after : Option (List ℕ)) (owner : View) (status : ℕ) : Type 0 where
   pub known : (status ≡ 0) ⊎ (status ≡ 4) ⊎ (status ≡ 6) ⊎ (status ≡ 7)
+  -- the talk was had, whether its line was written or not
   pub talked : status ≡ 0 → HasTalked clones.count clones.messages (entries_seen owner)
+  pub unwritten : status ≡ 4 → HasTalked clones.count clones.messages (entries_seen owner)
   pub wrote : status ≡ 0 → WroteLine (entries_seen owner) taken taken_after
   pub part : 3 ≤ status → WroteLinePart (entries_seen owner) taken taken_after
   pub unread : source_after ≡ source

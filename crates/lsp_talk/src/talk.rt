@@ -44,7 +44,10 @@ pub fn talk_with<'a, R: Threads + Wait + Sync, G: Gate + Sync, O: Sink>(
     requires new { IsNew (seat_view owner) }
     requires opening { IsOpening seat_meaning owner }
     ensures known { (result.0 ≡ 0) ⊎ (result.0 ≡ 4) ⊎ (result.0 ≡ 6) ⊎ (result.0 ≡ 7) }
+    // The talk was had, whether its line was written or not.
     ensures talked { result.0 ≡ 0
+        → HasTalked clones messages (entries_seen (seat_view result.1)) }
+    ensures unwritten { result.0 ≡ 4
         → HasTalked clones messages (entries_seen (seat_view result.1)) }
     ensures wrote { result.0 ≡ 0
         → WroteLine (entries_seen (seat_view result.1)) (O.taken sink.old) (O.taken sink.new) }

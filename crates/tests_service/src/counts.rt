@@ -4,6 +4,7 @@ use crate::served::frames;
 use crate::silent::{Silent, Watched};
 use lsp_examples::count_beside;
 use lsp_rows::{RowError, Trial};
+use std::process::ExitCode;
 use std::sync::Arc;
 use std::sync::atomic::Ordering;
 
@@ -52,9 +53,10 @@ fn counted_in_silence(rt: HostRuntime) -> Result<(), RowError> {
         stage: &stage,
     };
 
-    // Its status isn't looked at, since no clause ties it to a session.
-    let _ = count_beside(&rt, alloc, input, output);
+    // The input ends before an exit.
+    let status = count_beside(&rt, alloc, input, output);
     let mut trial = Trial::new(alloc);
+    trial.is_true("its status", status == ExitCode::FAILURE);
     trial.same(
         "written before the read returned",
         stage.load(Ordering::SeqCst),

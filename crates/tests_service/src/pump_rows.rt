@@ -143,6 +143,7 @@ fn try_row<R: Threads + Wait>(
         let mut pumped = NeverSink::new(alloc);
         let status = try_way(rt, alloc, row, Some(*cut), &mut pumped)?;
         trial.same(row.name, status, expected);
+        trial.is_true(row.name, status <= 1);
         trial.is_true(row.name, pumped.bytes() == served.bytes());
     }
     Ok(())

@@ -10,6 +10,7 @@ use lsp_sample_server::{Sample, sample_service};
 use lsp_server::Server;
 use lsp_service::{LanguageServer, LspService, serve_stdio};
 use std::alloc::{AllocError, Global};
+use std::process::ExitCode;
 
 /// The frames of bodies of these lengths.
 pub(crate) fn frames(alloc: Global, bodies: &[(usize, &str)]) -> Result<String, AllocError> {
@@ -44,7 +45,8 @@ pub(crate) fn new_sample(
     }
 }
 
-/// What a session of the service writes, from its beginning to the end of these bodies.
+/// What a session of the service writes, from its beginning to the end of these bodies, with no exit
+/// among them.
 pub(crate) fn served<S: LanguageServer<PlainDesk>>(
     alloc: Global,
     service: LspService<S>,
@@ -55,7 +57,7 @@ pub(crate) fn served<S: LanguageServer<PlainDesk>>(
 {
     let bytes = framed(alloc, bodies)?;
     let mut written = Vec::new(alloc);
-    let _ = serve_stdio(
+    let status = serve_stdio(
         alloc,
         bytes.as_slice(),
         &mut written,
@@ -63,7 +65,7 @@ pub(crate) fn served<S: LanguageServer<PlainDesk>>(
         Server::new(socket),
     );
     match String::from_utf8(written) {
-        Ok(text) => Ok(text),
-        Err(_) => Err(RowError::NoMemory),
+        Ok(text) if status == ExitCode::FAILURE => Ok(text),
+        _ => Err(RowError::NoMemory),
     }
 }

@@ -7,6 +7,7 @@ use lsp_rows::{RowError, Trial};
 use lsp_server::{NeverSink, NeverSource, Server};
 use lsp_service::serve;
 use std::alloc::Global;
+use std::process::ExitCode;
 use std::str;
 
 const INITIALIZE: &str =
@@ -306,13 +307,14 @@ fn of_strange(alloc: Global, sent: &[&str]) -> Result<String, RowError> {
     served(alloc, made.service, made.socket, sent)
 }
 
+// Its exit comes after `shutdown`.
 fn of_asks(alloc: Global, sent: &[&str]) -> Result<String, RowError> {
     let bytes = framed(alloc, sent)?;
     let mut written = Vec::new(alloc);
-    let _ = serve_asks(alloc, bytes.as_slice(), &mut written);
+    let status = serve_asks(alloc, bytes.as_slice(), &mut written);
     match String::from_utf8(written) {
-        Ok(text) => Ok(text),
-        Err(_) => Err(RowError::NoMemory),
+        Ok(text) if status == ExitCode::SUCCESS => Ok(text),
+        _ => Err(RowError::NoMemory),
     }
 }
 

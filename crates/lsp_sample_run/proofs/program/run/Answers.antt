@@ -111,7 +111,7 @@ pub returns-in-Some-Talk-clause-talk : goal.returns-in-Some-Talk-clause-talk
 returns-in-Some-Talk-clause-talk g c =
     let e = c.talk_with-status.ensures in
     at_form _ (Talk c.in-Some-Talk.clones) _ (sym c.read_arguments.ensures.value ∙ c.in-Some-Talk.is ∙ ap Some c.in-Some-Talk.field-0-is)
-    (record { known = e.known; talked = e.talked; wrote = e.wrote; part = e.part; unread = refl; silent = λ seven. (e.spent seven).1; whole = e.whole })
+    (record { known = e.known; talked = e.talked; unwritten = e.unwritten; wrote = e.wrote; part = e.part; unread = refl; silent = λ seven. (e.spent seven).1; whole = e.whole })
 
 pub returns-in-Some-Talk-clause-told : goal.returns-in-Some-Talk-clause-told
 returns-in-Some-Talk-clause-told g c =

@@ -83,6 +83,11 @@ returns-in-Ok-end-clause-talked g c = λ zero.
     subst (λ (x : View). HasTalked c.args.clones c.args.messages (entries_seen x)) (sym c.into_owner-in-Ok-end.ensures.0)
     (has_talked g c)
 
+pub returns-in-Ok-end-clause-unwritten : goal.returns-in-Ok-end-clause-unwritten
+returns-in-Ok-end-clause-unwritten g c = λ four.
+    subst (λ (x : View). HasTalked c.args.clones c.args.messages (entries_seen x)) (sym c.into_owner-in-Ok-end.ensures.0)
+    (has_talked g c)
+
 pub returns-in-Ok-end-clause-wrote : goal.returns-in-Ok-end-clause-wrote
 returns-in-Ok-end-clause-wrote g c = λ zero.
     let taken = g.O.Sink.taken c.args.sink.now in
