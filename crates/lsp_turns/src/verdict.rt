@@ -13,12 +13,13 @@ pub struct Verdict {
     entries: u64,
     /// How many calls were noted.
     noted: usize,
+    /// How many of them were out of memory.
+    lacked: u64,
     /// The noted calls stand at the places 0, 1, 2 and so on of the history, each at one.
     places: bool,
     /// The tickets that were given are 0, 1, 2 and so on, in the order of the places.
     tickets: bool,
-    /// Each reply is what a desk that one thread uses replies at that place, or the call was out of
-    /// memory.
+    /// Each reply is what a desk that one thread uses replies at that place.
     replies: bool,
     /// The owner has the whole share again.
     whole: bool,
@@ -33,6 +34,7 @@ impl Verdict {
         let mut verdict = Verdict {
             entries: made.entries,
             noted: all.len(),
+            lacked: 0,
             places: true,
             tickets: true,
             replies: true,
@@ -47,17 +49,19 @@ impl Verdict {
                 verdict.tickets &= ticket == tickets;
                 tickets = tickets.wrapping_add(1);
             }
-            if !told.lacked_memory() {
-                let again = told.again(alloc, &mut desk)?;
-                verdict.replies &= is_same(alloc, &again, &told.reply)?;
+            if told.lacked_memory() {
+                verdict.lacked = verdict.lacked.saturating_add(1);
+                continue;
             }
+            let again = told.again(alloc, &mut desk)?;
+            verdict.replies &= is_same(alloc, &again, &told.reply)?;
         }
         Ok(verdict)
     }
 
-    /// Whether the notes are those of one desk, and each seat came back.
+    /// Whether the notes are those of one desk, no call lacked memory, and each seat came back.
     pub fn is_right(&self) -> bool {
-        self.places && self.tickets && self.replies && self.whole
+        self.places && self.tickets && self.replies && self.whole && self.lacked == 0
     }
 }
 
@@ -70,9 +74,10 @@ impl fmt::Display for Verdict {
     fn fmt<W: fmt::Write>(&self, f: &mut fmt::Formatter<W>) -> fmt::Result {
         write!(
             f,
-            "{} entries, {} of them noted: each place once: {}; each ticket once: {}; each reply in its place: {}; whole share: {}; seats overlapped: {}",
+            "{} entries, {} of them noted, {} out of memory: each place once: {}; each ticket once: {}; each reply in its place: {}; whole share: {}; seats overlapped: {}",
             self.entries,
             self.noted,
+            self.lacked,
             self.places,
             self.tickets,
             self.replies,

@@ -112,6 +112,8 @@ const LIMITED: &[Limited] = &[
         ],
         left: "Ok([Number(2), Number(3)])",
     },
+    // It waits all the same: once the cancel has freed the slot, 3 is echoed, and then the notification
+    // is heeded, whose greeting shows it.
     Limited {
         name: "a notification past that limit",
         lets_in: false,
@@ -124,9 +126,15 @@ const LIMITED: &[Limited] = &[
             "{\"jsonrpc\":\"2.0\",\"method\":\"workspace/executeCommand\",\"params\":{\"command\":\"wait\",\"arguments\":[1000]},\"id\":2}",
             "{\"jsonrpc\":\"2.0\",\"method\":\"workspace/executeCommand\",\"params\":{\"command\":\"echo\",\"arguments\":[\"x\"]},\"id\":3}",
             "{\"jsonrpc\":\"2.0\",\"method\":\"initialized\",\"params\":{}}",
+            "{\"jsonrpc\":\"2.0\",\"method\":\"$/cancelRequest\",\"params\":{\"id\":2}}",
         ],
-        answers: &[INITIALIZED],
-        left: "Ok([Number(2), Number(3)])",
+        answers: &[
+            INITIALIZED,
+            "{\"jsonrpc\":\"2.0\",\"error\":{\"code\":-32800,\"message\":\"Canceled\"},\"id\":2}",
+            "{\"jsonrpc\":\"2.0\",\"result\":\"x\",\"id\":3}",
+            "{\"jsonrpc\":\"2.0\",\"method\":\"window/logMessage\",\"params\":{\"message\":\"server initialized!\",\"type\":3}}",
+        ],
+        left: "Ok([])",
     },
     // One read of 50 bytes tells nothing of a frame of 97.
     Limited {
