@@ -62,7 +62,8 @@ impl<S> LspService<S> {
 }
 
 impl<S, D: Desk + Drop> LspServiceBuilder<S, D> {
-    /// Registers a custom method behind the others, and answers its number, from 0.
+    /// Registers a custom method behind the others, and answers its number, from 0. Of a name that is
+    /// registered already, the first is found, and none comes under this number.
     pub fn custom_method(&mut self, name: &str, kind: Kind) -> Result<u64, NoMemory>
         ensures number { IfOk result (λ number.
             number ≡ length (customs_of self.old.service.table)) }
