@@ -97,7 +97,7 @@ module _ {H D C T P : Type 0} {semantics : Semantics H C T} (laws : IsLawfulHand
     within = within;
   }
 
-  module _ (error : ServeError) (p : PumpComes (Some error)) (stopped : Stopped D) (is : stopped.error ≡ error) (desk : stopped.desk ≡ view.desk) where
+  module _ (error : ServeError) (p : PumpComes (Some error)) (seen : m.now view.desk ≡ view.state.desk) (stopped : Stopped D) (is : stopped.error ≡ error) (desk : stopped.desk ≡ view.desk) where
     pub pump_stopped : PumpsSession (course semantics m order setting) told reads pick (Err stopped)
     pump_stopped =
         let spent : SaysSpent m view.desk stopped.error = subst (SaysSpent m view.desk) (sym is) p.spent in
@@ -120,8 +120,8 @@ module _ {H D C T P : Type 0} {semantics : Semantics H C T} (laws : IsLawfulHand
               let exact = (some_at told.left _ bytes told_is p.pumps).exact in
               pump_unfailed m desk_laws setting.desk view.desk p.grown _ _ reads bytes told.left_after error p.spent (λ between. let t = exact between in (t.read, t.gives))
               p.faults.read p.faults.write (λ e. some_at told.left _ bytes told_is (p.within.reads_spent e)) enough no_read no_write));
-          exact = λ between. if_some told.left (λ bytes s. subst (WrotePumped (course semantics m order setting) (bytes_told told bytes)) (sym desk)
-              (record { last = picked view pick; told = s.exact (subst IsBetweenReads is between) })) p.pumps;
+          exact = λ between. if_some told.left (λ bytes s. subst (λ d. WrotePumped (course semantics m order setting) (bytes_told told bytes) d pick) (sym desk)
+              (record { session = view.state; told = s.exact (subst IsBetweenReads is between); desk_is = seen })) p.pumps;
           part = if_some told.left (λ bytes s. subst (PumpedPart (course semantics m order setting) (stream_items (codec_of setting) bytes) (bytes_told told bytes)) (sym desk) s.part) p.pumps;
           grown = tt;
           grown_stopped = subst (Grown m setting.desk) (sym desk) p.grown;
@@ -132,4 +132,4 @@ module _ {H D C T P : Type 0} {semantics : Semantics H C T} (laws : IsLawfulHand
       → IfOk result (λ served. show_served served ≡ handed_back view) → IfErr result (λ stopped. (stopped.error ≡ NoMemory) × (stopped.desk ≡ view.desk))
       → PumpsSession (course semantics m order setting) told reads pick result
   pump_ended p desk (Ok served) handed is = session_pumped p desk served handed
-  pump_ended p desk (Err stopped) handed is = pump_stopped NoMemory (pump_lacks_memory (course semantics m order setting) told reads (picked view pick) view.desk _ p) stopped is.0 is.1
+  pump_ended p desk (Err stopped) handed is = pump_stopped NoMemory (pump_lacks_memory (course semantics m order setting) told reads (picked view pick) view.desk _ p) desk stopped is.0 is.1

@@ -73,10 +73,11 @@ pub record IsPumped {H D C T P : Type 0} (course : Course (Picked (State H C T) 
   -- each owed request and each fault is answered once, but for what is listed
   pub counts : Counts course.find list ran.effect.out served_view.unanswered
 
--- between two reads what was written is exact
-pub record WrotePumped {S D : Type 0} (course : Course S D) (call : CallBytes) (desk : D) : Type 0 where
-  pub last : S
-  pub told : PumpedTold course (start_by course.codec) call last desk
+-- between two reads what was written is exact, of the session that leaves this desk and left its pick in this state
+pub record WrotePumped {H D C T P : Type 0} (course : Course (Picked (State H C T) P) D) (call : CallBytes) (desk : D) (pick : P) : Type 0 where
+  pub session : State H C T
+  pub told : PumpedTold course (start_by course.codec) call (record { session = session; pick = pick }) desk
+  pub desk_is : course.meaning.now desk ≡ session.desk
 
 -- ---- faults
 

@@ -42,8 +42,8 @@ module _ {H D C T P : Type 0} (course : Course (Picked (State H C T) P) D) where
     -- so with no failure, and with more reads than bytes, only NoMemory may come, and DeskSpent over a desk that others use
     pub complete : IfErr result (λ stopped. IfSome told.left (λ bytes. length bytes < reads → ¬ CountRose told.reads_failed told.reads_failed_after
         → ¬ CountRose told.writes_failed told.writes_failed_after → ComesUnfailed (course.meaning.alone course.desk) stopped.error))
-    -- what was written by then
-    pub exact : IfErr result (λ stopped. IsBetweenReads stopped.error → IfSome told.left (λ bytes. WrotePumped course (bytes_told told bytes) stopped.desk))
+    -- what was written by then; where the error is between reads, by the session that left the pick in this state
+    pub exact : IfErr result (λ stopped. IsBetweenReads stopped.error → IfSome told.left (λ bytes. WrotePumped course (bytes_told told bytes) stopped.desk pick))
     pub part : IfErr result (λ stopped. IfSome told.left (λ bytes. PumpedPart course (stream_items course.codec bytes) (bytes_told told bytes) stopped.desk))
     -- at each answer the desk that is handed back has grown from the one that was handed in
     pub grown : IfOk result (λ served. Grown course.meaning course.desk served.desk)

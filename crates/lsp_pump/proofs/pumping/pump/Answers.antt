@@ -91,5 +91,5 @@ returns g c =
     let p = rw c.in-Err.is at c.pump_session-source.ensures.comes in
     pump_stopped g.met.H.Handlers.laws m g.met.D.Caller.laws order set told c.args.reads after p2 c.in-Err.error
     (comes_to g.met.H.Handlers.laws m g.met.D.Caller.laws order set told c.args.reads after p2 (session_view sem m opened.result.1) opened.result.0 opened.ensures.view opened.ensures.codec (Some c.in-Err.error)
-    p.pumps p.grown p.spent p.flushed p.faults p.within) c.stop.result c.stop.ensures.error desk)
+    p.pumps p.grown p.spent p.flushed p.faults p.within) refl c.stop.result c.stop.ensures.error desk)
     (search rules) (search rules)
