@@ -74,7 +74,7 @@ module _ {H D C T : Type 0} (course : Course (Picked (State H C T) ⊤) D) (call
   }
 
   pump_ends_stopped : (e : ServeError) (desk : D) → n ≡ status_of e
-      → (IsBetweenReads e → WrotePumped course call desk) → (e ≡ ReadsSpent → IfSome call.left (λ rest. 2 ^ 64 - 1 + length rest ≤ length call.bytes))
+      → (IsBetweenReads e → WrotePumped course call desk tt) → (e ≡ ReadsSpent → IfSome call.left (λ rest. 2 ^ 64 - 1 + length rest ≤ length call.bytes))
       → SaysSpent course.meaning desk e → Grown course.meaning course.desk desk → PumpedPart course (stream_items course.codec call.bytes) call desk
       → PumpEndsWith course call failed failed_after n
   pump_ends_stopped e desk is told spent says grown part = record {
@@ -103,7 +103,7 @@ module _ {H D C T : Type 0} (course : Course (Picked (State H C T) ⊤) D) (o le
   whole_told view is unread = on_both o _ _ _ (λ bytes pumps enough. pump_ends_whole course (call_of bytes) failed failed_after n view is unread pumps enough)
 
   pub stopped_told : (e : ServeError) (desk : D) → n ≡ status_of e
-      → (IsBetweenReads e → IfSome o (λ bytes. WrotePumped course (call_of bytes) desk)) → (e ≡ ReadsSpent → IfSome o (λ bytes. IfSome left (λ rest. 2 ^ 64 - 1 + length rest ≤ length bytes)))
+      → (IsBetweenReads e → IfSome o (λ bytes. WrotePumped course (call_of bytes) desk tt)) → (e ≡ ReadsSpent → IfSome o (λ bytes. IfSome left (λ rest. 2 ^ 64 - 1 + length rest ≤ length bytes)))
       → SaysSpent course.meaning desk e → Grown course.meaning course.desk desk → IfSome o (λ bytes. PumpedPart course (stream_items course.codec bytes) (call_of bytes) desk) → EndsTold
   stopped_told e desk is told spent says grown = on_all o _ _ _ _ (λ bytes whole few part. pump_ends_stopped course (call_of bytes) failed failed_after n e desk is whole few says grown part) told spent
 

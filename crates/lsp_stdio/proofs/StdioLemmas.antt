@@ -10,7 +10,7 @@ use Rattle.lsp_server.specs.declared.step.ServeError.{ServeError}
 use Rattle.lsp_server.specs.declared.step.ServeError.TheVariants.{ReadFault, WriteFault, ReadsSpent, NoMemory, DeskSpent}
 use Rattle.lsp_server.specs.Course.{Course}
 use Rattle.lsp_server.specs.Errors.{IsBetweenReads, SaysSpent}
-use Rattle.lsp_server.specs.Served.{CallBytes, call_bytes, ServedView, IsServed, ReadEnough, WroteTold, WrotePart}
+use Rattle.lsp_server.specs.Served.{CallBytes, call_bytes, ServedView, IsServed, ReadEnough, WrotePicked, WrotePart}
 use Rattle.lsp_program.specs.Status.{status_of}
 use Rattle.lsp_program.proofs.StatusLemmas.{status_of_high, status_five, status_between}
 use Rattle.lsp_stdio.specs.Status.{status_at, IsShutDown, IsNotShutDown}
@@ -60,7 +60,7 @@ module _ {H D C T : Type 0} (course : Course (Picked (State H C T) ⊤) D) (call
   }
 
   pub ends_stopped : (e : ServeError) (desk : D) → n ≡ status_of e
-      → (IsBetweenReads e → WroteTold course call desk) → (e ≡ ReadsSpent → IfSome call.left (λ rest. 2 ^ 64 - 1 + length rest ≤ length call.bytes))
+      → (IsBetweenReads e → WrotePicked course call desk tt) → (e ≡ ReadsSpent → IfSome call.left (λ rest. 2 ^ 64 - 1 + length rest ≤ length call.bytes))
       → SaysSpent course.meaning desk e → WrotePart course call 4096 desk → EndsWith course call n
   ends_stopped e desk is told spent says part = record {
     done = λ zero. absurd (omega (arith, is, zero, status_of_high e));

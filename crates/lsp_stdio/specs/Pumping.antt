@@ -32,7 +32,7 @@ module _ {H D C T : Type 0} (course : Course (Picked (State H C T) ⊤) D) where
     pub desk : D
     pub part : PumpedPart course (stream_items course.codec call.bytes) call desk
     -- a read failed, or no more can be counted: what was written is that of the items told by the bytes read
-    pub exact : (status ≡ 3) ⊎ (status ≡ 5) → WrotePumped course call desk
+    pub exact : (status ≡ 3) ⊎ (status ≡ 5) → WrotePumped course call desk tt
     pub reads_spent : status ≡ 5 → IfSome call.left (λ rest. 2 ^ 64 - 1 + length rest ≤ length call.bytes)
     pub desk_spent : status ≡ 7 → course.meaning.spent desk ≡ true
     pub grown : Grown course.meaning course.desk desk

@@ -4,7 +4,7 @@ use Rattle.lsp_desk.specs.declared.life.Life.{Life}
 use Rattle.lsp_session.specs.State.{State}
 use Rattle.lsp_session.specs.Run.{Order, Picked, order_by}
 use Rattle.lsp_server.specs.Course.{Course}
-use Rattle.lsp_server.specs.Served.{CallBytes, call_bytes, ServedView, IsServed, ReadEnough, WroteTold, WrotePart}
+use Rattle.lsp_server.specs.Served.{CallBytes, call_bytes, ServedView, IsServed, ReadEnough, WrotePicked, WrotePart}
 use Rattle.lsp_stdio.specs.Status.{IsShutDown, IsNotShutDown}
 
 -- the calls are polled in order of admission
@@ -26,7 +26,7 @@ module _ {H D C T : Type 0} (course : Course (Picked (State H C T) ⊤) D) where
     pub desk : D
     pub part : WrotePart course call 4096 desk
     -- a read failed, or no more can be counted: what was written is that of the items told by the bytes read
-    pub exact : (status ≡ 3) ⊎ (status ≡ 5) → WroteTold course call desk
+    pub exact : (status ≡ 3) ⊎ (status ≡ 5) → WrotePicked course call desk tt
     pub reads_spent : status ≡ 5 → IfSome call.left (λ rest. 2 ^ 64 - 1 + length rest ≤ length call.bytes)
     pub desk_spent : status ≡ 7 → course.meaning.spent desk ≡ true
 
