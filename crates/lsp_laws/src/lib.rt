@@ -2,5 +2,7 @@
 #![tactic(auto)]
 
 mod desk;
+mod session;
 
 pub use desk::answers_come_back;
+pub use session::lives_follow;

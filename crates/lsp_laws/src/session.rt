@@ -1,0 +1,12 @@
+// How the life of a session follows what comes of its requests.
+ghost use Rattle.lsp_laws.specs.Lives.{LivesFollow};
+
+use lsp_desk::Caller;
+use lsp_session::Handlers;
+
+/// A life follows what comes of `initialize` and `shutdown`: Initializing once an `initialize`
+/// begins, Initialized where it ends well, Uninitialized where it ends with an error or is
+/// cancelled, ShutDown after a `shutdown`. Nothing else changes it but an `exit`.
+pub fn lives_follow<D: Caller, H: Handlers<D>>()
+    ensures { LivesFollow H.semantics }
+{}
