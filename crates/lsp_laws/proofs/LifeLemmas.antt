@@ -96,7 +96,7 @@ module _ {C : Type 0} (o : Occasion) (a : Admission C) where
 
 module _ {C : Type 0} (o : Occasion) (find : List ℕ → Option Entry) (reads : Entry → Option Data → Reading C) (r : RequestData) where
   -- the admission of a request of a registered method
-  by_its_layer : (entry : Entry) (layer : Layer) → find r.method ≡ Some entry → entry.layer ≡ layer → admission o find reads (message (request r)) ≡ by_layer o r entry (reads entry r.params) layer
+  pub by_its_layer : (entry : Entry) (layer : Layer) → find r.method ≡ Some entry → entry.layer ≡ layer → admission o find reads (message (request r)) ≡ by_layer o r entry (reads entry r.params) layer
   by_its_layer entry layer found is = ap (by_entry o reads r) found ∙ ap (by_layer o r entry (reads entry r.params)) is
 
   -- a cancel that names a live id

@@ -5,4 +5,4 @@ mod desk;
 mod session;
 
 pub use desk::answers_come_back;
-pub use session::lives_follow;
+pub use session::{calls_begin, lives_follow};

@@ -1,5 +1,6 @@
-// How the life of a session follows what comes of its requests.
+// How the life of a session follows what comes of its requests, and where its calls begin.
 ghost use Rattle.lsp_laws.specs.Lives.{LivesFollow};
+ghost use Rattle.lsp_laws.specs.Starts.{CallsBegin};
 
 use lsp_desk::Caller;
 use lsp_session::Handlers;
@@ -9,4 +10,10 @@ use lsp_session::Handlers;
 /// cancelled, ShutDown after a `shutdown`. Nothing else changes it but an `exit`.
 pub fn lives_follow<D: Caller, H: Handlers<D>>()
     ensures { LivesFollow H.semantics }
+{}
+
+/// A call begins where the life, the kind, the id, the params and the slots let it: an `initialize`
+/// where none has begun, any other once it has ended well.
+pub fn calls_begin<D: Caller, H: Handlers<D>>()
+    ensures { CallsBegin H.semantics }
 {}
