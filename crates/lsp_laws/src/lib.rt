@@ -1,0 +1,8 @@
+//! More of what every desk and every session keeps: functions whose contract is a law.
+#![tactic(auto)]
+
+mod desk;
+mod session;
+
+pub use desk::answers_come_back;
+pub use session::{calls_begin, lives_follow};
