@@ -38,9 +38,13 @@ pub record PollTells (d : DeskState) (ticket : ℕ) : Type 0 where
 
 -- an answer was given for a ticket for which none was kept, and none of the ticket's answers was taken since
 pub record WasGiven (d : DeskState) (r : ResponseData) (d2 : DeskState) (entries : List DeskEntry) (d3 : DeskState) : Type 0 where
+  -- it went to the oldest request of its id
   pub goes : ReachesOldest d r d2
+  -- for whose ticket none was kept
   pub none_kept : list_any (is_kept_for goes.oldest.ticket) d.kept ≡ false
+  -- these entries were made since
   pub replays : Replays d2 entries d3
+  -- and none of them takes an answer of the ticket
   pub none_taken : times goes.oldest.ticket (all_answered entries) ≡ 0
 
 -- ---- from the call to the poll
@@ -52,24 +56,34 @@ answers_id i _ = false
 
 -- a call was given a ticket for a request with this id; neither was another's
 pub record WasAsked (d : DeskState) (call : Call) (ticket : ℕ) (i : IdData) : Type 0 where
+  -- the call was given the ticket, and the id
   pub ticketed : (desk_step d call).0 ≡ replies.Ticket ticket i
+  -- no other request of the id was awaited
   pub new_id : list_any (has_id i) d.awaited ≡ false
+  -- nor was the ticket open for another
   pub new_ticket : times ticket (open_tickets d) ≡ 0
 
 -- until these entries were made the ticket was not given again, and no answer to the id came
 pub record WasAwaited (d : DeskState) (ticket : ℕ) (i : IdData) (entries : List DeskEntry) (d2 : DeskState) : Type 0 where
+  -- these entries were made
   pub replays : Replays d entries d2
+  -- none of them gives the ticket again
   pub none_given : times ticket (all_given entries) ≡ 0
+  -- and none of them is an answer to the id
   pub none_came : list_any (λ (e : DeskEntry). answers_id i e.call) entries ≡ false
 
 -- the first answer to the id came, and none of the ticket's answers was taken since
 pub record WasAnswered (d : DeskState) (ticket : ℕ) (i : IdData) (r : ResponseData) (entries : List DeskEntry) (d2 : DeskState) : Type 0 where
+  -- it is to the id, and was given
   pub to_id : r.id ≡ i
   pub given : (desk_step d (calls.Answer r)).0 ≡ replies.Given
+  -- these entries were made since
   pub replays : Replays (desk_step d (calls.Answer r)).1 entries d2
+  -- and none of them takes an answer of the ticket
   pub none_taken : times ticket (all_answered entries) ≡ 0
 
 pub record AnswersComeBack : Type 0 where
+  -- what a poll comes to, in every state
   pub polls : (d : DeskState) (ticket : ℕ) → PollTells d ticket
   -- the answer that was given for a ticket is what a later poll of the ticket is replied
   pub given_is_told : (d d2 d3 : DeskState) (r : ResponseData) (entries : List DeskEntry) (given : WasGiven d r d2 entries d3)

@@ -16,8 +16,11 @@ use Rattle.lsp_session.specs.Laws.{IsCancelOf}
 -- a poll of an `initialize` that goes on ends it with this outcome
 pub record EndsInitialize {H C T : Type 0} (semantics : Semantics H C T) (s : State H semantics.Call semantics.Task) (place : ℕ) (e : Effect) (s2 : State H semantics.Call semantics.Task)
     (p : Poll semantics s place e s2) (outcome : Result Data ErrorData) : Type 0 where
+  -- the life is that while one goes on
   pub goes_on : s.desk.life ≡ Initializing
+  -- the call that is polled is an `initialize`
   pub in_layer : p.work.entry.layer ≡ Initialize
+  -- and ends so
   pub ends : p.progress ≡ Done outcome
 
 -- the item is a request or a notification of a registered method in this layer
@@ -30,7 +33,9 @@ pub record IsOfLayer {H C T : Type 0} (semantics : Semantics H C T) (service : H
 
 -- the item cancels an `initialize` that goes on, under this id
 pub record CancelsInitialize {H C T : Type 0} (semantics : Semantics H C T) (s : State H semantics.Call semantics.Task) (item : ItemData) (i : IdData) : Type 0 where
+  -- it names the id
   pub cancels : IsCancelOf semantics s.service item i
+  -- under which an `initialize` goes on
   pub goes_on : is_live i (initializing s) ≡ true
 
 -- an `initialize` begins with the admission of the item
@@ -43,9 +48,13 @@ pub record BeginsInitialize {H C T : Type 0} (semantics : Semantics H C T) (s : 
 
 -- the item is none of those whose admission changes a life
 pub record IsOther {H C T : Type 0} (semantics : Semantics H C T) (s : State H semantics.Call semantics.Task) (item : ItemData) : Type 0 where
+  -- it is no `exit`
   pub no_exit : is_exit (semantics.find s.service) item ≡ false
+  -- it begins no `initialize`
   pub no_begin : ¬ (BeginsInitialize semantics s item)
+  -- it is no `shutdown` that comes to an initialized session
   pub no_shutdown : s.desk.life ≡ Initialized → ¬ (IsOfLayer semantics s.service item Shutdown)
+  -- it cancels no `initialize`
   pub no_cancel : (i : IdData) → ¬ (CancelsInitialize semantics s item i)
 
 pub record LivesFollow {H C T : Type 0} (semantics : Semantics H C T) : Type 0 where
@@ -55,9 +64,10 @@ pub record LivesFollow {H C T : Type 0} (semantics : Semantics H C T) : Type 0 w
   -- where it ends with a result, Initialized
   pub ended_well : (s s2 : State H semantics.Call semantics.Task) (place : ℕ) (e : Effect) (p : Poll semantics s place e s2) (value : Data) → EndsInitialize semantics s place e s2 p (Ok value)
       → s2.desk.life ≡ Initialized
-  -- and where it ends with an error, or is cancelled, Uninitialized
+  -- where it ends with an error, Uninitialized
   pub failed : (s s2 : State H semantics.Call semantics.Task) (place : ℕ) (e : Effect) (p : Poll semantics s place e s2) (error : ErrorData) → EndsInitialize semantics s place e s2 p (Err error)
       → s2.desk.life ≡ Uninitialized
+  -- and so where it is cancelled
   pub cancelled : (s s2 : State H semantics.Call semantics.Task) (item : ItemData) (i : IdData) (e : Effect) → s.desk.life ≡ Initializing → CancelsInitialize semantics s item i
       → Admits semantics s (admission_of semantics s item) e s2 → s2.desk.life ≡ Uninitialized
   -- a `shutdown` that comes to an initialized session shuts it down, whatever it is answered

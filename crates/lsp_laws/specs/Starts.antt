@@ -25,9 +25,12 @@ pub record IsCallOf {H C T : Type 0} (semantics : Semantics H C T) (s : State H 
   pub r : RequestData
   pub item_is : item ≡ message (request r)
   pub id_is : r.id ≡ id
+  -- the method is registered, in this layer
   pub found : semantics.find s.service r.method ≡ Some entry
   pub in_layer : entry.layer ≡ layer
+  -- the id is as the kind of the method wants it
   pub of_kind : FitsKind entry.kind id (live s)
+  -- the params are read so
   pub read : reads_in semantics s entry r.params ≡ call c
 
 pub record CallsBegin {H C T : Type 0} (semantics : Semantics H C T) : Type 0 where
