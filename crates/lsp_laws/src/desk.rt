@@ -1,9 +1,11 @@
 // What comes of the answers that a desk is given.
 ghost use Rattle.lsp_laws.specs.Answers.{AnswersComeBack};
 
-/// A poll of a ticket is replied the first answer that is kept for it, which is kept no more. An
-/// answer that is given for a ticket is what the next poll of the ticket is replied, whatever is
-/// called in between, and the ticket is that of the call that asked.
+/// A poll of a ticket is replied the oldest answer that is kept for it, which is kept no more. An
+/// answer that is given for a ticket for which none was kept is what the next poll of the ticket is
+/// replied, whatever is called in between. So the first answer to the id under which a call asked
+/// is what a later poll of that call's ticket is replied, unless the id or the ticket was open for
+/// another (JSON-RPC 2.0, "Response object").
 pub fn answers_come_back()
     ensures { AnswersComeBack }
 {}

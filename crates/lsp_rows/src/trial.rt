@@ -1,5 +1,7 @@
 // What a test tries in turn.
-use crate::error::{RowError, compare};
+ghost use Rattle.std.specs.Prelude.{OnOk};
+
+use crate::error::{RowError, compare, untrue};
 use crate::question::Question;
 use crate::told::Told;
 use crate::{holds, text_of};
@@ -44,6 +46,21 @@ fn clones<T: Wire + Clone + Debug>(alloc: Global, rows: &str) -> Result<(), RowE
     }
 }
 
+// The error of a value that is another one than was expected, also where Debug shows both alike.
+fn is_other(
+    alloc: Global,
+    what: Result<String, AllocError>,
+    expected: Result<String, AllocError>,
+    found: Result<String, AllocError>,
+) -> Result<(), RowError>
+    ensures { OnOk result ⊥ }
+{
+    let what = what?;
+    let expected = expected?;
+    let found = found?;
+    Err(untrue(alloc, what.as_str(), expected.as_str(), found.as_str())?)
+}
+
 fn is_same<W: Display, T: PartialEq + Debug>(
     alloc: Global,
     what: &W,
@@ -53,11 +70,10 @@ fn is_same<W: Display, T: PartialEq + Debug>(
     if *found == *expected {
         return Ok(());
     }
-    let shown = format!(in alloc; "{expected:?}")?;
-    is_text(
+    is_other(
         alloc,
         format!(in alloc; "{what}"),
-        shown.as_str(),
+        format!(in alloc; "{expected:?}"),
         format!(in alloc; "{found:?}"),
     )
 }
