@@ -2,7 +2,7 @@
 ghost use Rattle.lsp_base.specs.Capability.{symbol_kind_capability_row};
 
 use lsp_kinds::SymbolKind;
-use lsp_shape::{Misfit, NoMemory, Reader, Wire, Writer};
+use lsp_shape::{Misfit, NoMemory, Optional, Wire, Writer, read_object};
 use serde_json::Value;
 use std::alloc::Global;
 
@@ -20,10 +20,8 @@ impl Wire for SymbolKindCapability {
     ghost shown = { symbol_kind_capability_row.shown };
 
     fn from_value(alloc: Global, value: &Value) -> Result<SymbolKindCapability, Misfit> {
-        let object = Reader::new(alloc, value)?;
-        Ok(SymbolKindCapability {
-            value_set: object.optional("valueSet")?,
-        })
+        let value_set = read_object(alloc, value, Optional("valueSet"))?;
+        Ok(SymbolKindCapability { value_set })
     }
 
     fn to_value(&self, alloc: Global) -> Result<Value, NoMemory> {

@@ -2,7 +2,7 @@
 ghost use Rattle.std.specs.Prelude.{◌≡◌, [], string_bytes};
 ghost use Rattle.lsp_base.specs.Command.{command_row};
 
-use lsp_shape::{Misfit, NoMemory, Reader, Wire, Writer};
+use lsp_shape::{Misfit, NoMemory, Optional, Required, Wire, Writer, read_object};
 use serde_json::Value;
 use std::alloc::Global;
 
@@ -46,11 +46,19 @@ impl Wire for Command {
     ghost shown = { command_row.shown };
 
     fn from_value(alloc: Global, value: &Value) -> Result<Command, Misfit> {
-        let object = Reader::new(alloc, value)?;
+        let (title, command, arguments) = read_object(
+            alloc,
+            value,
+            (
+                Required("title"),
+                Required("command"),
+                Optional("arguments"),
+            ),
+        )?;
         Ok(Command {
-            title: object.field("title")?,
-            command: object.field("command")?,
-            arguments: object.optional("arguments")?,
+            title,
+            command,
+            arguments,
         })
     }
 

@@ -5,7 +5,7 @@ ghost use Rattle.lsp_base.specs.Position.{first_range};
 
 use crate::position::{Location, NumberOrString, Position, Range};
 use lsp_kinds::{DiagnosticSeverity, DiagnosticTag};
-use lsp_shape::{Copies, Misfit, NoMemory, Reader, Wire, Writer};
+use lsp_shape::{Copies, Misfit, NoMemory, Optional, Required, Wire, Writer, read_object};
 use lsp_uri::Uri;
 use serde_json::Value;
 use std::alloc::{AllocError, Global};
@@ -24,10 +24,8 @@ impl Wire for CodeDescription {
     ghost shown = { code_description_row.shown };
 
     fn from_value(alloc: Global, value: &Value) -> Result<CodeDescription, Misfit> {
-        let object = Reader::new(alloc, value)?;
-        Ok(CodeDescription {
-            href: object.field("href")?,
-        })
+        let href = read_object(alloc, value, Required("href"))?;
+        Ok(CodeDescription { href })
     }
 
     fn to_value(&self, alloc: Global) -> Result<Value, NoMemory> {
@@ -53,11 +51,12 @@ impl Wire for DiagnosticRelatedInformation {
     ghost shown = { diagnostic_related_information_row.shown };
 
     fn from_value(alloc: Global, value: &Value) -> Result<DiagnosticRelatedInformation, Misfit> {
-        let object = Reader::new(alloc, value)?;
-        Ok(DiagnosticRelatedInformation {
-            location: object.field("location")?,
-            message: object.field("message")?,
-        })
+        let (location, message) = read_object(
+            alloc,
+            value,
+            (Required("location"), Required("message")),
+        )?;
+        Ok(DiagnosticRelatedInformation { location, message })
     }
 
     fn to_value(&self, alloc: Global) -> Result<Value, NoMemory> {
@@ -196,17 +195,38 @@ impl Wire for Diagnostic {
     ghost shown = { diagnostic_row.shown };
 
     fn from_value(alloc: Global, value: &Value) -> Result<Diagnostic, Misfit> {
-        let object = Reader::new(alloc, value)?;
+        let (
+            (range, severity, code, code_description, source),
+            (message, related_information, tags, payload),
+        ) = read_object(
+            alloc,
+            value,
+            (
+                (
+                    Required("range"),
+                    Optional("severity"),
+                    Optional("code"),
+                    Optional("codeDescription"),
+                    Optional("source"),
+                ),
+                (
+                    Required("message"),
+                    Optional("relatedInformation"),
+                    Optional("tags"),
+                    Optional("data"),
+                ),
+            ),
+        )?;
         Ok(Diagnostic {
-            range: object.field("range")?,
-            severity: object.optional("severity")?,
-            code: object.optional("code")?,
-            code_description: object.optional("codeDescription")?,
-            source: object.optional("source")?,
-            message: object.field("message")?,
-            related_information: object.optional("relatedInformation")?,
-            tags: object.optional("tags")?,
-            payload: object.optional("data")?,
+            range,
+            severity,
+            code,
+            code_description,
+            source,
+            message,
+            related_information,
+            tags,
+            payload,
         })
     }
 

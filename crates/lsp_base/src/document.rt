@@ -7,7 +7,7 @@ ghost use Rattle.std.specs.Ordering.{on, then_cmp, as_partial_cmp};
 ghost use Rattle.lsp_base.specs.Document.{text_document_identifier_row, text_document_item_row, versioned_text_document_identifier_row, optional_versioned_text_document_identifier_row, text_document_position_params_row, document_filter_row, text_document_content_change_event_row, workspace_folder_row};
 
 use crate::position::{Position, Range};
-use lsp_shape::{Misfit, NoMemory, Reader, Wire, Writer};
+use lsp_shape::{Misfit, NoMemory, Optional, Required, Wire, Writer, read_object};
 use lsp_uri::Uri;
 use serde_json::Value;
 use std::alloc::Global;
@@ -36,10 +36,8 @@ impl Wire for TextDocumentIdentifier {
     ghost shown = { text_document_identifier_row.shown };
 
     fn from_value(alloc: Global, value: &Value) -> Result<TextDocumentIdentifier, Misfit> {
-        let object = Reader::new(alloc, value)?;
-        Ok(TextDocumentIdentifier {
-            uri: object.field("uri")?,
-        })
+        let uri = read_object(alloc, value, Required("uri"))?;
+        Ok(TextDocumentIdentifier { uri })
     }
 
     fn to_value(&self, alloc: Global) -> Result<Value, NoMemory> {
@@ -84,12 +82,21 @@ impl Wire for TextDocumentItem {
     ghost shown = { text_document_item_row.shown };
 
     fn from_value(alloc: Global, value: &Value) -> Result<TextDocumentItem, Misfit> {
-        let object = Reader::new(alloc, value)?;
+        let (uri, language_id, version, text) = read_object(
+            alloc,
+            value,
+            (
+                Required("uri"),
+                Required("languageId"),
+                Required("version"),
+                Required("text"),
+            ),
+        )?;
         Ok(TextDocumentItem {
-            uri: object.field("uri")?,
-            language_id: object.field("languageId")?,
-            version: object.field("version")?,
-            text: object.field("text")?,
+            uri,
+            language_id,
+            version,
+            text,
         })
     }
 
@@ -128,11 +135,8 @@ impl Wire for VersionedTextDocumentIdentifier {
     ghost shown = { versioned_text_document_identifier_row.shown };
 
     fn from_value(alloc: Global, value: &Value) -> Result<VersionedTextDocumentIdentifier, Misfit> {
-        let object = Reader::new(alloc, value)?;
-        Ok(VersionedTextDocumentIdentifier {
-            uri: object.field("uri")?,
-            version: object.field("version")?,
-        })
+        let (uri, version) = read_object(alloc, value, (Required("uri"), Required("version")))?;
+        Ok(VersionedTextDocumentIdentifier { uri, version })
     }
 
     fn to_value(&self, alloc: Global) -> Result<Value, NoMemory> {
@@ -175,11 +179,8 @@ impl Wire for OptionalVersionedTextDocumentIdentifier {
         alloc: Global,
         value: &Value,
     ) -> Result<OptionalVersionedTextDocumentIdentifier, Misfit> {
-        let object = Reader::new(alloc, value)?;
-        Ok(OptionalVersionedTextDocumentIdentifier {
-            uri: object.field("uri")?,
-            version: object.optional("version")?,
-        })
+        let (uri, version) = read_object(alloc, value, (Required("uri"), Optional("version")))?;
+        Ok(OptionalVersionedTextDocumentIdentifier { uri, version })
     }
 
     fn to_value(&self, alloc: Global) -> Result<Value, NoMemory> {
@@ -222,10 +223,14 @@ impl Wire for TextDocumentPositionParams {
     ghost shown = { text_document_position_params_row.shown };
 
     fn from_value(alloc: Global, value: &Value) -> Result<TextDocumentPositionParams, Misfit> {
-        let object = Reader::new(alloc, value)?;
+        let (text_document, position) = read_object(
+            alloc,
+            value,
+            (Required("textDocument"), Required("position")),
+        )?;
         Ok(TextDocumentPositionParams {
-            text_document: object.field("textDocument")?,
-            position: object.field("position")?,
+            text_document,
+            position,
         })
     }
 
@@ -256,11 +261,19 @@ impl Wire for DocumentFilter {
     ghost shown = { document_filter_row.shown };
 
     fn from_value(alloc: Global, value: &Value) -> Result<DocumentFilter, Misfit> {
-        let object = Reader::new(alloc, value)?;
+        let (language, scheme, pattern) = read_object(
+            alloc,
+            value,
+            (
+                Optional("language"),
+                Optional("scheme"),
+                Optional("pattern"),
+            ),
+        )?;
         Ok(DocumentFilter {
-            language: object.optional("language")?,
-            scheme: object.optional("scheme")?,
-            pattern: object.optional("pattern")?,
+            language,
+            scheme,
+            pattern,
         })
     }
 
@@ -294,11 +307,15 @@ impl Wire for TextDocumentContentChangeEvent {
     ghost shown = { text_document_content_change_event_row.shown };
 
     fn from_value(alloc: Global, value: &Value) -> Result<TextDocumentContentChangeEvent, Misfit> {
-        let object = Reader::new(alloc, value)?;
+        let (range, range_length, text) = read_object(
+            alloc,
+            value,
+            (Optional("range"), Optional("rangeLength"), Required("text")),
+        )?;
         Ok(TextDocumentContentChangeEvent {
-            range: object.optional("range")?,
-            range_length: object.optional("rangeLength")?,
-            text: object.field("text")?,
+            range,
+            range_length,
+            text,
         })
     }
 
@@ -355,11 +372,8 @@ impl Wire for WorkspaceFolder {
     ghost shown = { workspace_folder_row.shown };
 
     fn from_value(alloc: Global, value: &Value) -> Result<WorkspaceFolder, Misfit> {
-        let object = Reader::new(alloc, value)?;
-        Ok(WorkspaceFolder {
-            uri: object.field("uri")?,
-            name: object.field("name")?,
-        })
+        let (uri, name) = read_object(alloc, value, (Required("uri"), Required("name")))?;
+        Ok(WorkspaceFolder { uri, name })
     }
 
     fn to_value(&self, alloc: Global) -> Result<Value, NoMemory> {

@@ -6,7 +6,9 @@ ghost use Rattle.lsp_base.specs.Position.{first_range};
 
 use crate::document::OptionalVersionedTextDocumentIdentifier;
 use crate::position::{Position, Range};
-use lsp_shape::{Misfit, NoMemory, Reader, Wire, Writer, attempt, flat, form};
+use lsp_shape::{
+    Flat, Misfit, NoMemory, Optional, Required, Wire, Writer, attempt, flat, form, read_object,
+};
 use serde_json::Value;
 use std::alloc::Global;
 
@@ -78,11 +80,12 @@ impl Wire for TextEdit {
     ghost shown = { text_edit_row.shown };
 
     fn from_value(alloc: Global, value: &Value) -> Result<TextEdit, Misfit> {
-        let object = Reader::new(alloc, value)?;
-        Ok(TextEdit {
-            range: object.field("range")?,
-            new_text: object.field("newText")?,
-        })
+        let (range, new_text) = read_object(
+            alloc,
+            value,
+            (Required("range"), Required("newText")),
+        )?;
+        Ok(TextEdit { range, new_text })
     }
 
     fn to_value(&self, alloc: Global) -> Result<Value, NoMemory> {
@@ -113,10 +116,14 @@ impl Wire for AnnotatedTextEdit {
     ghost shown = { annotated_text_edit_row.shown };
 
     fn from_value(alloc: Global, value: &Value) -> Result<AnnotatedTextEdit, Misfit> {
-        let object = Reader::new(alloc, value)?;
+        let (text_edit, annotation_id) = read_object(
+            alloc,
+            value,
+            (Flat, Required("annotationId")),
+        )?;
         Ok(AnnotatedTextEdit {
-            text_edit: flat(alloc, value)?,
-            annotation_id: object.field("annotationId")?,
+            text_edit,
+            annotation_id,
         })
     }
 
@@ -144,10 +151,14 @@ impl Wire for TextDocumentEdit {
     ghost shown = { text_document_edit_row.shown };
 
     fn from_value(alloc: Global, value: &Value) -> Result<TextDocumentEdit, Misfit> {
-        let object = Reader::new(alloc, value)?;
+        let (text_document, edits) = read_object(
+            alloc,
+            value,
+            (Required("textDocument"), Required("edits")),
+        )?;
         Ok(TextDocumentEdit {
-            text_document: object.field("textDocument")?,
-            edits: object.field("edits")?,
+            text_document,
+            edits,
         })
     }
 
@@ -178,11 +189,19 @@ impl Wire for ChangeAnnotation {
     ghost shown = { change_annotation_row.shown };
 
     fn from_value(alloc: Global, value: &Value) -> Result<ChangeAnnotation, Misfit> {
-        let object = Reader::new(alloc, value)?;
+        let (label, needs_confirmation, description) = read_object(
+            alloc,
+            value,
+            (
+                Required("label"),
+                Optional("needsConfirmation"),
+                Optional("description"),
+            ),
+        )?;
         Ok(ChangeAnnotation {
-            label: object.field("label")?,
-            needs_confirmation: object.optional("needsConfirmation")?,
-            description: object.optional("description")?,
+            label,
+            needs_confirmation,
+            description,
         })
     }
 

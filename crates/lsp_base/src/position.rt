@@ -8,7 +8,7 @@ ghost use Rattle.lsp_rpc.specs.Shown.{show_id};
 ghost use Rattle.lsp_base.specs.Position.{id_of, number_or_string_row, cancel_params_row, position_row, range_row, location_row, location_link_row};
 
 use lsp_rpc::Id;
-use lsp_shape::{Misfit, NoMemory, Reader, Wire, Writer, attempt, form};
+use lsp_shape::{Misfit, NoMemory, Optional, Required, Wire, Writer, attempt, form, read_object};
 use lsp_uri::Uri;
 use serde_json::{Map, Value};
 use std::alloc::Global;
@@ -71,10 +71,8 @@ impl Wire for CancelParams {
     ghost shown = { cancel_params_row.shown };
 
     fn from_value(alloc: Global, value: &Value) -> Result<CancelParams, Misfit> {
-        let object = Reader::new(alloc, value)?;
-        Ok(CancelParams {
-            id: object.field("id")?,
-        })
+        let id = read_object(alloc, value, Required("id"))?;
+        Ok(CancelParams { id })
     }
 
     fn to_value(&self, alloc: Global) -> Result<Value, NoMemory> {
@@ -162,11 +160,12 @@ impl Wire for Position {
     ghost shown = { position_row.shown };
 
     fn from_value(alloc: Global, value: &Value) -> Result<Position, Misfit> {
-        let object = Reader::new(alloc, value)?;
-        Ok(Position {
-            line: object.field("line")?,
-            character: object.field("character")?,
-        })
+        let (line, character) = read_object(
+            alloc,
+            value,
+            (Required("line"), Required("character")),
+        )?;
+        Ok(Position { line, character })
     }
 
     fn to_value(&self, alloc: Global) -> Result<Value, NoMemory> {
@@ -202,11 +201,8 @@ impl Wire for Range {
     ghost shown = { range_row.shown };
 
     fn from_value(alloc: Global, value: &Value) -> Result<Range, Misfit> {
-        let object = Reader::new(alloc, value)?;
-        Ok(Range {
-            start: object.field("start")?,
-            end: object.field("end")?,
-        })
+        let (start, end) = read_object(alloc, value, (Required("start"), Required("end")))?;
+        Ok(Range { start, end })
     }
 
     fn to_value(&self, alloc: Global) -> Result<Value, NoMemory> {
@@ -242,11 +238,8 @@ impl Wire for Location {
     ghost shown = { location_row.shown };
 
     fn from_value(alloc: Global, value: &Value) -> Result<Location, Misfit> {
-        let object = Reader::new(alloc, value)?;
-        Ok(Location {
-            uri: object.field("uri")?,
-            range: object.field("range")?,
-        })
+        let (uri, range) = read_object(alloc, value, (Required("uri"), Required("range")))?;
+        Ok(Location { uri, range })
     }
 
     fn to_value(&self, alloc: Global) -> Result<Value, NoMemory> {
@@ -279,12 +272,22 @@ impl Wire for LocationLink {
     ghost shown = { location_link_row.shown };
 
     fn from_value(alloc: Global, value: &Value) -> Result<LocationLink, Misfit> {
-        let object = Reader::new(alloc, value)?;
+        let (origin_selection_range, target_uri, target_range, target_selection_range) =
+            read_object(
+                alloc,
+                value,
+                (
+                    Optional("originSelectionRange"),
+                    Required("targetUri"),
+                    Required("targetRange"),
+                    Required("targetSelectionRange"),
+                ),
+            )?;
         Ok(LocationLink {
-            origin_selection_range: object.optional("originSelectionRange")?,
-            target_uri: object.field("targetUri")?,
-            target_range: object.field("targetRange")?,
-            target_selection_range: object.field("targetSelectionRange")?,
+            origin_selection_range,
+            target_uri,
+            target_range,
+            target_selection_range,
         })
     }
 

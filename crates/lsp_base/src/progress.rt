@@ -2,7 +2,7 @@
 ghost use Rattle.lsp_base.specs.Progress.{partial_result_params_row, work_done_progress_params_row};
 
 use crate::position::NumberOrString;
-use lsp_shape::{Misfit, NoMemory, Reader, Wire, Writer};
+use lsp_shape::{Misfit, NoMemory, Optional, Wire, Writer, read_object};
 use serde_json::Value;
 use std::alloc::Global;
 
@@ -25,9 +25,9 @@ impl Wire for PartialResultParams {
     ghost shown = { partial_result_params_row.shown };
 
     fn from_value(alloc: Global, value: &Value) -> Result<PartialResultParams, Misfit> {
-        let object = Reader::new(alloc, value)?;
+        let partial_result_token = read_object(alloc, value, Optional("partialResultToken"))?;
         Ok(PartialResultParams {
-            partial_result_token: object.optional("partialResultToken")?,
+            partial_result_token,
         })
     }
 
@@ -53,10 +53,8 @@ impl Wire for WorkDoneProgressParams {
     ghost shown = { work_done_progress_params_row.shown };
 
     fn from_value(alloc: Global, value: &Value) -> Result<WorkDoneProgressParams, Misfit> {
-        let object = Reader::new(alloc, value)?;
-        Ok(WorkDoneProgressParams {
-            work_done_token: object.optional("workDoneToken")?,
-        })
+        let work_done_token = read_object(alloc, value, Optional("workDoneToken"))?;
+        Ok(WorkDoneProgressParams { work_done_token })
     }
 
     fn to_value(&self, alloc: Global) -> Result<Value, NoMemory> {

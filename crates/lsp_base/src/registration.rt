@@ -4,7 +4,7 @@ ghost use Rattle.lsp_shape.specs.Row.{row_of};
 ghost use Rattle.lsp_base.specs.Registration.{tag_support_row, dynamic_registration_client_capabilities_row, goto_capability_row, text_document_registration_options_row, static_registration_options_row};
 
 use crate::document::DocumentSelector;
-use lsp_shape::{Misfit, NoMemory, Reader, Wire, Writer};
+use lsp_shape::{Misfit, NoMemory, Optional, Required, Wire, Writer, read_object};
 use serde_json::Value;
 use std::alloc::Global;
 
@@ -33,10 +33,8 @@ impl<T: Wire> Wire for TagSupport<T> {
     ghost shown = { (tag_support_row (row_of T.shape T.shown)).shown };
 
     fn from_value(alloc: Global, value: &Value) -> Result<TagSupport<T>, Misfit> {
-        let object = Reader::new(alloc, value)?;
-        Ok(TagSupport {
-            value_set: object.field("valueSet")?,
-        })
+        let value_set = read_object(alloc, value, Required("valueSet"))?;
+        Ok(TagSupport { value_set })
     }
 
     fn to_value(&self, alloc: Global) -> Result<Value, NoMemory> {
@@ -63,9 +61,9 @@ impl Wire for DynamicRegistrationClientCapabilities {
         alloc: Global,
         value: &Value,
     ) -> Result<DynamicRegistrationClientCapabilities, Misfit> {
-        let object = Reader::new(alloc, value)?;
+        let dynamic_registration = read_object(alloc, value, Optional("dynamicRegistration"))?;
         Ok(DynamicRegistrationClientCapabilities {
-            dynamic_registration: object.optional("dynamicRegistration")?,
+            dynamic_registration,
         })
     }
 
@@ -93,10 +91,14 @@ impl Wire for GotoCapability {
     ghost shown = { goto_capability_row.shown };
 
     fn from_value(alloc: Global, value: &Value) -> Result<GotoCapability, Misfit> {
-        let object = Reader::new(alloc, value)?;
+        let (dynamic_registration, link_support) = read_object(
+            alloc,
+            value,
+            (Optional("dynamicRegistration"), Optional("linkSupport")),
+        )?;
         Ok(GotoCapability {
-            dynamic_registration: object.optional("dynamicRegistration")?,
-            link_support: object.optional("linkSupport")?,
+            dynamic_registration,
+            link_support,
         })
     }
 
@@ -122,10 +124,8 @@ impl Wire for TextDocumentRegistrationOptions {
     ghost shown = { text_document_registration_options_row.shown };
 
     fn from_value(alloc: Global, value: &Value) -> Result<TextDocumentRegistrationOptions, Misfit> {
-        let object = Reader::new(alloc, value)?;
-        Ok(TextDocumentRegistrationOptions {
-            document_selector: object.optional("documentSelector")?,
-        })
+        let document_selector = read_object(alloc, value, Optional("documentSelector"))?;
+        Ok(TextDocumentRegistrationOptions { document_selector })
     }
 
     fn to_value(&self, alloc: Global) -> Result<Value, NoMemory> {
@@ -151,10 +151,8 @@ impl Wire for StaticRegistrationOptions {
     ghost shown = { static_registration_options_row.shown };
 
     fn from_value(alloc: Global, value: &Value) -> Result<StaticRegistrationOptions, Misfit> {
-        let object = Reader::new(alloc, value)?;
-        Ok(StaticRegistrationOptions {
-            id: object.optional("id")?,
-        })
+        let id = read_object(alloc, value, Optional("id"))?;
+        Ok(StaticRegistrationOptions { id })
     }
 
     fn to_value(&self, alloc: Global) -> Result<Value, NoMemory> {

@@ -2,7 +2,10 @@
 ghost use Rattle.lsp_base.specs.Resource.{create_file_options_row, create_file_row, rename_file_options_row, rename_file_row, delete_file_options_row, delete_file_row, resource_op_row};
 
 use crate::edit::ChangeAnnotationIdentifier;
-use lsp_shape::{Copies, Misfit, NoMemory, Reader, Wanted, Wire, Writer, form, put_tag, tag};
+use lsp_shape::{
+    Copies, Misfit, NoMemory, Optional, Required, Wanted, Wire, Writer, form, put_tag, read_object,
+    tag,
+};
 use lsp_uri::Uri;
 use serde_json::Value;
 use std::alloc::{AllocError, Global};
@@ -23,10 +26,14 @@ impl Wire for CreateFileOptions {
     ghost shown = { create_file_options_row.shown };
 
     fn from_value(alloc: Global, value: &Value) -> Result<CreateFileOptions, Misfit> {
-        let object = Reader::new(alloc, value)?;
+        let (overwrite, ignore_if_exists) = read_object(
+            alloc,
+            value,
+            (Optional("overwrite"), Optional("ignoreIfExists")),
+        )?;
         Ok(CreateFileOptions {
-            overwrite: object.optional("overwrite")?,
-            ignore_if_exists: object.optional("ignoreIfExists")?,
+            overwrite,
+            ignore_if_exists,
         })
     }
 
@@ -56,11 +63,19 @@ impl Wire for CreateFile {
     ghost shown = { create_file_row.shown };
 
     fn from_value(alloc: Global, value: &Value) -> Result<CreateFile, Misfit> {
-        let object = Reader::new(alloc, value)?;
+        let (uri, options, annotation_id) = read_object(
+            alloc,
+            value,
+            (
+                Required("uri"),
+                Optional("options"),
+                Optional("annotationId"),
+            ),
+        )?;
         Ok(CreateFile {
-            uri: object.field("uri")?,
-            options: object.optional("options")?,
-            annotation_id: object.optional("annotationId")?,
+            uri,
+            options,
+            annotation_id,
         })
     }
 
@@ -90,10 +105,14 @@ impl Wire for RenameFileOptions {
     ghost shown = { rename_file_options_row.shown };
 
     fn from_value(alloc: Global, value: &Value) -> Result<RenameFileOptions, Misfit> {
-        let object = Reader::new(alloc, value)?;
+        let (overwrite, ignore_if_exists) = read_object(
+            alloc,
+            value,
+            (Optional("overwrite"), Optional("ignoreIfExists")),
+        )?;
         Ok(RenameFileOptions {
-            overwrite: object.optional("overwrite")?,
-            ignore_if_exists: object.optional("ignoreIfExists")?,
+            overwrite,
+            ignore_if_exists,
         })
     }
 
@@ -144,12 +163,21 @@ impl Wire for RenameFile {
     ghost shown = { rename_file_row.shown };
 
     fn from_value(alloc: Global, value: &Value) -> Result<RenameFile, Misfit> {
-        let object = Reader::new(alloc, value)?;
+        let (old_uri, new_uri, options, annotation_id) = read_object(
+            alloc,
+            value,
+            (
+                Required("oldUri"),
+                Required("newUri"),
+                Optional("options"),
+                Optional("annotationId"),
+            ),
+        )?;
         Ok(RenameFile {
-            old_uri: object.field("oldUri")?,
-            new_uri: object.field("newUri")?,
-            options: object.optional("options")?,
-            annotation_id: object.optional("annotationId")?,
+            old_uri,
+            new_uri,
+            options,
+            annotation_id,
         })
     }
 
@@ -184,11 +212,19 @@ impl Wire for DeleteFileOptions {
     ghost shown = { delete_file_options_row.shown };
 
     fn from_value(alloc: Global, value: &Value) -> Result<DeleteFileOptions, Misfit> {
-        let object = Reader::new(alloc, value)?;
+        let (recursive, ignore_if_not_exists, annotation_id) = read_object(
+            alloc,
+            value,
+            (
+                Optional("recursive"),
+                Optional("ignoreIfNotExists"),
+                Optional("annotationId"),
+            ),
+        )?;
         Ok(DeleteFileOptions {
-            recursive: object.optional("recursive")?,
-            ignore_if_not_exists: object.optional("ignoreIfNotExists")?,
-            annotation_id: object.optional("annotationId")?,
+            recursive,
+            ignore_if_not_exists,
+            annotation_id,
         })
     }
 
@@ -217,11 +253,8 @@ impl Wire for DeleteFile {
     ghost shown = { delete_file_row.shown };
 
     fn from_value(alloc: Global, value: &Value) -> Result<DeleteFile, Misfit> {
-        let object = Reader::new(alloc, value)?;
-        Ok(DeleteFile {
-            uri: object.field("uri")?,
-            options: object.optional("options")?,
-        })
+        let (uri, options) = read_object(alloc, value, (Required("uri"), Optional("options")))?;
+        Ok(DeleteFile { uri, options })
     }
 
     fn to_value(&self, alloc: Global) -> Result<Value, NoMemory> {

@@ -4,7 +4,7 @@ ghost use Rattle.lsp_base.specs.WorkspaceEdit.{workspace_edit_row, document_chan
 
 use crate::edit::{ChangeAnnotation, ChangeAnnotationIdentifier, TextDocumentEdit, TextEdit};
 use crate::resource::ResourceOp;
-use lsp_shape::{Misfit, NoMemory, Reader, Wire, Writer, attempt, form};
+use lsp_shape::{Misfit, NoMemory, Optional, Wire, Writer, attempt, form, read_object};
 use lsp_uri::Uri;
 use serde_json::Value;
 use std::alloc::Global;
@@ -47,11 +47,19 @@ impl Wire for WorkspaceEdit {
     ghost shown = { workspace_edit_row.shown };
 
     fn from_value(alloc: Global, value: &Value) -> Result<WorkspaceEdit, Misfit> {
-        let object = Reader::new(alloc, value)?;
+        let (changes, document_changes, change_annotations) = read_object(
+            alloc,
+            value,
+            (
+                Optional("changes"),
+                Optional("documentChanges"),
+                Optional("changeAnnotations"),
+            ),
+        )?;
         Ok(WorkspaceEdit {
-            changes: object.optional("changes")?,
-            document_changes: object.optional("documentChanges")?,
-            change_annotations: object.optional("changeAnnotations")?,
+            changes,
+            document_changes,
+            change_annotations,
         })
     }
 

@@ -2,7 +2,7 @@
 ghost use Rattle.std.specs.Prelude.{◌≡◌, []};
 ghost use Rattle.lsp_caps_text.specs.CodeAction.{code_action_client_capabilities_row, code_action_capability_resolve_support_row, code_action_literal_support_row, code_action_kind_literal_support_row};
 
-use lsp_shape::{Misfit, NoMemory, Reader, Wire, Writer};
+use lsp_shape::{Misfit, NoMemory, Optional, Required, Wire, Writer, read_object};
 use serde_json::Value;
 use std::alloc::Global;
 
@@ -40,15 +40,39 @@ impl Wire for CodeActionClientCapabilities {
     ghost shown = { code_action_client_capabilities_row.shown };
 
     fn from_value(alloc: Global, value: &Value) -> Result<CodeActionClientCapabilities, Misfit> {
-        let object = Reader::new(alloc, value)?;
+        let (
+            (
+                dynamic_registration,
+                code_action_literal_support,
+                is_preferred_support,
+                disabled_support,
+            ),
+            (data_support, resolve_support, honors_change_annotations),
+        ) = read_object(
+            alloc,
+            value,
+            (
+                (
+                    Optional("dynamicRegistration"),
+                    Optional("codeActionLiteralSupport"),
+                    Optional("isPreferredSupport"),
+                    Optional("disabledSupport"),
+                ),
+                (
+                    Optional("dataSupport"),
+                    Optional("resolveSupport"),
+                    Optional("honorsChangeAnnotations"),
+                ),
+            ),
+        )?;
         Ok(CodeActionClientCapabilities {
-            dynamic_registration: object.optional("dynamicRegistration")?,
-            code_action_literal_support: object.optional("codeActionLiteralSupport")?,
-            is_preferred_support: object.optional("isPreferredSupport")?,
-            disabled_support: object.optional("disabledSupport")?,
-            data_support: object.optional("dataSupport")?,
-            resolve_support: object.optional("resolveSupport")?,
-            honors_change_annotations: object.optional("honorsChangeAnnotations")?,
+            dynamic_registration,
+            code_action_literal_support,
+            is_preferred_support,
+            disabled_support,
+            data_support,
+            resolve_support,
+            honors_change_annotations,
         })
     }
 
@@ -97,10 +121,8 @@ impl Wire for CodeActionCapabilityResolveSupport {
         alloc: Global,
         value: &Value,
     ) -> Result<CodeActionCapabilityResolveSupport, Misfit> {
-        let object = Reader::new(alloc, value)?;
-        Ok(CodeActionCapabilityResolveSupport {
-            properties: object.field("properties")?,
-        })
+        let properties = read_object(alloc, value, Required("properties"))?;
+        Ok(CodeActionCapabilityResolveSupport { properties })
     }
 
     fn to_value(&self, alloc: Global) -> Result<Value, NoMemory> {
@@ -136,10 +158,8 @@ impl Wire for CodeActionLiteralSupport {
     ghost shown = { code_action_literal_support_row.shown };
 
     fn from_value(alloc: Global, value: &Value) -> Result<CodeActionLiteralSupport, Misfit> {
-        let object = Reader::new(alloc, value)?;
-        Ok(CodeActionLiteralSupport {
-            code_action_kind: object.field("codeActionKind")?,
-        })
+        let code_action_kind = read_object(alloc, value, Required("codeActionKind"))?;
+        Ok(CodeActionLiteralSupport { code_action_kind })
     }
 
     fn to_value(&self, alloc: Global) -> Result<Value, NoMemory> {
@@ -174,10 +194,8 @@ impl Wire for CodeActionKindLiteralSupport {
     ghost shown = { code_action_kind_literal_support_row.shown };
 
     fn from_value(alloc: Global, value: &Value) -> Result<CodeActionKindLiteralSupport, Misfit> {
-        let object = Reader::new(alloc, value)?;
-        Ok(CodeActionKindLiteralSupport {
-            value_set: object.field("valueSet")?,
-        })
+        let value_set = read_object(alloc, value, Required("valueSet"))?;
+        Ok(CodeActionKindLiteralSupport { value_set })
     }
 
     fn to_value(&self, alloc: Global) -> Result<Value, NoMemory> {

@@ -5,7 +5,9 @@ ghost use Rattle.lsp_caps_text.specs.Completion.{completion_client_capabilities_
 use lsp_base::TagSupport;
 use lsp_kinds::{CompletionItemKind, CompletionItemTag, InsertTextMode};
 use lsp_names::MarkupKind;
-use lsp_shape::{Copies, Misfit, NoMemory, Reader, WideReader, Wire, Writer};
+use lsp_shape::{
+    Copies, Misfit, NoMemory, Optional, Required, WideReader, Wire, Writer, read_object,
+};
 use serde_json::Value;
 use std::alloc::{AllocError, Global};
 
@@ -36,14 +38,32 @@ impl Wire for CompletionClientCapabilities {
     ghost shown = { completion_client_capabilities_row.shown };
 
     fn from_value(alloc: Global, value: &Value) -> Result<CompletionClientCapabilities, Misfit> {
-        let object = Reader::new(alloc, value)?;
+        let (
+            dynamic_registration,
+            completion_item,
+            completion_item_kind,
+            context_support,
+            insert_text_mode,
+            completion_list,
+        ) = read_object(
+            alloc,
+            value,
+            (
+                Optional("dynamicRegistration"),
+                Optional("completionItem"),
+                Optional("completionItemKind"),
+                Optional("contextSupport"),
+                Optional("insertTextMode"),
+                Optional("completionList"),
+            ),
+        )?;
         Ok(CompletionClientCapabilities {
-            dynamic_registration: object.optional("dynamicRegistration")?,
-            completion_item: object.optional("completionItem")?,
-            completion_item_kind: object.optional("completionItemKind")?,
-            context_support: object.optional("contextSupport")?,
-            insert_text_mode: object.optional("insertTextMode")?,
-            completion_list: object.optional("completionList")?,
+            dynamic_registration,
+            completion_item,
+            completion_item_kind,
+            context_support,
+            insert_text_mode,
+            completion_list,
         })
     }
 
@@ -192,10 +212,8 @@ impl Wire for CompletionItemCapabilityResolveSupport {
         alloc: Global,
         value: &Value,
     ) -> Result<CompletionItemCapabilityResolveSupport, Misfit> {
-        let object = Reader::new(alloc, value)?;
-        Ok(CompletionItemCapabilityResolveSupport {
-            properties: object.field("properties")?,
-        })
+        let properties = read_object(alloc, value, Required("properties"))?;
+        Ok(CompletionItemCapabilityResolveSupport { properties })
     }
 
     fn to_value(&self, alloc: Global) -> Result<Value, NoMemory> {
@@ -231,10 +249,8 @@ impl Wire for InsertTextModeSupport {
     ghost shown = { insert_text_mode_support_row.shown };
 
     fn from_value(alloc: Global, value: &Value) -> Result<InsertTextModeSupport, Misfit> {
-        let object = Reader::new(alloc, value)?;
-        Ok(InsertTextModeSupport {
-            value_set: object.field("valueSet")?,
-        })
+        let value_set = read_object(alloc, value, Required("valueSet"))?;
+        Ok(InsertTextModeSupport { value_set })
     }
 
     fn to_value(&self, alloc: Global) -> Result<Value, NoMemory> {
@@ -260,10 +276,8 @@ impl Wire for CompletionItemKindCapability {
     ghost shown = { completion_item_kind_capability_row.shown };
 
     fn from_value(alloc: Global, value: &Value) -> Result<CompletionItemKindCapability, Misfit> {
-        let object = Reader::new(alloc, value)?;
-        Ok(CompletionItemKindCapability {
-            value_set: object.optional("valueSet")?,
-        })
+        let value_set = read_object(alloc, value, Optional("valueSet"))?;
+        Ok(CompletionItemKindCapability { value_set })
     }
 
     fn to_value(&self, alloc: Global) -> Result<Value, NoMemory> {
@@ -289,10 +303,8 @@ impl Wire for CompletionListCapability {
     ghost shown = { completion_list_capability_row.shown };
 
     fn from_value(alloc: Global, value: &Value) -> Result<CompletionListCapability, Misfit> {
-        let object = Reader::new(alloc, value)?;
-        Ok(CompletionListCapability {
-            item_defaults: object.optional("itemDefaults")?,
-        })
+        let item_defaults = read_object(alloc, value, Optional("itemDefaults"))?;
+        Ok(CompletionListCapability { item_defaults })
     }
 
     fn to_value(&self, alloc: Global) -> Result<Value, NoMemory> {

@@ -2,7 +2,7 @@
 ghost use Rattle.lsp_caps_text.specs.Folding.{folding_range_client_capabilities_row, folding_range_kind_capability_row, folding_range_capability_row};
 
 use lsp_names::FoldingRangeKind;
-use lsp_shape::{Misfit, NoMemory, Reader, Wire, Writer};
+use lsp_shape::{Misfit, NoMemory, Optional, Wire, Writer, read_object};
 use serde_json::Value;
 use std::alloc::Global;
 
@@ -32,13 +32,29 @@ impl Wire for FoldingRangeClientCapabilities {
     ghost shown = { folding_range_client_capabilities_row.shown };
 
     fn from_value(alloc: Global, value: &Value) -> Result<FoldingRangeClientCapabilities, Misfit> {
-        let object = Reader::new(alloc, value)?;
+        let (
+            dynamic_registration,
+            range_limit,
+            line_folding_only,
+            folding_range_kind,
+            folding_range,
+        ) = read_object(
+            alloc,
+            value,
+            (
+                Optional("dynamicRegistration"),
+                Optional("rangeLimit"),
+                Optional("lineFoldingOnly"),
+                Optional("foldingRangeKind"),
+                Optional("foldingRange"),
+            ),
+        )?;
         Ok(FoldingRangeClientCapabilities {
-            dynamic_registration: object.optional("dynamicRegistration")?,
-            range_limit: object.optional("rangeLimit")?,
-            line_folding_only: object.optional("lineFoldingOnly")?,
-            folding_range_kind: object.optional("foldingRangeKind")?,
-            folding_range: object.optional("foldingRange")?,
+            dynamic_registration,
+            range_limit,
+            line_folding_only,
+            folding_range_kind,
+            folding_range,
         })
     }
 
@@ -69,10 +85,8 @@ impl Wire for FoldingRangeKindCapability {
     ghost shown = { folding_range_kind_capability_row.shown };
 
     fn from_value(alloc: Global, value: &Value) -> Result<FoldingRangeKindCapability, Misfit> {
-        let object = Reader::new(alloc, value)?;
-        Ok(FoldingRangeKindCapability {
-            value_set: object.optional("valueSet")?,
-        })
+        let value_set = read_object(alloc, value, Optional("valueSet"))?;
+        Ok(FoldingRangeKindCapability { value_set })
     }
 
     fn to_value(&self, alloc: Global) -> Result<Value, NoMemory> {
@@ -97,10 +111,8 @@ impl Wire for FoldingRangeCapability {
     ghost shown = { folding_range_capability_row.shown };
 
     fn from_value(alloc: Global, value: &Value) -> Result<FoldingRangeCapability, Misfit> {
-        let object = Reader::new(alloc, value)?;
-        Ok(FoldingRangeCapability {
-            collapsed_text: object.optional("collapsedText")?,
-        })
+        let collapsed_text = read_object(alloc, value, Optional("collapsedText"))?;
+        Ok(FoldingRangeCapability { collapsed_text })
     }
 
     fn to_value(&self, alloc: Global) -> Result<Value, NoMemory> {

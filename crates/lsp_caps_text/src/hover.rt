@@ -2,7 +2,7 @@
 ghost use Rattle.lsp_caps_text.specs.Hover.{hover_client_capabilities_row};
 
 use lsp_names::MarkupKind;
-use lsp_shape::{Misfit, NoMemory, Reader, Wire, Writer};
+use lsp_shape::{Misfit, NoMemory, Optional, Wire, Writer, read_object};
 use serde_json::Value;
 use std::alloc::Global;
 
@@ -24,10 +24,14 @@ impl Wire for HoverClientCapabilities {
     ghost shown = { hover_client_capabilities_row.shown };
 
     fn from_value(alloc: Global, value: &Value) -> Result<HoverClientCapabilities, Misfit> {
-        let object = Reader::new(alloc, value)?;
+        let (dynamic_registration, content_format) = read_object(
+            alloc,
+            value,
+            (Optional("dynamicRegistration"), Optional("contentFormat")),
+        )?;
         Ok(HoverClientCapabilities {
-            dynamic_registration: object.optional("dynamicRegistration")?,
-            content_format: object.optional("contentFormat")?,
+            dynamic_registration,
+            content_format,
         })
     }
 

@@ -3,7 +3,7 @@ ghost use Rattle.std.specs.Prelude.{◌≡◌, []};
 ghost use Rattle.lsp_caps_text.specs.Inline.{inlay_hint_client_capabilities_row, inlay_hint_resolve_client_capabilities_row};
 
 use lsp_base::DynamicRegistrationClientCapabilities;
-use lsp_shape::{Misfit, NoMemory, Reader, Wire, Writer};
+use lsp_shape::{Misfit, NoMemory, Optional, Required, Wire, Writer, read_object};
 use serde_json::Value;
 use std::alloc::Global;
 
@@ -25,10 +25,14 @@ impl Wire for InlayHintClientCapabilities {
     ghost shown = { inlay_hint_client_capabilities_row.shown };
 
     fn from_value(alloc: Global, value: &Value) -> Result<InlayHintClientCapabilities, Misfit> {
-        let object = Reader::new(alloc, value)?;
+        let (dynamic_registration, resolve_support) = read_object(
+            alloc,
+            value,
+            (Optional("dynamicRegistration"), Optional("resolveSupport")),
+        )?;
         Ok(InlayHintClientCapabilities {
-            dynamic_registration: object.optional("dynamicRegistration")?,
-            resolve_support: object.optional("resolveSupport")?,
+            dynamic_registration,
+            resolve_support,
         })
     }
 
@@ -69,10 +73,8 @@ impl Wire for InlayHintResolveClientCapabilities {
         alloc: Global,
         value: &Value,
     ) -> Result<InlayHintResolveClientCapabilities, Misfit> {
-        let object = Reader::new(alloc, value)?;
-        Ok(InlayHintResolveClientCapabilities {
-            properties: object.field("properties")?,
-        })
+        let properties = read_object(alloc, value, Required("properties"))?;
+        Ok(InlayHintResolveClientCapabilities { properties })
     }
 
     fn to_value(&self, alloc: Global) -> Result<Value, NoMemory> {

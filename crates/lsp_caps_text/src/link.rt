@@ -1,7 +1,7 @@
 // Links in documents.
 ghost use Rattle.lsp_caps_text.specs.Link.{document_link_client_capabilities_row};
 
-use lsp_shape::{Misfit, NoMemory, Reader, Wire, Writer};
+use lsp_shape::{Misfit, NoMemory, Optional, Wire, Writer, read_object};
 use serde_json::Value;
 use std::alloc::Global;
 
@@ -23,10 +23,14 @@ impl Wire for DocumentLinkClientCapabilities {
     ghost shown = { document_link_client_capabilities_row.shown };
 
     fn from_value(alloc: Global, value: &Value) -> Result<DocumentLinkClientCapabilities, Misfit> {
-        let object = Reader::new(alloc, value)?;
+        let (dynamic_registration, tooltip_support) = read_object(
+            alloc,
+            value,
+            (Optional("dynamicRegistration"), Optional("tooltipSupport")),
+        )?;
         Ok(DocumentLinkClientCapabilities {
-            dynamic_registration: object.optional("dynamicRegistration")?,
-            tooltip_support: object.optional("tooltipSupport")?,
+            dynamic_registration,
+            tooltip_support,
         })
     }
 

@@ -3,7 +3,7 @@ ghost use Rattle.lsp_caps_text.specs.Publish.{publish_diagnostics_client_capabil
 
 use lsp_base::TagSupport;
 use lsp_kinds::DiagnosticTag;
-use lsp_shape::{Misfit, NoMemory, Reader, Wire, Writer};
+use lsp_shape::{Misfit, NoMemory, Optional, Supported, Wire, Writer, read_object};
 use serde_json::Value;
 use std::alloc::Global;
 
@@ -35,13 +35,29 @@ impl Wire for PublishDiagnosticsClientCapabilities {
         alloc: Global,
         value: &Value,
     ) -> Result<PublishDiagnosticsClientCapabilities, Misfit> {
-        let object = Reader::new(alloc, value)?;
+        let (
+            related_information,
+            tag_support,
+            version_support,
+            code_description_support,
+            data_support,
+        ) = read_object(
+            alloc,
+            value,
+            (
+                Optional("relatedInformation"),
+                Supported("tagSupport"),
+                Optional("versionSupport"),
+                Optional("codeDescriptionSupport"),
+                Optional("dataSupport"),
+            ),
+        )?;
         Ok(PublishDiagnosticsClientCapabilities {
-            related_information: object.optional("relatedInformation")?,
-            tag_support: object.supported("tagSupport")?,
-            version_support: object.optional("versionSupport")?,
-            code_description_support: object.optional("codeDescriptionSupport")?,
-            data_support: object.optional("dataSupport")?,
+            related_information,
+            tag_support,
+            version_support,
+            code_description_support,
+            data_support,
         })
     }
 
@@ -74,10 +90,17 @@ impl Wire for DiagnosticClientCapabilities {
     ghost shown = { diagnostic_client_capabilities_row.shown };
 
     fn from_value(alloc: Global, value: &Value) -> Result<DiagnosticClientCapabilities, Misfit> {
-        let object = Reader::new(alloc, value)?;
+        let (dynamic_registration, related_document_support) = read_object(
+            alloc,
+            value,
+            (
+                Optional("dynamicRegistration"),
+                Optional("relatedDocumentSupport"),
+            ),
+        )?;
         Ok(DiagnosticClientCapabilities {
-            dynamic_registration: object.optional("dynamicRegistration")?,
-            related_document_support: object.optional("relatedDocumentSupport")?,
+            dynamic_registration,
+            related_document_support,
         })
     }
 

@@ -2,7 +2,7 @@
 ghost use Rattle.lsp_caps_text.specs.Rename.{rename_client_capabilities_row};
 
 use lsp_kinds::PrepareSupportDefaultBehavior;
-use lsp_shape::{Misfit, NoMemory, Reader, Wire, Writer};
+use lsp_shape::{Misfit, NoMemory, Optional, Wire, Writer, read_object};
 use serde_json::Value;
 use std::alloc::Global;
 
@@ -31,12 +31,26 @@ impl Wire for RenameClientCapabilities {
     ghost shown = { rename_client_capabilities_row.shown };
 
     fn from_value(alloc: Global, value: &Value) -> Result<RenameClientCapabilities, Misfit> {
-        let object = Reader::new(alloc, value)?;
+        let (
+            dynamic_registration,
+            prepare_support,
+            prepare_support_default_behavior,
+            honors_change_annotations,
+        ) = read_object(
+            alloc,
+            value,
+            (
+                Optional("dynamicRegistration"),
+                Optional("prepareSupport"),
+                Optional("prepareSupportDefaultBehavior"),
+                Optional("honorsChangeAnnotations"),
+            ),
+        )?;
         Ok(RenameClientCapabilities {
-            dynamic_registration: object.optional("dynamicRegistration")?,
-            prepare_support: object.optional("prepareSupport")?,
-            prepare_support_default_behavior: object.optional("prepareSupportDefaultBehavior")?,
-            honors_change_annotations: object.optional("honorsChangeAnnotations")?,
+            dynamic_registration,
+            prepare_support,
+            prepare_support_default_behavior,
+            honors_change_annotations,
         })
     }
 

@@ -2,7 +2,7 @@
 ghost use Rattle.lsp_caps_text.specs.Selection.{selection_range_client_capabilities_row};
 
 use lsp_base::DynamicRegistrationClientCapabilities;
-use lsp_shape::{Misfit, NoMemory, Reader, Wire, Writer};
+use lsp_shape::{Misfit, NoMemory, Optional, Wire, Writer, read_object};
 use serde_json::Value;
 use std::alloc::Global;
 
@@ -25,9 +25,9 @@ impl Wire for SelectionRangeClientCapabilities {
         alloc: Global,
         value: &Value,
     ) -> Result<SelectionRangeClientCapabilities, Misfit> {
-        let object = Reader::new(alloc, value)?;
+        let dynamic_registration = read_object(alloc, value, Optional("dynamicRegistration"))?;
         Ok(SelectionRangeClientCapabilities {
-            dynamic_registration: object.optional("dynamicRegistration")?,
+            dynamic_registration,
         })
     }
 

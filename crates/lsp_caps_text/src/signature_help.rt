@@ -2,7 +2,7 @@
 ghost use Rattle.lsp_caps_text.specs.SignatureHelp.{signature_help_client_capabilities_row, signature_information_settings_row, parameter_information_settings_row};
 
 use lsp_names::MarkupKind;
-use lsp_shape::{Misfit, NoMemory, Reader, Wire, Writer};
+use lsp_shape::{Misfit, NoMemory, Optional, Wire, Writer, read_object};
 use serde_json::Value;
 use std::alloc::Global;
 
@@ -27,11 +27,19 @@ impl Wire for SignatureHelpClientCapabilities {
     ghost shown = { signature_help_client_capabilities_row.shown };
 
     fn from_value(alloc: Global, value: &Value) -> Result<SignatureHelpClientCapabilities, Misfit> {
-        let object = Reader::new(alloc, value)?;
+        let (dynamic_registration, signature_information, context_support) = read_object(
+            alloc,
+            value,
+            (
+                Optional("dynamicRegistration"),
+                Optional("signatureInformation"),
+                Optional("contextSupport"),
+            ),
+        )?;
         Ok(SignatureHelpClientCapabilities {
-            dynamic_registration: object.optional("dynamicRegistration")?,
-            signature_information: object.optional("signatureInformation")?,
-            context_support: object.optional("contextSupport")?,
+            dynamic_registration,
+            signature_information,
+            context_support,
         })
     }
 
@@ -64,11 +72,19 @@ impl Wire for SignatureInformationSettings {
     ghost shown = { signature_information_settings_row.shown };
 
     fn from_value(alloc: Global, value: &Value) -> Result<SignatureInformationSettings, Misfit> {
-        let object = Reader::new(alloc, value)?;
+        let (documentation_format, parameter_information, active_parameter_support) = read_object(
+            alloc,
+            value,
+            (
+                Optional("documentationFormat"),
+                Optional("parameterInformation"),
+                Optional("activeParameterSupport"),
+            ),
+        )?;
         Ok(SignatureInformationSettings {
-            documentation_format: object.optional("documentationFormat")?,
-            parameter_information: object.optional("parameterInformation")?,
-            active_parameter_support: object.optional("activeParameterSupport")?,
+            documentation_format,
+            parameter_information,
+            active_parameter_support,
         })
     }
 
@@ -98,9 +114,9 @@ impl Wire for ParameterInformationSettings {
     ghost shown = { parameter_information_settings_row.shown };
 
     fn from_value(alloc: Global, value: &Value) -> Result<ParameterInformationSettings, Misfit> {
-        let object = Reader::new(alloc, value)?;
+        let label_offset_support = read_object(alloc, value, Optional("labelOffsetSupport"))?;
         Ok(ParameterInformationSettings {
-            label_offset_support: object.optional("labelOffsetSupport")?,
+            label_offset_support,
         })
     }
 

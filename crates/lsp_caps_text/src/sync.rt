@@ -1,7 +1,7 @@
 // Documents that are opened, changed, saved and closed.
 ghost use Rattle.lsp_caps_text.specs.Sync.{text_document_sync_client_capabilities_row};
 
-use lsp_shape::{Misfit, NoMemory, Reader, Wire, Writer};
+use lsp_shape::{Misfit, NoMemory, Optional, Wire, Writer, read_object};
 use serde_json::Value;
 use std::alloc::Global;
 
@@ -31,12 +31,21 @@ impl Wire for TextDocumentSyncClientCapabilities {
         alloc: Global,
         value: &Value,
     ) -> Result<TextDocumentSyncClientCapabilities, Misfit> {
-        let object = Reader::new(alloc, value)?;
+        let (dynamic_registration, will_save, will_save_wait_until, did_save) = read_object(
+            alloc,
+            value,
+            (
+                Optional("dynamicRegistration"),
+                Optional("willSave"),
+                Optional("willSaveWaitUntil"),
+                Optional("didSave"),
+            ),
+        )?;
         Ok(TextDocumentSyncClientCapabilities {
-            dynamic_registration: object.optional("dynamicRegistration")?,
-            will_save: object.optional("willSave")?,
-            will_save_wait_until: object.optional("willSaveWaitUntil")?,
-            did_save: object.optional("didSave")?,
+            dynamic_registration,
+            will_save,
+            will_save_wait_until,
+            did_save,
         })
     }
 

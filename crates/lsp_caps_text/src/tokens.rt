@@ -3,7 +3,7 @@ ghost use Rattle.std.specs.Prelude.{◌≡◌, None, []};
 ghost use Rattle.lsp_caps_text.specs.Tokens.{semantic_tokens_client_capabilities_row, semantic_tokens_client_capabilities_requests_row};
 
 use lsp_names::{SemanticTokenModifier, SemanticTokenType, SemanticTokensFullOptions, TokenFormat};
-use lsp_shape::{Copies, Misfit, NoMemory, Reader, Wire, Writer};
+use lsp_shape::{Copies, Misfit, NoMemory, Optional, Required, Wire, Writer, read_object};
 use serde_json::Value;
 use std::alloc::{AllocError, Global};
 
@@ -101,17 +101,43 @@ impl Wire for SemanticTokensClientCapabilities {
         alloc: Global,
         value: &Value,
     ) -> Result<SemanticTokensClientCapabilities, Misfit> {
-        let object = Reader::new(alloc, value)?;
+        let (
+            (dynamic_registration, requests, token_types, token_modifiers, formats),
+            (
+                overlapping_token_support,
+                multiline_token_support,
+                server_cancel_support,
+                augments_syntax_tokens,
+            ),
+        ) = read_object(
+            alloc,
+            value,
+            (
+                (
+                    Optional("dynamicRegistration"),
+                    Required("requests"),
+                    Required("tokenTypes"),
+                    Required("tokenModifiers"),
+                    Required("formats"),
+                ),
+                (
+                    Optional("overlappingTokenSupport"),
+                    Optional("multilineTokenSupport"),
+                    Optional("serverCancelSupport"),
+                    Optional("augmentsSyntaxTokens"),
+                ),
+            ),
+        )?;
         Ok(SemanticTokensClientCapabilities {
-            dynamic_registration: object.optional("dynamicRegistration")?,
-            requests: object.field("requests")?,
-            token_types: object.field("tokenTypes")?,
-            token_modifiers: object.field("tokenModifiers")?,
-            formats: object.field("formats")?,
-            overlapping_token_support: object.optional("overlappingTokenSupport")?,
-            multiline_token_support: object.optional("multilineTokenSupport")?,
-            server_cancel_support: object.optional("serverCancelSupport")?,
-            augments_syntax_tokens: object.optional("augmentsSyntaxTokens")?,
+            dynamic_registration,
+            requests,
+            token_types,
+            token_modifiers,
+            formats,
+            overlapping_token_support,
+            multiline_token_support,
+            server_cancel_support,
+            augments_syntax_tokens,
         })
     }
 
@@ -152,11 +178,8 @@ impl Wire for SemanticTokensClientCapabilitiesRequests {
         alloc: Global,
         value: &Value,
     ) -> Result<SemanticTokensClientCapabilitiesRequests, Misfit> {
-        let object = Reader::new(alloc, value)?;
-        Ok(SemanticTokensClientCapabilitiesRequests {
-            range: object.optional("range")?,
-            full: object.optional("full")?,
-        })
+        let (range, full) = read_object(alloc, value, (Optional("range"), Optional("full")))?;
+        Ok(SemanticTokensClientCapabilitiesRequests { range, full })
     }
 
     fn to_value(&self, alloc: Global) -> Result<Value, NoMemory> {

@@ -1,7 +1,7 @@
 // The client.
 ghost use Rattle.lsp_caps_work.specs.Client.{client_info_row, initialized_params_row};
 
-use lsp_shape::{Misfit, NoMemory, Reader, Wire, Writer};
+use lsp_shape::{Misfit, NoMemory, Optional, Reader, Required, Wire, Writer, read_object};
 use serde_json::Value;
 use std::alloc::Global;
 
@@ -22,11 +22,8 @@ impl Wire for ClientInfo {
     ghost shown = { client_info_row.shown };
 
     fn from_value(alloc: Global, value: &Value) -> Result<ClientInfo, Misfit> {
-        let object = Reader::new(alloc, value)?;
-        Ok(ClientInfo {
-            name: object.field("name")?,
-            version: object.optional("version")?,
-        })
+        let (name, version) = read_object(alloc, value, (Required("name"), Optional("version")))?;
+        Ok(ClientInfo { name, version })
     }
 
     fn to_value(&self, alloc: Global) -> Result<Value, NoMemory> {

@@ -2,7 +2,7 @@
 ghost use Rattle.lsp_caps_work.specs.Configuration.{did_change_watched_files_client_capabilities_row};
 
 use lsp_base::DynamicRegistrationClientCapabilities;
-use lsp_shape::{Misfit, NoMemory, Reader, Wire, Writer};
+use lsp_shape::{Misfit, NoMemory, Optional, Wire, Writer, read_object};
 use serde_json::Value;
 use std::alloc::Global;
 
@@ -32,10 +32,17 @@ impl Wire for DidChangeWatchedFilesClientCapabilities {
         alloc: Global,
         value: &Value,
     ) -> Result<DidChangeWatchedFilesClientCapabilities, Misfit> {
-        let object = Reader::new(alloc, value)?;
+        let (dynamic_registration, relative_pattern_support) = read_object(
+            alloc,
+            value,
+            (
+                Optional("dynamicRegistration"),
+                Optional("relativePatternSupport"),
+            ),
+        )?;
         Ok(DidChangeWatchedFilesClientCapabilities {
-            dynamic_registration: object.optional("dynamicRegistration")?,
-            relative_pattern_support: object.optional("relativePatternSupport")?,
+            dynamic_registration,
+            relative_pattern_support,
         })
     }
 

@@ -1,7 +1,7 @@
 // Edits of the workspace.
 ghost use Rattle.lsp_caps_work.specs.Edit.{workspace_edit_client_capabilities_row, change_annotation_workspace_edit_client_capabilities_row, resource_operation_kind_row, failure_handling_kind_row};
 
-use lsp_shape::{Misfit, NoMemory, Reader, Wanted, Wire, Writer};
+use lsp_shape::{Misfit, NoMemory, Optional, Wanted, Wire, Writer, read_object};
 use serde_json::Value;
 use std::alloc::Global;
 
@@ -30,13 +30,29 @@ impl Wire for WorkspaceEditClientCapabilities {
     ghost shown = { workspace_edit_client_capabilities_row.shown };
 
     fn from_value(alloc: Global, value: &Value) -> Result<WorkspaceEditClientCapabilities, Misfit> {
-        let object = Reader::new(alloc, value)?;
+        let (
+            document_changes,
+            resource_operations,
+            failure_handling,
+            normalizes_line_endings,
+            change_annotation_support,
+        ) = read_object(
+            alloc,
+            value,
+            (
+                Optional("documentChanges"),
+                Optional("resourceOperations"),
+                Optional("failureHandling"),
+                Optional("normalizesLineEndings"),
+                Optional("changeAnnotationSupport"),
+            ),
+        )?;
         Ok(WorkspaceEditClientCapabilities {
-            document_changes: object.optional("documentChanges")?,
-            resource_operations: object.optional("resourceOperations")?,
-            failure_handling: object.optional("failureHandling")?,
-            normalizes_line_endings: object.optional("normalizesLineEndings")?,
-            change_annotation_support: object.optional("changeAnnotationSupport")?,
+            document_changes,
+            resource_operations,
+            failure_handling,
+            normalizes_line_endings,
+            change_annotation_support,
         })
     }
 
@@ -69,10 +85,8 @@ impl Wire for ChangeAnnotationWorkspaceEditClientCapabilities {
         alloc: Global,
         value: &Value,
     ) -> Result<ChangeAnnotationWorkspaceEditClientCapabilities, Misfit> {
-        let object = Reader::new(alloc, value)?;
-        Ok(ChangeAnnotationWorkspaceEditClientCapabilities {
-            groups_on_label: object.optional("groupsOnLabel")?,
-        })
+        let groups_on_label = read_object(alloc, value, Optional("groupsOnLabel"))?;
+        Ok(ChangeAnnotationWorkspaceEditClientCapabilities { groups_on_label })
     }
 
     fn to_value(&self, alloc: Global) -> Result<Value, NoMemory> {

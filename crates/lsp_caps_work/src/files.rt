@@ -1,7 +1,7 @@
 // Files that are created, renamed and deleted.
 ghost use Rattle.lsp_caps_work.specs.Files.{workspace_file_operations_client_capabilities_row};
 
-use lsp_shape::{Misfit, NoMemory, Reader, Wire, Writer};
+use lsp_shape::{Misfit, NoMemory, Optional, Wire, Writer, read_object};
 use serde_json::Value;
 use std::alloc::Global;
 
@@ -37,15 +37,34 @@ impl Wire for WorkspaceFileOperationsClientCapabilities {
         alloc: Global,
         value: &Value,
     ) -> Result<WorkspaceFileOperationsClientCapabilities, Misfit> {
-        let object = Reader::new(alloc, value)?;
+        let (
+            (dynamic_registration, did_create, will_create, did_rename),
+            (will_rename, did_delete, will_delete),
+        ) = read_object(
+            alloc,
+            value,
+            (
+                (
+                    Optional("dynamicRegistration"),
+                    Optional("didCreate"),
+                    Optional("willCreate"),
+                    Optional("didRename"),
+                ),
+                (
+                    Optional("willRename"),
+                    Optional("didDelete"),
+                    Optional("willDelete"),
+                ),
+            ),
+        )?;
         Ok(WorkspaceFileOperationsClientCapabilities {
-            dynamic_registration: object.optional("dynamicRegistration")?,
-            did_create: object.optional("didCreate")?,
-            will_create: object.optional("willCreate")?,
-            did_rename: object.optional("didRename")?,
-            will_rename: object.optional("willRename")?,
-            did_delete: object.optional("didDelete")?,
-            will_delete: object.optional("willDelete")?,
+            dynamic_registration,
+            did_create,
+            will_create,
+            did_rename,
+            will_rename,
+            did_delete,
+            will_delete,
         })
     }
 

@@ -3,7 +3,7 @@ ghost use Rattle.std.specs.Prelude.{◌≡◌, None, [], false, string_bytes};
 ghost use Rattle.lsp_caps_work.specs.General.{general_client_capabilities_row, stale_request_support_client_capabilities_row, regular_expressions_client_capabilities_row, markdown_client_capabilities_row};
 
 use lsp_names::PositionEncodingKind;
-use lsp_shape::{Copies, Misfit, NoMemory, Reader, Wire, Writer};
+use lsp_shape::{Copies, Misfit, NoMemory, Optional, Required, Wire, Writer, read_object};
 use serde_json::Value;
 use std::alloc::{AllocError, Global};
 
@@ -50,12 +50,22 @@ impl Wire for GeneralClientCapabilities {
     ghost shown = { general_client_capabilities_row.shown };
 
     fn from_value(alloc: Global, value: &Value) -> Result<GeneralClientCapabilities, Misfit> {
-        let object = Reader::new(alloc, value)?;
+        let (regular_expressions, markdown, stale_request_support, position_encodings) =
+            read_object(
+                alloc,
+                value,
+                (
+                    Optional("regularExpressions"),
+                    Optional("markdown"),
+                    Optional("staleRequestSupport"),
+                    Optional("positionEncodings"),
+                ),
+            )?;
         Ok(GeneralClientCapabilities {
-            regular_expressions: object.optional("regularExpressions")?,
-            markdown: object.optional("markdown")?,
-            stale_request_support: object.optional("staleRequestSupport")?,
-            position_encodings: object.optional("positionEncodings")?,
+            regular_expressions,
+            markdown,
+            stale_request_support,
+            position_encodings,
         })
     }
 
@@ -104,10 +114,14 @@ impl Wire for StaleRequestSupportClientCapabilities {
         alloc: Global,
         value: &Value,
     ) -> Result<StaleRequestSupportClientCapabilities, Misfit> {
-        let object = Reader::new(alloc, value)?;
+        let (cancel, retry_on_content_modified) = read_object(
+            alloc,
+            value,
+            (Required("cancel"), Required("retryOnContentModified")),
+        )?;
         Ok(StaleRequestSupportClientCapabilities {
-            cancel: object.field("cancel")?,
-            retry_on_content_modified: object.field("retryOnContentModified")?,
+            cancel,
+            retry_on_content_modified,
         })
     }
 
@@ -153,11 +167,12 @@ impl Wire for RegularExpressionsClientCapabilities {
         alloc: Global,
         value: &Value,
     ) -> Result<RegularExpressionsClientCapabilities, Misfit> {
-        let object = Reader::new(alloc, value)?;
-        Ok(RegularExpressionsClientCapabilities {
-            engine: object.field("engine")?,
-            version: object.optional("version")?,
-        })
+        let (engine, version) = read_object(
+            alloc,
+            value,
+            (Required("engine"), Optional("version")),
+        )?;
+        Ok(RegularExpressionsClientCapabilities { engine, version })
     }
 
     fn to_value(&self, alloc: Global) -> Result<Value, NoMemory> {
@@ -203,11 +218,19 @@ impl Wire for MarkdownClientCapabilities {
     ghost shown = { markdown_client_capabilities_row.shown };
 
     fn from_value(alloc: Global, value: &Value) -> Result<MarkdownClientCapabilities, Misfit> {
-        let object = Reader::new(alloc, value)?;
+        let (parser, version, allowed_tags) = read_object(
+            alloc,
+            value,
+            (
+                Required("parser"),
+                Optional("version"),
+                Optional("allowedTags"),
+            ),
+        )?;
         Ok(MarkdownClientCapabilities {
-            parser: object.field("parser")?,
-            version: object.optional("version")?,
-            allowed_tags: object.optional("allowedTags")?,
+            parser,
+            version,
+            allowed_tags,
         })
     }
 

@@ -1,7 +1,7 @@
 // Notebooks.
 ghost use Rattle.lsp_caps_work.specs.Notebook.{notebook_document_client_capabilities_row, notebook_document_sync_client_capabilities_row};
 
-use lsp_shape::{Misfit, NoMemory, Reader, Wire, Writer};
+use lsp_shape::{Misfit, NoMemory, Optional, Required, Wire, Writer, read_object};
 use serde_json::Value;
 use std::alloc::Global;
 
@@ -23,10 +23,8 @@ impl Wire for NotebookDocumentClientCapabilities {
         alloc: Global,
         value: &Value,
     ) -> Result<NotebookDocumentClientCapabilities, Misfit> {
-        let object = Reader::new(alloc, value)?;
-        Ok(NotebookDocumentClientCapabilities {
-            synchronization: object.field("synchronization")?,
-        })
+        let synchronization = read_object(alloc, value, Required("synchronization"))?;
+        Ok(NotebookDocumentClientCapabilities { synchronization })
     }
 
     fn to_value(&self, alloc: Global) -> Result<Value, NoMemory> {
@@ -57,10 +55,17 @@ impl Wire for NotebookDocumentSyncClientCapabilities {
         alloc: Global,
         value: &Value,
     ) -> Result<NotebookDocumentSyncClientCapabilities, Misfit> {
-        let object = Reader::new(alloc, value)?;
+        let (dynamic_registration, execution_summary_report) = read_object(
+            alloc,
+            value,
+            (
+                Optional("dynamicRegistration"),
+                Optional("executionSummaryReport"),
+            ),
+        )?;
         Ok(NotebookDocumentSyncClientCapabilities {
-            dynamic_registration: object.optional("dynamicRegistration")?,
-            execution_summary_report: object.optional("executionSummaryReport")?,
+            dynamic_registration,
+            execution_summary_report,
         })
     }
 

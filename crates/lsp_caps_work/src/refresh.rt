@@ -1,7 +1,7 @@
 // What a server may ask the client to ask for again.
 ghost use Rattle.lsp_caps_work.specs.Refresh.{code_lens_workspace_client_capabilities_row, semantic_tokens_workspace_client_capabilities_row, inlay_hint_workspace_client_capabilities_row, inline_value_workspace_client_capabilities_row, diagnostic_workspace_client_capabilities_row};
 
-use lsp_shape::{Misfit, NoMemory, Reader, Wire, Writer};
+use lsp_shape::{Misfit, NoMemory, Optional, Wire, Writer, read_object};
 use serde_json::Value;
 use std::alloc::Global;
 
@@ -24,10 +24,8 @@ impl Wire for CodeLensWorkspaceClientCapabilities {
         alloc: Global,
         value: &Value,
     ) -> Result<CodeLensWorkspaceClientCapabilities, Misfit> {
-        let object = Reader::new(alloc, value)?;
-        Ok(CodeLensWorkspaceClientCapabilities {
-            refresh_support: object.optional("refreshSupport")?,
-        })
+        let refresh_support = read_object(alloc, value, Optional("refreshSupport"))?;
+        Ok(CodeLensWorkspaceClientCapabilities { refresh_support })
     }
 
     fn to_value(&self, alloc: Global) -> Result<Value, NoMemory> {
@@ -56,10 +54,8 @@ impl Wire for SemanticTokensWorkspaceClientCapabilities {
         alloc: Global,
         value: &Value,
     ) -> Result<SemanticTokensWorkspaceClientCapabilities, Misfit> {
-        let object = Reader::new(alloc, value)?;
-        Ok(SemanticTokensWorkspaceClientCapabilities {
-            refresh_support: object.optional("refreshSupport")?,
-        })
+        let refresh_support = read_object(alloc, value, Optional("refreshSupport"))?;
+        Ok(SemanticTokensWorkspaceClientCapabilities { refresh_support })
     }
 
     fn to_value(&self, alloc: Global) -> Result<Value, NoMemory> {
@@ -88,10 +84,8 @@ impl Wire for InlayHintWorkspaceClientCapabilities {
         alloc: Global,
         value: &Value,
     ) -> Result<InlayHintWorkspaceClientCapabilities, Misfit> {
-        let object = Reader::new(alloc, value)?;
-        Ok(InlayHintWorkspaceClientCapabilities {
-            refresh_support: object.optional("refreshSupport")?,
-        })
+        let refresh_support = read_object(alloc, value, Optional("refreshSupport"))?;
+        Ok(InlayHintWorkspaceClientCapabilities { refresh_support })
     }
 
     fn to_value(&self, alloc: Global) -> Result<Value, NoMemory> {
@@ -120,10 +114,8 @@ impl Wire for InlineValueWorkspaceClientCapabilities {
         alloc: Global,
         value: &Value,
     ) -> Result<InlineValueWorkspaceClientCapabilities, Misfit> {
-        let object = Reader::new(alloc, value)?;
-        Ok(InlineValueWorkspaceClientCapabilities {
-            refresh_support: object.optional("refreshSupport")?,
-        })
+        let refresh_support = read_object(alloc, value, Optional("refreshSupport"))?;
+        Ok(InlineValueWorkspaceClientCapabilities { refresh_support })
     }
 
     fn to_value(&self, alloc: Global) -> Result<Value, NoMemory> {
@@ -152,10 +144,8 @@ impl Wire for DiagnosticWorkspaceClientCapabilities {
         alloc: Global,
         value: &Value,
     ) -> Result<DiagnosticWorkspaceClientCapabilities, Misfit> {
-        let object = Reader::new(alloc, value)?;
-        Ok(DiagnosticWorkspaceClientCapabilities {
-            refresh_support: object.optional("refreshSupport")?,
-        })
+        let refresh_support = read_object(alloc, value, Optional("refreshSupport"))?;
+        Ok(DiagnosticWorkspaceClientCapabilities { refresh_support })
     }
 
     fn to_value(&self, alloc: Global) -> Result<Value, NoMemory> {

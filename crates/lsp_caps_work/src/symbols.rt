@@ -4,7 +4,7 @@ ghost use Rattle.lsp_caps_work.specs.Symbols.{workspace_symbol_client_capabiliti
 
 use lsp_base::{SymbolKindCapability, TagSupport};
 use lsp_kinds::SymbolTag;
-use lsp_shape::{Misfit, NoMemory, Reader, Wire, Writer};
+use lsp_shape::{Misfit, NoMemory, Optional, Required, Supported, Wire, Writer, read_object};
 use serde_json::Value;
 use std::alloc::Global;
 
@@ -35,12 +35,21 @@ impl Wire for WorkspaceSymbolClientCapabilities {
         alloc: Global,
         value: &Value,
     ) -> Result<WorkspaceSymbolClientCapabilities, Misfit> {
-        let object = Reader::new(alloc, value)?;
+        let (dynamic_registration, symbol_kind, tag_support, resolve_support) = read_object(
+            alloc,
+            value,
+            (
+                Optional("dynamicRegistration"),
+                Optional("symbolKind"),
+                Supported("tagSupport"),
+                Optional("resolveSupport"),
+            ),
+        )?;
         Ok(WorkspaceSymbolClientCapabilities {
-            dynamic_registration: object.optional("dynamicRegistration")?,
-            symbol_kind: object.optional("symbolKind")?,
-            tag_support: object.supported("tagSupport")?,
-            resolve_support: object.optional("resolveSupport")?,
+            dynamic_registration,
+            symbol_kind,
+            tag_support,
+            resolve_support,
         })
     }
 
@@ -84,10 +93,8 @@ impl Wire for WorkspaceSymbolResolveSupportCapability {
         alloc: Global,
         value: &Value,
     ) -> Result<WorkspaceSymbolResolveSupportCapability, Misfit> {
-        let object = Reader::new(alloc, value)?;
-        Ok(WorkspaceSymbolResolveSupportCapability {
-            properties: object.field("properties")?,
-        })
+        let properties = read_object(alloc, value, Required("properties"))?;
+        Ok(WorkspaceSymbolResolveSupportCapability { properties })
     }
 
     fn to_value(&self, alloc: Global) -> Result<Value, NoMemory> {

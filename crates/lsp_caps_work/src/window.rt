@@ -1,7 +1,7 @@
 // Windows.
 ghost use Rattle.lsp_caps_work.specs.Window.{window_client_capabilities_row, show_message_request_client_capabilities_row, message_action_item_capabilities_row, show_document_client_capabilities_row};
 
-use lsp_shape::{Misfit, NoMemory, Reader, Wire, Writer};
+use lsp_shape::{Misfit, NoMemory, Optional, Required, Wire, Writer, read_object};
 use serde_json::Value;
 use std::alloc::Global;
 
@@ -26,11 +26,19 @@ impl Wire for WindowClientCapabilities {
     ghost shown = { window_client_capabilities_row.shown };
 
     fn from_value(alloc: Global, value: &Value) -> Result<WindowClientCapabilities, Misfit> {
-        let object = Reader::new(alloc, value)?;
+        let (work_done_progress, show_message, show_document) = read_object(
+            alloc,
+            value,
+            (
+                Optional("workDoneProgress"),
+                Optional("showMessage"),
+                Optional("showDocument"),
+            ),
+        )?;
         Ok(WindowClientCapabilities {
-            work_done_progress: object.optional("workDoneProgress")?,
-            show_message: object.optional("showMessage")?,
-            show_document: object.optional("showDocument")?,
+            work_done_progress,
+            show_message,
+            show_document,
         })
     }
 
@@ -61,9 +69,9 @@ impl Wire for ShowMessageRequestClientCapabilities {
         alloc: Global,
         value: &Value,
     ) -> Result<ShowMessageRequestClientCapabilities, Misfit> {
-        let object = Reader::new(alloc, value)?;
+        let message_action_item = read_object(alloc, value, Optional("messageActionItem"))?;
         Ok(ShowMessageRequestClientCapabilities {
-            message_action_item: object.optional("messageActionItem")?,
+            message_action_item,
         })
     }
 
@@ -90,9 +98,13 @@ impl Wire for MessageActionItemCapabilities {
     ghost shown = { message_action_item_capabilities_row.shown };
 
     fn from_value(alloc: Global, value: &Value) -> Result<MessageActionItemCapabilities, Misfit> {
-        let object = Reader::new(alloc, value)?;
+        let additional_properties_support = read_object(
+            alloc,
+            value,
+            Optional("additionalPropertiesSupport"),
+        )?;
         Ok(MessageActionItemCapabilities {
-            additional_properties_support: object.optional("additionalPropertiesSupport")?,
+            additional_properties_support,
         })
     }
 
@@ -121,10 +133,8 @@ impl Wire for ShowDocumentClientCapabilities {
     ghost shown = { show_document_client_capabilities_row.shown };
 
     fn from_value(alloc: Global, value: &Value) -> Result<ShowDocumentClientCapabilities, Misfit> {
-        let object = Reader::new(alloc, value)?;
-        Ok(ShowDocumentClientCapabilities {
-            support: object.field("support")?,
-        })
+        let support = read_object(alloc, value, Required("support"))?;
+        Ok(ShowDocumentClientCapabilities { support })
     }
 
     fn to_value(&self, alloc: Global) -> Result<Value, NoMemory> {

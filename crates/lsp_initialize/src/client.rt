@@ -11,7 +11,9 @@ use lsp_caps_work::{
     WindowClientCapabilities, WorkspaceClientCapabilities,
 };
 use lsp_names::TraceValue;
-use lsp_shape::{Copies, Misfit, NoMemory, Reader, Wire, Writer, attempt, flat};
+use lsp_shape::{
+    Copies, Flat, Misfit, NoMemory, Optional, Required, Wire, Writer, attempt, flat, read_object,
+};
 use lsp_uri::Uri;
 use serde_json::Value;
 use std::alloc::{AllocError, Global};
@@ -66,14 +68,26 @@ impl Wire for ClientCapabilities {
     ghost shown = { client_capabilities_row.shown };
 
     fn from_value(alloc: Global, value: &Value) -> Result<ClientCapabilities, Misfit> {
-        let object = Reader::new(alloc, value)?;
+        let (notebook_document, window, experimental, general, workspace, text_document) =
+            read_object(
+                alloc,
+                value,
+                (
+                    Optional("notebookDocument"),
+                    Optional("window"),
+                    Optional("experimental"),
+                    Optional("general"),
+                    Optional("workspace"),
+                    Optional("textDocument"),
+                ),
+            )?;
         Ok(ClientCapabilities {
-            notebook_document: object.optional("notebookDocument")?,
-            window: object.optional("window")?,
-            experimental: object.optional("experimental")?,
-            general: object.optional("general")?,
-            workspace: object.optional("workspace")?,
-            text_document: object.optional("textDocument")?,
+            notebook_document,
+            window,
+            experimental,
+            general,
+            workspace,
+            text_document,
         })
     }
 
@@ -159,18 +173,40 @@ impl Wire for InitializeParams {
     ghost shown = { initialize_params_row.shown };
 
     fn from_value(alloc: Global, value: &Value) -> Result<InitializeParams, Misfit> {
-        let object = Reader::new(alloc, value)?;
+        let (
+            (process_id, root_path, root_uri, trace, workspace_folders),
+            (locale, client_info, work_done_progress_params, initialization_options, capabilities),
+        ) = read_object(
+            alloc,
+            value,
+            (
+                (
+                    Optional("processId"),
+                    Optional("rootPath"),
+                    Optional("rootUri"),
+                    Optional("trace"),
+                    Optional("workspaceFolders"),
+                ),
+                (
+                    Optional("locale"),
+                    Optional("clientInfo"),
+                    Flat,
+                    Optional("initializationOptions"),
+                    Required("capabilities"),
+                ),
+            ),
+        )?;
         Ok(InitializeParams {
-            process_id: object.optional("processId")?,
-            root_path: object.optional("rootPath")?,
-            root_uri: object.optional("rootUri")?,
-            trace: object.optional("trace")?,
-            workspace_folders: object.optional("workspaceFolders")?,
-            locale: object.optional("locale")?,
-            client_info: object.optional("clientInfo")?,
-            work_done_progress_params: flat(alloc, value)?,
-            initialization_options: object.optional("initializationOptions")?,
-            capabilities: object.field("capabilities")?,
+            process_id,
+            root_path,
+            root_uri,
+            trace,
+            workspace_folders,
+            locale,
+            client_info,
+            work_done_progress_params,
+            initialization_options,
+            capabilities,
         })
     }
 

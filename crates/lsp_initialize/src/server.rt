@@ -24,7 +24,9 @@ use lsp_offer_work::{
     ExecuteCommandOptions, NotebookDocumentSyncOptions, NotebookDocumentSyncRegistrationOptions,
     ServerInfo, WorkspaceServerCapabilities,
 };
-use lsp_shape::{Copies, Misfit, NoMemory, Reader, WideReader, Wire, Writer};
+use lsp_shape::{
+    Copies, Misfit, NoMemory, Optional, Required, WideReader, Wire, Writer, read_object,
+};
 use serde_json::Value;
 use std::alloc::{AllocError, Global};
 
@@ -343,10 +345,14 @@ impl Wire for InitializeResult {
     ghost shown = { initialize_result_row.shown };
 
     fn from_value(alloc: Global, value: &Value) -> Result<InitializeResult, Misfit> {
-        let object = Reader::new(alloc, value)?;
+        let (server_info, capabilities) = read_object(
+            alloc,
+            value,
+            (Optional("serverInfo"), Required("capabilities")),
+        )?;
         Ok(InitializeResult {
-            server_info: object.optional("serverInfo")?,
-            capabilities: object.field("capabilities")?,
+            server_info,
+            capabilities,
         })
     }
 

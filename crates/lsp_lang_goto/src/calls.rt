@@ -3,7 +3,9 @@ ghost use Rattle.lsp_lang_goto.specs.Calls.{call_hierarchy_prepare_params_row, c
 
 use lsp_base::{PartialResultParams, Range, TextDocumentPositionParams, WorkDoneProgressParams};
 use lsp_kinds::{SymbolKind, SymbolTag};
-use lsp_shape::{Copies, Misfit, NoMemory, Reader, Wire, Writer, flat};
+use lsp_shape::{
+    Copies, Flat, Misfit, NoMemory, Optional, Required, Wire, Writer, flat, read_object,
+};
 use lsp_uri::Uri;
 use serde_json::Value;
 use std::alloc::{AllocError, Global};
@@ -98,16 +100,33 @@ impl Wire for CallHierarchyItem {
     ghost shown = { call_hierarchy_item_row.shown };
 
     fn from_value(alloc: Global, value: &Value) -> Result<CallHierarchyItem, Misfit> {
-        let object = Reader::new(alloc, value)?;
+        let ((name, kind, tags, detail), (uri, range, selection_range, payload)) = read_object(
+            alloc,
+            value,
+            (
+                (
+                    Required("name"),
+                    Required("kind"),
+                    Optional("tags"),
+                    Optional("detail"),
+                ),
+                (
+                    Required("uri"),
+                    Required("range"),
+                    Required("selectionRange"),
+                    Optional("data"),
+                ),
+            ),
+        )?;
         Ok(CallHierarchyItem {
-            name: object.field("name")?,
-            kind: object.field("kind")?,
-            tags: object.optional("tags")?,
-            detail: object.optional("detail")?,
-            uri: object.field("uri")?,
-            range: object.field("range")?,
-            selection_range: object.field("selectionRange")?,
-            payload: object.optional("data")?,
+            name,
+            kind,
+            tags,
+            detail,
+            uri,
+            range,
+            selection_range,
+            payload,
         })
     }
 
@@ -148,11 +167,15 @@ impl Wire for CallHierarchyIncomingCallsParams {
         alloc: Global,
         value: &Value,
     ) -> Result<CallHierarchyIncomingCallsParams, Misfit> {
-        let object = Reader::new(alloc, value)?;
+        let (item, work_done_progress_params, partial_result_params) = read_object(
+            alloc,
+            value,
+            (Required("item"), Flat, Flat),
+        )?;
         Ok(CallHierarchyIncomingCallsParams {
-            item: object.field("item")?,
-            work_done_progress_params: flat(alloc, value)?,
-            partial_result_params: flat(alloc, value)?,
+            item,
+            work_done_progress_params,
+            partial_result_params,
         })
     }
 
@@ -182,11 +205,12 @@ impl Wire for CallHierarchyIncomingCall {
     ghost shown = { call_hierarchy_incoming_call_row.shown };
 
     fn from_value(alloc: Global, value: &Value) -> Result<CallHierarchyIncomingCall, Misfit> {
-        let object = Reader::new(alloc, value)?;
-        Ok(CallHierarchyIncomingCall {
-            from: object.field("from")?,
-            from_ranges: object.field("fromRanges")?,
-        })
+        let (from, from_ranges) = read_object(
+            alloc,
+            value,
+            (Required("from"), Required("fromRanges")),
+        )?;
+        Ok(CallHierarchyIncomingCall { from, from_ranges })
     }
 
     fn to_value(&self, alloc: Global) -> Result<Value, NoMemory> {
@@ -220,11 +244,15 @@ impl Wire for CallHierarchyOutgoingCallsParams {
         alloc: Global,
         value: &Value,
     ) -> Result<CallHierarchyOutgoingCallsParams, Misfit> {
-        let object = Reader::new(alloc, value)?;
+        let (item, work_done_progress_params, partial_result_params) = read_object(
+            alloc,
+            value,
+            (Required("item"), Flat, Flat),
+        )?;
         Ok(CallHierarchyOutgoingCallsParams {
-            item: object.field("item")?,
-            work_done_progress_params: flat(alloc, value)?,
-            partial_result_params: flat(alloc, value)?,
+            item,
+            work_done_progress_params,
+            partial_result_params,
         })
     }
 
@@ -255,11 +283,12 @@ impl Wire for CallHierarchyOutgoingCall {
     ghost shown = { call_hierarchy_outgoing_call_row.shown };
 
     fn from_value(alloc: Global, value: &Value) -> Result<CallHierarchyOutgoingCall, Misfit> {
-        let object = Reader::new(alloc, value)?;
-        Ok(CallHierarchyOutgoingCall {
-            to: object.field("to")?,
-            from_ranges: object.field("fromRanges")?,
-        })
+        let (to, from_ranges) = read_object(
+            alloc,
+            value,
+            (Required("to"), Required("fromRanges")),
+        )?;
+        Ok(CallHierarchyOutgoingCall { to, from_ranges })
     }
 
     fn to_value(&self, alloc: Global) -> Result<Value, NoMemory> {

@@ -4,7 +4,7 @@ ghost use Rattle.lsp_lang_goto.specs.CodeLens.{code_lens_params_row, code_lens_r
 use lsp_base::{
     Command, PartialResultParams, Range, TextDocumentIdentifier, WorkDoneProgressParams,
 };
-use lsp_shape::{Misfit, NoMemory, Reader, Wire, Writer, flat};
+use lsp_shape::{Flat, Misfit, NoMemory, Optional, Required, Wire, Writer, flat, read_object};
 use serde_json::Value;
 use std::alloc::Global;
 
@@ -28,11 +28,15 @@ impl Wire for CodeLensParams {
     ghost shown = { code_lens_params_row.shown };
 
     fn from_value(alloc: Global, value: &Value) -> Result<CodeLensParams, Misfit> {
-        let object = Reader::new(alloc, value)?;
+        let (text_document, work_done_progress_params, partial_result_params) = read_object(
+            alloc,
+            value,
+            (Required("textDocument"), Flat, Flat),
+        )?;
         Ok(CodeLensParams {
-            text_document: object.field("textDocument")?,
-            work_done_progress_params: flat(alloc, value)?,
-            partial_result_params: flat(alloc, value)?,
+            text_document,
+            work_done_progress_params,
+            partial_result_params,
         })
     }
 
@@ -64,11 +68,15 @@ impl Wire for CodeLens {
     ghost shown = { code_lens_row.shown };
 
     fn from_value(alloc: Global, value: &Value) -> Result<CodeLens, Misfit> {
-        let object = Reader::new(alloc, value)?;
+        let (range, command, payload) = read_object(
+            alloc,
+            value,
+            (Required("range"), Optional("command"), Optional("data")),
+        )?;
         Ok(CodeLens {
-            range: object.field("range")?,
-            command: object.optional("command")?,
-            payload: object.optional("data")?,
+            range,
+            command,
+            payload,
         })
     }
 

@@ -2,7 +2,7 @@
 ghost use Rattle.lsp_lang_goto.specs.Color.{document_color_params_row};
 
 use lsp_base::{PartialResultParams, TextDocumentIdentifier, WorkDoneProgressParams};
-use lsp_shape::{Misfit, NoMemory, Reader, Wire, Writer, flat};
+use lsp_shape::{Flat, Misfit, NoMemory, Required, Wire, Writer, flat, read_object};
 use serde_json::Value;
 use std::alloc::Global;
 
@@ -26,11 +26,15 @@ impl Wire for DocumentColorParams {
     ghost shown = { document_color_params_row.shown };
 
     fn from_value(alloc: Global, value: &Value) -> Result<DocumentColorParams, Misfit> {
-        let object = Reader::new(alloc, value)?;
+        let (text_document, work_done_progress_params, partial_result_params) = read_object(
+            alloc,
+            value,
+            (Required("textDocument"), Flat, Flat),
+        )?;
         Ok(DocumentColorParams {
-            text_document: object.field("textDocument")?,
-            work_done_progress_params: flat(alloc, value)?,
-            partial_result_params: flat(alloc, value)?,
+            text_document,
+            work_done_progress_params,
+            partial_result_params,
         })
     }
 

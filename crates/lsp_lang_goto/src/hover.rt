@@ -3,7 +3,9 @@ ghost use Rattle.lsp_lang_goto.specs.Hover.{hover_params_row, hover_row, hover_c
 
 use lsp_base::{Range, TextDocumentPositionParams, WorkDoneProgressParams};
 use lsp_names::{MarkedString, MarkupContent};
-use lsp_shape::{Misfit, NoMemory, Reader, Wire, Writer, attempt, flat, form};
+use lsp_shape::{
+    Misfit, NoMemory, Optional, Required, Wire, Writer, attempt, flat, form, read_object,
+};
 use serde_json::Value;
 use std::alloc::Global;
 
@@ -57,11 +59,12 @@ impl Wire for Hover {
     ghost shown = { hover_row.shown };
 
     fn from_value(alloc: Global, value: &Value) -> Result<Hover, Misfit> {
-        let object = Reader::new(alloc, value)?;
-        Ok(Hover {
-            contents: object.field("contents")?,
-            range: object.optional("range")?,
-        })
+        let (contents, range) = read_object(
+            alloc,
+            value,
+            (Required("contents"), Optional("range")),
+        )?;
+        Ok(Hover { contents, range })
     }
 
     fn to_value(&self, alloc: Global) -> Result<Value, NoMemory> {

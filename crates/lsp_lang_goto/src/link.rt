@@ -2,7 +2,7 @@
 ghost use Rattle.lsp_lang_goto.specs.Link.{document_link_params_row, document_link_row};
 
 use lsp_base::{PartialResultParams, Range, TextDocumentIdentifier, WorkDoneProgressParams};
-use lsp_shape::{Misfit, NoMemory, Reader, Wire, Writer, flat};
+use lsp_shape::{Flat, Misfit, NoMemory, Optional, Required, Wire, Writer, flat, read_object};
 use lsp_uri::Uri;
 use serde_json::Value;
 use std::alloc::Global;
@@ -27,11 +27,15 @@ impl Wire for DocumentLinkParams {
     ghost shown = { document_link_params_row.shown };
 
     fn from_value(alloc: Global, value: &Value) -> Result<DocumentLinkParams, Misfit> {
-        let object = Reader::new(alloc, value)?;
+        let (text_document, work_done_progress_params, partial_result_params) = read_object(
+            alloc,
+            value,
+            (Required("textDocument"), Flat, Flat),
+        )?;
         Ok(DocumentLinkParams {
-            text_document: object.field("textDocument")?,
-            work_done_progress_params: flat(alloc, value)?,
-            partial_result_params: flat(alloc, value)?,
+            text_document,
+            work_done_progress_params,
+            partial_result_params,
         })
     }
 
@@ -67,12 +71,21 @@ impl Wire for DocumentLink {
     ghost shown = { document_link_row.shown };
 
     fn from_value(alloc: Global, value: &Value) -> Result<DocumentLink, Misfit> {
-        let object = Reader::new(alloc, value)?;
+        let (range, target, tooltip, payload) = read_object(
+            alloc,
+            value,
+            (
+                Required("range"),
+                Optional("target"),
+                Optional("tooltip"),
+                Optional("data"),
+            ),
+        )?;
         Ok(DocumentLink {
-            range: object.field("range")?,
-            target: object.optional("target")?,
-            tooltip: object.optional("tooltip")?,
-            payload: object.optional("data")?,
+            range,
+            target,
+            tooltip,
+            payload,
         })
     }
 

@@ -3,7 +3,7 @@ ghost use Rattle.lsp_lang_goto.specs.References.{reference_params_row, reference
 
 use lsp_base::{PartialResultParams, Range, TextDocumentPositionParams, WorkDoneProgressParams};
 use lsp_kinds::DocumentHighlightKind;
-use lsp_shape::{Misfit, NoMemory, Reader, Wire, Writer, flat};
+use lsp_shape::{Flat, Misfit, NoMemory, Optional, Required, Wire, Writer, flat, read_object};
 use serde_json::Value;
 use std::alloc::Global;
 
@@ -29,12 +29,13 @@ impl Wire for ReferenceParams {
     ghost shown = { reference_params_row.shown };
 
     fn from_value(alloc: Global, value: &Value) -> Result<ReferenceParams, Misfit> {
-        let object = Reader::new(alloc, value)?;
+        let (text_document_position, work_done_progress_params, partial_result_params, context) =
+            read_object(alloc, value, (Flat, Flat, Flat, Required("context")))?;
         Ok(ReferenceParams {
-            text_document_position: flat(alloc, value)?,
-            work_done_progress_params: flat(alloc, value)?,
-            partial_result_params: flat(alloc, value)?,
-            context: object.field("context")?,
+            text_document_position,
+            work_done_progress_params,
+            partial_result_params,
+            context,
         })
     }
 
@@ -63,9 +64,9 @@ impl Wire for ReferenceContext {
     ghost shown = { reference_context_row.shown };
 
     fn from_value(alloc: Global, value: &Value) -> Result<ReferenceContext, Misfit> {
-        let object = Reader::new(alloc, value)?;
+        let include_declaration = read_object(alloc, value, Required("includeDeclaration"))?;
         Ok(ReferenceContext {
-            include_declaration: object.field("includeDeclaration")?,
+            include_declaration,
         })
     }
 
@@ -129,11 +130,8 @@ impl Wire for DocumentHighlight {
     ghost shown = { document_highlight_row.shown };
 
     fn from_value(alloc: Global, value: &Value) -> Result<DocumentHighlight, Misfit> {
-        let object = Reader::new(alloc, value)?;
-        Ok(DocumentHighlight {
-            range: object.field("range")?,
-            kind: object.optional("kind")?,
-        })
+        let (range, kind) = read_object(alloc, value, (Required("range"), Optional("kind")))?;
+        Ok(DocumentHighlight { range, kind })
     }
 
     fn to_value(&self, alloc: Global) -> Result<Value, NoMemory> {

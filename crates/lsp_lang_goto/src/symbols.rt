@@ -8,7 +8,10 @@ use lsp_base::{
     LSPAny, Location, OneOf, PartialResultParams, TextDocumentIdentifier, WorkDoneProgressParams,
 };
 use lsp_kinds::{SymbolKind, SymbolTag};
-use lsp_shape::{Copies, Misfit, NoMemory, Reader, Wire, Writer, attempt, flat, form};
+use lsp_shape::{
+    Copies, Flat, Misfit, NoMemory, Optional, Required, Wire, Writer, attempt, flat, form,
+    read_object,
+};
 use lsp_uri::Uri;
 use serde_json::Value;
 use std::alloc::{AllocError, Global};
@@ -33,11 +36,15 @@ impl Wire for DocumentSymbolParams {
     ghost shown = { document_symbol_params_row.shown };
 
     fn from_value(alloc: Global, value: &Value) -> Result<DocumentSymbolParams, Misfit> {
-        let object = Reader::new(alloc, value)?;
+        let (text_document, work_done_progress_params, partial_result_params) = read_object(
+            alloc,
+            value,
+            (Required("textDocument"), Flat, Flat),
+        )?;
         Ok(DocumentSymbolParams {
-            text_document: object.field("textDocument")?,
-            work_done_progress_params: flat(alloc, value)?,
-            partial_result_params: flat(alloc, value)?,
+            text_document,
+            work_done_progress_params,
+            partial_result_params,
         })
     }
 
@@ -149,14 +156,25 @@ impl Wire for SymbolInformation {
     ghost shown = { symbol_information_row.shown };
 
     fn from_value(alloc: Global, value: &Value) -> Result<SymbolInformation, Misfit> {
-        let object = Reader::new(alloc, value)?;
+        let (name, kind, tags, deprecated, location, container_name) = read_object(
+            alloc,
+            value,
+            (
+                Required("name"),
+                Required("kind"),
+                Optional("tags"),
+                Optional("deprecated"),
+                Required("location"),
+                Optional("containerName"),
+            ),
+        )?;
         Ok(SymbolInformation {
-            name: object.field("name")?,
-            kind: object.field("kind")?,
-            tags: object.optional("tags")?,
-            deprecated: object.optional("deprecated")?,
-            location: object.field("location")?,
-            container_name: object.optional("containerName")?,
+            name,
+            kind,
+            tags,
+            deprecated,
+            location,
+            container_name,
         })
     }
 
@@ -207,11 +225,15 @@ impl Wire for WorkspaceSymbolParams {
     ghost shown = { workspace_symbol_params_row.shown };
 
     fn from_value(alloc: Global, value: &Value) -> Result<WorkspaceSymbolParams, Misfit> {
-        let object = Reader::new(alloc, value)?;
+        let (partial_result_params, work_done_progress_params, query) = read_object(
+            alloc,
+            value,
+            (Flat, Flat, Required("query")),
+        )?;
         Ok(WorkspaceSymbolParams {
-            partial_result_params: flat(alloc, value)?,
-            work_done_progress_params: flat(alloc, value)?,
-            query: object.field("query")?,
+            partial_result_params,
+            work_done_progress_params,
+            query,
         })
     }
 
@@ -309,14 +331,25 @@ impl Wire for WorkspaceSymbol {
     ghost shown = { workspace_symbol_row.shown };
 
     fn from_value(alloc: Global, value: &Value) -> Result<WorkspaceSymbol, Misfit> {
-        let object = Reader::new(alloc, value)?;
+        let (name, kind, tags, container_name, location, payload) = read_object(
+            alloc,
+            value,
+            (
+                Required("name"),
+                Required("kind"),
+                Optional("tags"),
+                Optional("containerName"),
+                Required("location"),
+                Optional("data"),
+            ),
+        )?;
         Ok(WorkspaceSymbol {
-            name: object.field("name")?,
-            kind: object.field("kind")?,
-            tags: object.optional("tags")?,
-            container_name: object.optional("containerName")?,
-            location: object.field("location")?,
-            payload: object.optional("data")?,
+            name,
+            kind,
+            tags,
+            container_name,
+            location,
+            payload,
         })
     }
 
@@ -347,10 +380,8 @@ impl Wire for WorkspaceLocation {
     ghost shown = { workspace_location_row.shown };
 
     fn from_value(alloc: Global, value: &Value) -> Result<WorkspaceLocation, Misfit> {
-        let object = Reader::new(alloc, value)?;
-        Ok(WorkspaceLocation {
-            uri: object.field("uri")?,
-        })
+        let uri = read_object(alloc, value, Required("uri"))?;
+        Ok(WorkspaceLocation { uri })
     }
 
     fn to_value(&self, alloc: Global) -> Result<Value, NoMemory> {

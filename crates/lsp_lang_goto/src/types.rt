@@ -5,7 +5,9 @@ use lsp_base::{
     LSPAny, PartialResultParams, Range, TextDocumentPositionParams, WorkDoneProgressParams,
 };
 use lsp_kinds::{SymbolKind, SymbolTag};
-use lsp_shape::{Copies, Misfit, NoMemory, Reader, Wire, Writer, flat};
+use lsp_shape::{
+    Copies, Flat, Misfit, NoMemory, Optional, Required, Wire, Writer, flat, read_object,
+};
 use lsp_uri::Uri;
 use serde_json::Value;
 use std::alloc::{AllocError, Global};
@@ -61,11 +63,15 @@ impl Wire for TypeHierarchySupertypesParams {
     ghost shown = { type_hierarchy_supertypes_params_row.shown };
 
     fn from_value(alloc: Global, value: &Value) -> Result<TypeHierarchySupertypesParams, Misfit> {
-        let object = Reader::new(alloc, value)?;
+        let (item, work_done_progress_params, partial_result_params) = read_object(
+            alloc,
+            value,
+            (Required("item"), Flat, Flat),
+        )?;
         Ok(TypeHierarchySupertypesParams {
-            item: object.field("item")?,
-            work_done_progress_params: flat(alloc, value)?,
-            partial_result_params: flat(alloc, value)?,
+            item,
+            work_done_progress_params,
+            partial_result_params,
         })
     }
 
@@ -98,11 +104,15 @@ impl Wire for TypeHierarchySubtypesParams {
     ghost shown = { type_hierarchy_subtypes_params_row.shown };
 
     fn from_value(alloc: Global, value: &Value) -> Result<TypeHierarchySubtypesParams, Misfit> {
-        let object = Reader::new(alloc, value)?;
+        let (item, work_done_progress_params, partial_result_params) = read_object(
+            alloc,
+            value,
+            (Required("item"), Flat, Flat),
+        )?;
         Ok(TypeHierarchySubtypesParams {
-            item: object.field("item")?,
-            work_done_progress_params: flat(alloc, value)?,
-            partial_result_params: flat(alloc, value)?,
+            item,
+            work_done_progress_params,
+            partial_result_params,
         })
     }
 
@@ -173,16 +183,33 @@ impl Wire for TypeHierarchyItem {
     ghost shown = { type_hierarchy_item_row.shown };
 
     fn from_value(alloc: Global, value: &Value) -> Result<TypeHierarchyItem, Misfit> {
-        let object = Reader::new(alloc, value)?;
+        let ((name, kind, tags, detail), (uri, range, selection_range, payload)) = read_object(
+            alloc,
+            value,
+            (
+                (
+                    Required("name"),
+                    Required("kind"),
+                    Optional("tags"),
+                    Optional("detail"),
+                ),
+                (
+                    Required("uri"),
+                    Required("range"),
+                    Required("selectionRange"),
+                    Optional("data"),
+                ),
+            ),
+        )?;
         Ok(TypeHierarchyItem {
-            name: object.field("name")?,
-            kind: object.field("kind")?,
-            tags: object.optional("tags")?,
-            detail: object.optional("detail")?,
-            uri: object.field("uri")?,
-            range: object.field("range")?,
-            selection_range: object.field("selectionRange")?,
-            payload: object.optional("data")?,
+            name,
+            kind,
+            tags,
+            detail,
+            uri,
+            range,
+            selection_range,
+            payload,
         })
     }
 

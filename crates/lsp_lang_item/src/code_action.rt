@@ -9,7 +9,10 @@ use lsp_base::{
 };
 use lsp_kinds::CodeActionTriggerKind;
 use lsp_names::CodeActionKind;
-use lsp_shape::{Copies, Misfit, NoMemory, Reader, Wire, Writer, attempt, flat, form};
+use lsp_shape::{
+    Copies, Flat, Misfit, NoMemory, Optional, Required, Wire, Writer, attempt, flat, form,
+    read_object,
+};
 use serde_json::Value;
 use std::alloc::{AllocError, Global};
 
@@ -37,13 +40,24 @@ impl Wire for CodeActionParams {
     ghost shown = { code_action_params_row.shown };
 
     fn from_value(alloc: Global, value: &Value) -> Result<CodeActionParams, Misfit> {
-        let object = Reader::new(alloc, value)?;
+        let (text_document, range, context, work_done_progress_params, partial_result_params) =
+            read_object(
+                alloc,
+                value,
+                (
+                    Required("textDocument"),
+                    Required("range"),
+                    Required("context"),
+                    Flat,
+                    Flat,
+                ),
+            )?;
         Ok(CodeActionParams {
-            text_document: object.field("textDocument")?,
-            range: object.field("range")?,
-            context: object.field("context")?,
-            work_done_progress_params: flat(alloc, value)?,
-            partial_result_params: flat(alloc, value)?,
+            text_document,
+            range,
+            context,
+            work_done_progress_params,
+            partial_result_params,
         })
     }
 
@@ -94,11 +108,19 @@ impl Wire for CodeActionContext {
     ghost shown = { code_action_context_row.shown };
 
     fn from_value(alloc: Global, value: &Value) -> Result<CodeActionContext, Misfit> {
-        let object = Reader::new(alloc, value)?;
+        let (diagnostics, only, trigger_kind) = read_object(
+            alloc,
+            value,
+            (
+                Required("diagnostics"),
+                Optional("only"),
+                Optional("triggerKind"),
+            ),
+        )?;
         Ok(CodeActionContext {
-            diagnostics: object.field("diagnostics")?,
-            only: object.optional("only")?,
-            trigger_kind: object.optional("triggerKind")?,
+            diagnostics,
+            only,
+            trigger_kind,
         })
     }
 
@@ -248,16 +270,34 @@ impl Wire for CodeAction {
     ghost shown = { code_action_row.shown };
 
     fn from_value(alloc: Global, value: &Value) -> Result<CodeAction, Misfit> {
-        let object = Reader::new(alloc, value)?;
+        let ((title, kind, diagnostics, edit), (command, is_preferred, disabled, payload)) =
+            read_object(
+                alloc,
+                value,
+                (
+                    (
+                        Required("title"),
+                        Optional("kind"),
+                        Optional("diagnostics"),
+                        Optional("edit"),
+                    ),
+                    (
+                        Optional("command"),
+                        Optional("isPreferred"),
+                        Optional("disabled"),
+                        Optional("data"),
+                    ),
+                ),
+            )?;
         Ok(CodeAction {
-            title: object.field("title")?,
-            kind: object.optional("kind")?,
-            diagnostics: object.optional("diagnostics")?,
-            edit: object.optional("edit")?,
-            command: object.optional("command")?,
-            is_preferred: object.optional("isPreferred")?,
-            disabled: object.optional("disabled")?,
-            payload: object.optional("data")?,
+            title,
+            kind,
+            diagnostics,
+            edit,
+            command,
+            is_preferred,
+            disabled,
+            payload,
         })
     }
 
@@ -301,10 +341,8 @@ impl Wire for CodeActionDisabled {
     ghost shown = { code_action_disabled_row.shown };
 
     fn from_value(alloc: Global, value: &Value) -> Result<CodeActionDisabled, Misfit> {
-        let object = Reader::new(alloc, value)?;
-        Ok(CodeActionDisabled {
-            reason: object.field("reason")?,
-        })
+        let reason = read_object(alloc, value, Required("reason"))?;
+        Ok(CodeActionDisabled { reason })
     }
 
     fn to_value(&self, alloc: Global) -> Result<Value, NoMemory> {

@@ -12,7 +12,10 @@ use lsp_kinds::{
     CompletionItemKind, CompletionItemTag, CompletionTriggerKind, InsertTextFormat, InsertTextMode,
 };
 use lsp_names::Documentation;
-use lsp_shape::{Copies, Misfit, NoMemory, Reader, WideReader, Wire, Writer, attempt, flat, form};
+use lsp_shape::{
+    Copies, Flat, Misfit, NoMemory, Optional, Required, WideReader, Wire, Writer, attempt, flat,
+    form, read_object,
+};
 use serde_json::Value;
 use std::alloc::{AllocError, Global};
 
@@ -38,12 +41,13 @@ impl Wire for CompletionParams {
     ghost shown = { completion_params_row.shown };
 
     fn from_value(alloc: Global, value: &Value) -> Result<CompletionParams, Misfit> {
-        let object = Reader::new(alloc, value)?;
+        let (text_document_position, work_done_progress_params, partial_result_params, context) =
+            read_object(alloc, value, (Flat, Flat, Flat, Optional("context")))?;
         Ok(CompletionParams {
-            text_document_position: flat(alloc, value)?,
-            work_done_progress_params: flat(alloc, value)?,
-            partial_result_params: flat(alloc, value)?,
-            context: object.optional("context")?,
+            text_document_position,
+            work_done_progress_params,
+            partial_result_params,
+            context,
         })
     }
 
@@ -75,10 +79,14 @@ impl Wire for CompletionContext {
     ghost shown = { completion_context_row.shown };
 
     fn from_value(alloc: Global, value: &Value) -> Result<CompletionContext, Misfit> {
-        let object = Reader::new(alloc, value)?;
+        let (trigger_kind, trigger_character) = read_object(
+            alloc,
+            value,
+            (Required("triggerKind"), Optional("triggerCharacter")),
+        )?;
         Ok(CompletionContext {
-            trigger_kind: object.field("triggerKind")?,
-            trigger_character: object.optional("triggerCharacter")?,
+            trigger_kind,
+            trigger_character,
         })
     }
 
@@ -170,10 +178,14 @@ impl Wire for CompletionList {
     ghost shown = { completion_list_row.shown };
 
     fn from_value(alloc: Global, value: &Value) -> Result<CompletionList, Misfit> {
-        let object = Reader::new(alloc, value)?;
+        let (is_incomplete, items) = read_object(
+            alloc,
+            value,
+            (Required("isIncomplete"), Required("items")),
+        )?;
         Ok(CompletionList {
-            is_incomplete: object.field("isIncomplete")?,
-            items: object.field("items")?,
+            is_incomplete,
+            items,
         })
     }
 
@@ -450,10 +462,14 @@ impl Wire for CompletionItemLabelDetails {
     ghost shown = { completion_item_label_details_row.shown };
 
     fn from_value(alloc: Global, value: &Value) -> Result<CompletionItemLabelDetails, Misfit> {
-        let object = Reader::new(alloc, value)?;
+        let (detail, description) = read_object(
+            alloc,
+            value,
+            (Optional("detail"), Optional("description")),
+        )?;
         Ok(CompletionItemLabelDetails {
-            detail: object.optional("detail")?,
-            description: object.optional("description")?,
+            detail,
+            description,
         })
     }
 
@@ -550,11 +566,15 @@ impl Wire for InsertReplaceEdit {
     ghost shown = { insert_replace_edit_row.shown };
 
     fn from_value(alloc: Global, value: &Value) -> Result<InsertReplaceEdit, Misfit> {
-        let object = Reader::new(alloc, value)?;
+        let (new_text, insert, replace) = read_object(
+            alloc,
+            value,
+            (Required("newText"), Required("insert"), Required("replace")),
+        )?;
         Ok(InsertReplaceEdit {
-            new_text: object.field("newText")?,
-            insert: object.field("insert")?,
-            replace: object.field("replace")?,
+            new_text,
+            insert,
+            replace,
         })
     }
 

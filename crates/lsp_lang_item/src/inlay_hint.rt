@@ -11,7 +11,10 @@ use lsp_base::{
 };
 use lsp_kinds::InlayHintKind;
 use lsp_names::MarkupContent;
-use lsp_shape::{Copies, Misfit, NoMemory, Reader, Wire, Writer, attempt, flat, form};
+use lsp_shape::{
+    Copies, Flat, Misfit, NoMemory, Optional, Required, Wire, Writer, attempt, flat, form,
+    read_object,
+};
 use serde_json::Value;
 use std::alloc::{AllocError, Global};
 
@@ -34,11 +37,15 @@ impl Wire for InlayHintParams {
     ghost shown = { inlay_hint_params_row.shown };
 
     fn from_value(alloc: Global, value: &Value) -> Result<InlayHintParams, Misfit> {
-        let object = Reader::new(alloc, value)?;
+        let (work_done_progress_params, text_document, range) = read_object(
+            alloc,
+            value,
+            (Flat, Required("textDocument"), Required("range")),
+        )?;
         Ok(InlayHintParams {
-            work_done_progress_params: flat(alloc, value)?,
-            text_document: object.field("textDocument")?,
-            range: object.field("range")?,
+            work_done_progress_params,
+            text_document,
+            range,
         })
     }
 
@@ -111,16 +118,34 @@ impl Wire for InlayHint {
     ghost shown = { inlay_hint_row.shown };
 
     fn from_value(alloc: Global, value: &Value) -> Result<InlayHint, Misfit> {
-        let object = Reader::new(alloc, value)?;
+        let ((position, label, kind, text_edits), (tooltip, padding_left, padding_right, payload)) =
+            read_object(
+                alloc,
+                value,
+                (
+                    (
+                        Required("position"),
+                        Required("label"),
+                        Optional("kind"),
+                        Optional("textEdits"),
+                    ),
+                    (
+                        Optional("tooltip"),
+                        Optional("paddingLeft"),
+                        Optional("paddingRight"),
+                        Optional("data"),
+                    ),
+                ),
+            )?;
         Ok(InlayHint {
-            position: object.field("position")?,
-            label: object.field("label")?,
-            kind: object.optional("kind")?,
-            text_edits: object.optional("textEdits")?,
-            tooltip: object.optional("tooltip")?,
-            padding_left: object.optional("paddingLeft")?,
-            padding_right: object.optional("paddingRight")?,
-            payload: object.optional("data")?,
+            position,
+            label,
+            kind,
+            text_edits,
+            tooltip,
+            padding_left,
+            padding_right,
+            payload,
         })
     }
 
@@ -287,12 +312,21 @@ impl Wire for InlayHintLabelPart {
     ghost shown = { inlay_hint_label_part_row.shown };
 
     fn from_value(alloc: Global, value: &Value) -> Result<InlayHintLabelPart, Misfit> {
-        let object = Reader::new(alloc, value)?;
+        let (value, tooltip, location, command) = read_object(
+            alloc,
+            value,
+            (
+                Required("value"),
+                Optional("tooltip"),
+                Optional("location"),
+                Optional("command"),
+            ),
+        )?;
         Ok(InlayHintLabelPart {
-            value: object.field("value")?,
-            tooltip: object.optional("tooltip")?,
-            location: object.optional("location")?,
-            command: object.optional("command")?,
+            value,
+            tooltip,
+            location,
+            command,
         })
     }
 

@@ -4,7 +4,9 @@ ghost use Rattle.lsp_lang_item.specs.InlineValue.{inline_value_params_row, inlin
 ghost use Rattle.lsp_lang_item.specs.declared.inline_value.InlineValue.TheVariants as inline_value;
 
 use lsp_base::{Range, TextDocumentIdentifier, WorkDoneProgressParams};
-use lsp_shape::{Misfit, NoMemory, Reader, Wire, Writer, attempt, flat, form};
+use lsp_shape::{
+    Flat, Misfit, NoMemory, Optional, Required, Wire, Writer, attempt, flat, form, read_object,
+};
 use serde_json::Value;
 use std::alloc::Global;
 
@@ -29,12 +31,21 @@ impl Wire for InlineValueParams {
     ghost shown = { inline_value_params_row.shown };
 
     fn from_value(alloc: Global, value: &Value) -> Result<InlineValueParams, Misfit> {
-        let object = Reader::new(alloc, value)?;
+        let (work_done_progress_params, text_document, range, context) = read_object(
+            alloc,
+            value,
+            (
+                Flat,
+                Required("textDocument"),
+                Required("range"),
+                Required("context"),
+            ),
+        )?;
         Ok(InlineValueParams {
-            work_done_progress_params: flat(alloc, value)?,
-            text_document: object.field("textDocument")?,
-            range: object.field("range")?,
-            context: object.field("context")?,
+            work_done_progress_params,
+            text_document,
+            range,
+            context,
         })
     }
 
@@ -66,10 +77,14 @@ impl Wire for InlineValueContext {
     ghost shown = { inline_value_context_row.shown };
 
     fn from_value(alloc: Global, value: &Value) -> Result<InlineValueContext, Misfit> {
-        let object = Reader::new(alloc, value)?;
+        let (frame_id, stopped_location) = read_object(
+            alloc,
+            value,
+            (Required("frameId"), Required("stoppedLocation")),
+        )?;
         Ok(InlineValueContext {
-            frame_id: object.field("frameId")?,
-            stopped_location: object.field("stoppedLocation")?,
+            frame_id,
+            stopped_location,
         })
     }
 
@@ -172,11 +187,8 @@ impl Wire for InlineValueText {
     ghost shown = { inline_value_text_row.shown };
 
     fn from_value(alloc: Global, value: &Value) -> Result<InlineValueText, Misfit> {
-        let object = Reader::new(alloc, value)?;
-        Ok(InlineValueText {
-            range: object.field("range")?,
-            text: object.field("text")?,
-        })
+        let (range, text) = read_object(alloc, value, (Required("range"), Required("text")))?;
+        Ok(InlineValueText { range, text })
     }
 
     fn to_value(&self, alloc: Global) -> Result<Value, NoMemory> {
@@ -207,11 +219,19 @@ impl Wire for InlineValueVariableLookup {
     ghost shown = { inline_value_variable_lookup_row.shown };
 
     fn from_value(alloc: Global, value: &Value) -> Result<InlineValueVariableLookup, Misfit> {
-        let object = Reader::new(alloc, value)?;
+        let (range, variable_name, case_sensitive_lookup) = read_object(
+            alloc,
+            value,
+            (
+                Required("range"),
+                Optional("variableName"),
+                Required("caseSensitiveLookup"),
+            ),
+        )?;
         Ok(InlineValueVariableLookup {
-            range: object.field("range")?,
-            variable_name: object.optional("variableName")?,
-            case_sensitive_lookup: object.field("caseSensitiveLookup")?,
+            range,
+            variable_name,
+            case_sensitive_lookup,
         })
     }
 
@@ -245,11 +265,12 @@ impl Wire for InlineValueEvaluatableExpression {
         alloc: Global,
         value: &Value,
     ) -> Result<InlineValueEvaluatableExpression, Misfit> {
-        let object = Reader::new(alloc, value)?;
-        Ok(InlineValueEvaluatableExpression {
-            range: object.field("range")?,
-            expression: object.optional("expression")?,
-        })
+        let (range, expression) = read_object(
+            alloc,
+            value,
+            (Required("range"), Optional("expression")),
+        )?;
+        Ok(InlineValueEvaluatableExpression { range, expression })
     }
 
     fn to_value(&self, alloc: Global) -> Result<Value, NoMemory> {

@@ -2,7 +2,7 @@
 ghost use Rattle.lsp_lang_item.specs.Rename.{rename_params_row, prepare_rename_response_range_with_placeholder_row, prepare_rename_response_default_behavior_row, prepare_rename_response_row};
 
 use lsp_base::{Range, TextDocumentPositionParams, WorkDoneProgressParams};
-use lsp_shape::{Misfit, NoMemory, Reader, Wire, Writer, attempt, flat, form};
+use lsp_shape::{Flat, Misfit, NoMemory, Required, Wire, Writer, attempt, flat, form, read_object};
 use serde_json::Value;
 use std::alloc::Global;
 
@@ -26,11 +26,15 @@ impl Wire for RenameParams {
     ghost shown = { rename_params_row.shown };
 
     fn from_value(alloc: Global, value: &Value) -> Result<RenameParams, Misfit> {
-        let object = Reader::new(alloc, value)?;
+        let (text_document_position, new_name, work_done_progress_params) = read_object(
+            alloc,
+            value,
+            (Flat, Required("newName"), Flat),
+        )?;
         Ok(RenameParams {
-            text_document_position: flat(alloc, value)?,
-            new_name: object.field("newName")?,
-            work_done_progress_params: flat(alloc, value)?,
+            text_document_position,
+            new_name,
+            work_done_progress_params,
         })
     }
 
@@ -82,11 +86,12 @@ impl Wire for PrepareRenameResponseRangeWithPlaceholder {
         alloc: Global,
         value: &Value,
     ) -> Result<PrepareRenameResponseRangeWithPlaceholder, Misfit> {
-        let object = Reader::new(alloc, value)?;
-        Ok(PrepareRenameResponseRangeWithPlaceholder {
-            range: object.field("range")?,
-            placeholder: object.field("placeholder")?,
-        })
+        let (range, placeholder) = read_object(
+            alloc,
+            value,
+            (Required("range"), Required("placeholder")),
+        )?;
+        Ok(PrepareRenameResponseRangeWithPlaceholder { range, placeholder })
     }
 
     fn to_value(&self, alloc: Global) -> Result<Value, NoMemory> {
@@ -113,10 +118,8 @@ impl Wire for PrepareRenameResponseDefaultBehavior {
         alloc: Global,
         value: &Value,
     ) -> Result<PrepareRenameResponseDefaultBehavior, Misfit> {
-        let object = Reader::new(alloc, value)?;
-        Ok(PrepareRenameResponseDefaultBehavior {
-            default_behavior: object.field("defaultBehavior")?,
-        })
+        let default_behavior = read_object(alloc, value, Required("defaultBehavior"))?;
+        Ok(PrepareRenameResponseDefaultBehavior { default_behavior })
     }
 
     fn to_value(&self, alloc: Global) -> Result<Value, NoMemory> {

@@ -7,7 +7,10 @@ ghost use Rattle.lsp_lsif.specs.Labels.{single_place};
 use crate::entry::Id;
 use crate::labels::{EdgeLabel, SingleLabel};
 use lsp_base::Location;
-use lsp_shape::{Misfit, NoMemory, Reader, Wanted, Wire, Writer, attempt, flat, form, put_tag};
+use lsp_shape::{
+    Flat, Misfit, NoMemory, Optional, Required, Wanted, Wire, Writer, attempt, flat, form, put_tag,
+    read_object,
+};
 use serde_json::Value;
 use std::alloc::Global;
 
@@ -182,11 +185,8 @@ impl Wire for EdgeData {
     ghost shown = { edge_data_row.shown };
 
     fn from_value(alloc: Global, value: &Value) -> Result<EdgeData, Misfit> {
-        let object = Reader::new(alloc, value)?;
-        Ok(EdgeData {
-            in_v: object.field("inV")?,
-            out_v: object.field("outV")?,
-        })
+        let (in_v, out_v) = read_object(alloc, value, (Required("inV"), Required("outV")))?;
+        Ok(EdgeData { in_v, out_v })
     }
 
     fn to_value(&self, alloc: Global) -> Result<Value, NoMemory> {
@@ -213,11 +213,8 @@ impl Wire for EdgeDataMultiIn {
     ghost shown = { edge_data_multi_in_row.shown };
 
     fn from_value(alloc: Global, value: &Value) -> Result<EdgeDataMultiIn, Misfit> {
-        let object = Reader::new(alloc, value)?;
-        Ok(EdgeDataMultiIn {
-            in_vs: object.field("inVs")?,
-            out_v: object.field("outV")?,
-        })
+        let (in_vs, out_v) = read_object(alloc, value, (Required("inVs"), Required("outV")))?;
+        Ok(EdgeDataMultiIn { in_vs, out_v })
     }
 
     fn to_value(&self, alloc: Global) -> Result<Value, NoMemory> {
@@ -248,11 +245,15 @@ impl Wire for Item {
     ghost shown = { item_row.shown };
 
     fn from_value(alloc: Global, value: &Value) -> Result<Item, Misfit> {
-        let object = Reader::new(alloc, value)?;
+        let (document, property, edge_data) = read_object(
+            alloc,
+            value,
+            (Required("document"), Optional("property"), Flat),
+        )?;
         Ok(Item {
-            document: object.field("document")?,
-            property: object.optional("property")?,
-            edge_data: flat(alloc, value)?,
+            document,
+            property,
+            edge_data,
         })
     }
 

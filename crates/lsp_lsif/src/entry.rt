@@ -9,7 +9,8 @@ use crate::edge::Edge;
 use crate::vertex::Vertex;
 use lsp_base::NumberOrString;
 use lsp_shape::{
-    Misfit, NoMemory, Reader, TextMisfit, Wanted, Wire, Writer, flat, form, put_tag, read_text, tag,
+    Flat, Misfit, NoMemory, Required, TextMisfit, Wanted, Wire, Writer, flat, form, put_tag,
+    read_object, read_text, tag,
 };
 use serde_json::Value;
 use std::alloc::Global;
@@ -35,11 +36,8 @@ impl Wire for Entry {
     ghost shown = { entry_row.shown };
 
     fn from_value(alloc: Global, value: &Value) -> Result<Entry, Misfit> {
-        let object = Reader::new(alloc, value)?;
-        Ok(Entry {
-            id: object.field("id")?,
-            payload: flat(alloc, value)?,
-        })
+        let (id, payload) = read_object(alloc, value, (Required("id"), Flat))?;
+        Ok(Entry { id, payload })
     }
 
     fn to_value(&self, alloc: Global) -> Result<Value, NoMemory> {

@@ -3,7 +3,10 @@ ghost use Rattle.lsp_lsif.specs.Tags.{range_tag_row, definition_tag_row, declara
 
 use lsp_base::Range;
 use lsp_kinds::SymbolKind;
-use lsp_shape::{Misfit, NoMemory, Reader, Wanted, Wire, Writer, form, put_tag, tag};
+use lsp_shape::{
+    Misfit, NoMemory, Optional, Required, TruthOrFalse, Wanted, Wire, Writer, form, put_tag,
+    read_object, tag,
+};
 use serde_json::Value;
 use std::alloc::Global;
 
@@ -75,13 +78,23 @@ impl Wire for DefinitionTag {
     ghost shown = { definition_tag_row.shown };
 
     fn from_value(alloc: Global, value: &Value) -> Result<DefinitionTag, Misfit> {
-        let object = Reader::new(alloc, value)?;
+        let (text, kind, deprecated, full_range, detail) = read_object(
+            alloc,
+            value,
+            (
+                Required("text"),
+                Required("kind"),
+                TruthOrFalse("deprecated"),
+                Required("fullRange"),
+                Optional("detail"),
+            ),
+        )?;
         Ok(DefinitionTag {
-            text: object.field("text")?,
-            kind: object.field("kind")?,
-            deprecated: object.truth_or_false("deprecated")?,
-            full_range: object.field("fullRange")?,
-            detail: object.optional("detail")?,
+            text,
+            kind,
+            deprecated,
+            full_range,
+            detail,
         })
     }
 
@@ -119,13 +132,23 @@ impl Wire for DeclarationTag {
     ghost shown = { declaration_tag_row.shown };
 
     fn from_value(alloc: Global, value: &Value) -> Result<DeclarationTag, Misfit> {
-        let object = Reader::new(alloc, value)?;
+        let (text, kind, deprecated, full_range, detail) = read_object(
+            alloc,
+            value,
+            (
+                Required("text"),
+                Required("kind"),
+                TruthOrFalse("deprecated"),
+                Required("fullRange"),
+                Optional("detail"),
+            ),
+        )?;
         Ok(DeclarationTag {
-            text: object.field("text")?,
-            kind: object.field("kind")?,
-            deprecated: object.truth_or_false("deprecated")?,
-            full_range: object.field("fullRange")?,
-            detail: object.optional("detail")?,
+            text,
+            kind,
+            deprecated,
+            full_range,
+            detail,
         })
     }
 
@@ -154,10 +177,8 @@ impl Wire for ReferenceTag {
     ghost shown = { reference_tag_row.shown };
 
     fn from_value(alloc: Global, value: &Value) -> Result<ReferenceTag, Misfit> {
-        let object = Reader::new(alloc, value)?;
-        Ok(ReferenceTag {
-            text: object.field("text")?,
-        })
+        let text = read_object(alloc, value, Required("text"))?;
+        Ok(ReferenceTag { text })
     }
 
     fn to_value(&self, alloc: Global) -> Result<Value, NoMemory> {
@@ -181,10 +202,8 @@ impl Wire for UnknownTag {
     ghost shown = { unknown_tag_row.shown };
 
     fn from_value(alloc: Global, value: &Value) -> Result<UnknownTag, Misfit> {
-        let object = Reader::new(alloc, value)?;
-        Ok(UnknownTag {
-            text: object.field("text")?,
-        })
+        let text = read_object(alloc, value, Required("text"))?;
+        Ok(UnknownTag { text })
     }
 
     fn to_value(&self, alloc: Global) -> Result<Value, NoMemory> {

@@ -17,7 +17,8 @@ use crate::tags::RangeTag;
 use lsp_base::{Diagnostic, Range};
 use lsp_lang_goto::{DocumentLink, DocumentSymbol, Hover};
 use lsp_shape::{
-    Misfit, NoMemory, Reader, Wanted, Wire, Writer, as_form, attempt, flat, form, put_tag,
+    Misfit, NoMemory, Optional, Reader, Required, Wanted, Wire, Writer, as_form, attempt, flat,
+    form, put_tag, read_object,
 };
 use lsp_tokens::{FoldingRange, Moniker};
 use lsp_uri::Uri;
@@ -269,12 +270,21 @@ impl Wire for MetaData {
     ghost shown = { meta_data_row.shown };
 
     fn from_value(alloc: Global, value: &Value) -> Result<MetaData, Misfit> {
-        let object = Reader::new(alloc, value)?;
+        let (version, project_root, position_encoding, tool_info) = read_object(
+            alloc,
+            value,
+            (
+                Required("version"),
+                Required("projectRoot"),
+                Required("positionEncoding"),
+                Optional("toolInfo"),
+            ),
+        )?;
         Ok(MetaData {
-            version: object.field("version")?,
-            project_root: object.field("projectRoot")?,
-            position_encoding: object.field("positionEncoding")?,
-            tool_info: object.optional("toolInfo")?,
+            version,
+            project_root,
+            position_encoding,
+            tool_info,
         })
     }
 
@@ -371,11 +381,15 @@ impl Wire for Project {
     ghost shown = { project_row.shown };
 
     fn from_value(alloc: Global, value: &Value) -> Result<Project, Misfit> {
-        let object = Reader::new(alloc, value)?;
+        let (resource, content, kind) = read_object(
+            alloc,
+            value,
+            (Optional("resource"), Optional("content"), Required("kind")),
+        )?;
         Ok(Project {
-            resource: object.optional("resource")?,
-            content: object.optional("content")?,
-            kind: object.field("kind")?,
+            resource,
+            content,
+            kind,
         })
     }
 
@@ -406,11 +420,15 @@ impl Wire for Repository {
     ghost shown = { repository_row.shown };
 
     fn from_value(alloc: Global, value: &Value) -> Result<Repository, Misfit> {
-        let object = Reader::new(alloc, value)?;
+        let (typ, url, commit_id) = read_object(
+            alloc,
+            value,
+            (Required("type"), Required("url"), Optional("commitId")),
+        )?;
         Ok(Repository {
-            typ: object.field("type")?,
-            url: object.field("url")?,
-            commit_id: object.optional("commitId")?,
+            typ,
+            url,
+            commit_id,
         })
     }
 
@@ -440,11 +458,12 @@ impl Wire for Document {
     ghost shown = { document_row.shown };
 
     fn from_value(alloc: Global, value: &Value) -> Result<Document, Misfit> {
-        let object = Reader::new(alloc, value)?;
-        Ok(Document {
-            uri: object.field("uri")?,
-            language_id: object.field("languageId")?,
-        })
+        let (uri, language_id) = read_object(
+            alloc,
+            value,
+            (Required("uri"), Required("languageId")),
+        )?;
+        Ok(Document { uri, language_id })
     }
 
     fn to_value(&self, alloc: Global) -> Result<Value, NoMemory> {
@@ -470,10 +489,8 @@ impl Wire for ResultSet {
     ghost shown = { result_set_row.shown };
 
     fn from_value(alloc: Global, value: &Value) -> Result<ResultSet, Misfit> {
-        let object = Reader::new(alloc, value)?;
-        Ok(ResultSet {
-            key: object.optional("key")?,
-        })
+        let key = read_object(alloc, value, Optional("key"))?;
+        Ok(ResultSet { key })
     }
 
     fn to_value(&self, alloc: Global) -> Result<Value, NoMemory> {
@@ -508,14 +525,25 @@ impl Wire for PackageInformation {
     ghost shown = { package_information_row.shown };
 
     fn from_value(alloc: Global, value: &Value) -> Result<PackageInformation, Misfit> {
-        let object = Reader::new(alloc, value)?;
+        let (name, manager, uri, content, repository, version) = read_object(
+            alloc,
+            value,
+            (
+                Required("name"),
+                Required("manager"),
+                Optional("uri"),
+                Optional("content"),
+                Optional("repository"),
+                Optional("version"),
+            ),
+        )?;
         Ok(PackageInformation {
-            name: object.field("name")?,
-            manager: object.field("manager")?,
-            uri: object.optional("uri")?,
-            content: object.optional("content")?,
-            repository: object.optional("repository")?,
-            version: object.optional("version")?,
+            name,
+            manager,
+            uri,
+            content,
+            repository,
+            version,
         })
     }
 
@@ -550,11 +578,15 @@ impl Wire for Event {
     ghost shown = { event_row.shown };
 
     fn from_value(alloc: Global, value: &Value) -> Result<Event, Misfit> {
-        let object = Reader::new(alloc, value)?;
+        let (kind, scope, payload) = read_object(
+            alloc,
+            value,
+            (Required("kind"), Required("scope"), Required("data")),
+        )?;
         Ok(Event {
-            kind: object.field("kind")?,
-            scope: object.field("scope")?,
-            payload: object.field("data")?,
+            kind,
+            scope,
+            payload,
         })
     }
 

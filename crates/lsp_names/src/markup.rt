@@ -2,7 +2,7 @@
 ghost use Rattle.std.specs.Prelude.{◌≡◌};
 ghost use Rattle.lsp_names.specs.Markup.{markup_kind_row, markup_content_row, language_string_row, marked_string_row, documentation_row};
 
-use lsp_shape::{Misfit, Reader, Wanted, Wire, Writer, attempt, form};
+use lsp_shape::{Misfit, Required, Wanted, Wire, Writer, attempt, form, read_object};
 use no_memory::NoMemory;
 use serde_json::Value;
 use std::alloc::Global;
@@ -55,11 +55,8 @@ impl Wire for MarkupContent {
     ghost shown = { markup_content_row.shown };
 
     fn from_value(alloc: Global, value: &Value) -> Result<MarkupContent, Misfit> {
-        let object = Reader::new(alloc, value)?;
-        Ok(MarkupContent {
-            kind: object.field("kind")?,
-            value: object.field("value")?,
-        })
+        let (kind, value) = read_object(alloc, value, (Required("kind"), Required("value")))?;
+        Ok(MarkupContent { kind, value })
     }
 
     fn to_value(&self, alloc: Global) -> Result<Value, NoMemory> {
@@ -86,11 +83,12 @@ impl Wire for LanguageString {
     ghost shown = { language_string_row.shown };
 
     fn from_value(alloc: Global, value: &Value) -> Result<LanguageString, Misfit> {
-        let object = Reader::new(alloc, value)?;
-        Ok(LanguageString {
-            language: object.field("language")?,
-            value: object.field("value")?,
-        })
+        let (language, value) = read_object(
+            alloc,
+            value,
+            (Required("language"), Required("value")),
+        )?;
+        Ok(LanguageString { language, value })
     }
 
     fn to_value(&self, alloc: Global) -> Result<Value, NoMemory> {

@@ -1,7 +1,7 @@
 // What a server offers to tell of work in progress, of section "Work Done Progress".
 ghost use Rattle.lsp_names.specs.Progress.{work_done_progress_options_row};
 
-use lsp_shape::{Misfit, Reader, Wire, Writer};
+use lsp_shape::{Misfit, Optional, Wire, Writer, read_object};
 use no_memory::NoMemory;
 use serde_json::Value;
 use std::alloc::Global;
@@ -21,10 +21,8 @@ impl Wire for WorkDoneProgressOptions {
     ghost shown = { work_done_progress_options_row.shown };
 
     fn from_value(alloc: Global, value: &Value) -> Result<WorkDoneProgressOptions, Misfit> {
-        let object = Reader::new(alloc, value)?;
-        Ok(WorkDoneProgressOptions {
-            work_done_progress: object.optional("workDoneProgress")?,
-        })
+        let work_done_progress = read_object(alloc, value, Optional("workDoneProgress"))?;
+        Ok(WorkDoneProgressOptions { work_done_progress })
     }
 
     fn to_value(&self, alloc: Global) -> Result<Value, NoMemory> {

@@ -4,7 +4,7 @@ ghost use Rattle.lsp_names.specs.KindText.{text_kind_row};
 ghost use Rattle.lsp_names.specs.SemanticTokens.{semantic_tokens_full_options_delta_row, semantic_tokens_full_options_row};
 
 use crate::kind_text::KindText;
-use lsp_shape::{Misfit, Reader, Wire, Writer, attempt, form};
+use lsp_shape::{Misfit, Optional, Wire, Writer, attempt, form, read_object};
 use no_memory::NoMemory;
 use serde_json::Value;
 use std::alloc::Global;
@@ -457,10 +457,8 @@ impl Wire for SemanticTokensFullOptionsDelta {
     ghost shown = { semantic_tokens_full_options_delta_row.shown };
 
     fn from_value(alloc: Global, value: &Value) -> Result<SemanticTokensFullOptionsDelta, Misfit> {
-        let object = Reader::new(alloc, value)?;
-        Ok(SemanticTokensFullOptionsDelta {
-            delta: object.optional("delta")?,
-        })
+        let delta = read_object(alloc, value, Optional("delta"))?;
+        Ok(SemanticTokensFullOptionsDelta { delta })
     }
 
     fn to_value(&self, alloc: Global) -> Result<Value, NoMemory> {

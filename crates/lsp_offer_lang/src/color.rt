@@ -5,7 +5,7 @@ ghost use Rattle.lsp_offer_lang.specs.declared.color.ColorProviderCapability.The
 ghost use Rattle.lsp_offer_lang.specs.declared.color.FoldingRangeProviderCapability.TheVariants as folding_range_provider_capability;
 
 use lsp_base::DocumentSelector;
-use lsp_shape::{Misfit, NoMemory, Reader, Wire, Writer, attempt, form};
+use lsp_shape::{Misfit, NoMemory, Optional, Reader, Wire, Writer, attempt, form, read_object};
 use serde_json::Value;
 use std::alloc::Global;
 
@@ -116,10 +116,14 @@ impl Wire for StaticTextDocumentColorProviderOptions {
         alloc: Global,
         value: &Value,
     ) -> Result<StaticTextDocumentColorProviderOptions, Misfit> {
-        let object = Reader::new(alloc, value)?;
+        let (document_selector, id) = read_object(
+            alloc,
+            value,
+            (Optional("documentSelector"), Optional("id")),
+        )?;
         Ok(StaticTextDocumentColorProviderOptions {
-            document_selector: object.optional("documentSelector")?,
-            id: object.optional("id")?,
+            document_selector,
+            id,
         })
     }
 

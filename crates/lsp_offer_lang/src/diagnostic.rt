@@ -3,7 +3,9 @@ ghost use Rattle.lsp_offer_lang.specs.Diagnostic.{diagnostic_server_capabilities
 
 use lsp_base::{StaticRegistrationOptions, TextDocumentRegistrationOptions};
 use lsp_names::WorkDoneProgressOptions;
-use lsp_shape::{Misfit, NoMemory, Reader, Wire, Writer, attempt, flat, form};
+use lsp_shape::{
+    Flat, Misfit, NoMemory, Optional, Required, Wire, Writer, attempt, flat, form, read_object,
+};
 use serde_json::Value;
 use std::alloc::Global;
 
@@ -62,12 +64,26 @@ impl Wire for DiagnosticOptions {
     ghost shown = { diagnostic_options_row.shown };
 
     fn from_value(alloc: Global, value: &Value) -> Result<DiagnosticOptions, Misfit> {
-        let object = Reader::new(alloc, value)?;
+        let (
+            identifier,
+            inter_file_dependencies,
+            workspace_diagnostics,
+            work_done_progress_options,
+        ) = read_object(
+            alloc,
+            value,
+            (
+                Optional("identifier"),
+                Required("interFileDependencies"),
+                Required("workspaceDiagnostics"),
+                Flat,
+            ),
+        )?;
         Ok(DiagnosticOptions {
-            identifier: object.optional("identifier")?,
-            inter_file_dependencies: object.field("interFileDependencies")?,
-            workspace_diagnostics: object.field("workspaceDiagnostics")?,
-            work_done_progress_options: flat(alloc, value)?,
+            identifier,
+            inter_file_dependencies,
+            workspace_diagnostics,
+            work_done_progress_options,
         })
     }
 

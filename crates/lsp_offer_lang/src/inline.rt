@@ -3,7 +3,7 @@ ghost use Rattle.lsp_offer_lang.specs.Inline.{inlay_hint_server_capabilities_row
 
 use lsp_base::{StaticRegistrationOptions, TextDocumentRegistrationOptions};
 use lsp_names::WorkDoneProgressOptions;
-use lsp_shape::{Misfit, NoMemory, Reader, Wire, Writer, attempt, flat, form};
+use lsp_shape::{Flat, Misfit, NoMemory, Optional, Wire, Writer, attempt, flat, form, read_object};
 use serde_json::Value;
 use std::alloc::Global;
 
@@ -56,10 +56,14 @@ impl Wire for InlayHintOptions {
     ghost shown = { inlay_hint_options_row.shown };
 
     fn from_value(alloc: Global, value: &Value) -> Result<InlayHintOptions, Misfit> {
-        let object = Reader::new(alloc, value)?;
+        let (work_done_progress_options, resolve_provider) = read_object(
+            alloc,
+            value,
+            (Flat, Optional("resolveProvider")),
+        )?;
         Ok(InlayHintOptions {
-            work_done_progress_options: flat(alloc, value)?,
-            resolve_provider: object.optional("resolveProvider")?,
+            work_done_progress_options,
+            resolve_provider,
         })
     }
 

@@ -7,7 +7,9 @@ use lsp_base::{StaticRegistrationOptions, TextDocumentRegistrationOptions};
 use lsp_names::{
     SemanticTokenModifier, SemanticTokenType, SemanticTokensFullOptions, WorkDoneProgressOptions,
 };
-use lsp_shape::{Misfit, NoMemory, Reader, Wire, Writer, attempt, flat, form};
+use lsp_shape::{
+    Flat, Misfit, NoMemory, Optional, Required, Wire, Writer, attempt, flat, form, read_object,
+};
 use serde_json::Value;
 use std::alloc::Global;
 
@@ -107,12 +109,21 @@ impl Wire for SemanticTokensOptions {
     ghost shown = { semantic_tokens_options_row.shown };
 
     fn from_value(alloc: Global, value: &Value) -> Result<SemanticTokensOptions, Misfit> {
-        let object = Reader::new(alloc, value)?;
+        let (work_done_progress_options, legend, range, full) = read_object(
+            alloc,
+            value,
+            (
+                Flat,
+                Required("legend"),
+                Optional("range"),
+                Optional("full"),
+            ),
+        )?;
         Ok(SemanticTokensOptions {
-            work_done_progress_options: flat(alloc, value)?,
-            legend: object.field("legend")?,
-            range: object.optional("range")?,
-            full: object.optional("full")?,
+            work_done_progress_options,
+            legend,
+            range,
+            full,
         })
     }
 
@@ -196,10 +207,14 @@ impl Wire for SemanticTokensLegend {
     ghost shown = { semantic_tokens_legend_row.shown };
 
     fn from_value(alloc: Global, value: &Value) -> Result<SemanticTokensLegend, Misfit> {
-        let object = Reader::new(alloc, value)?;
+        let (token_types, token_modifiers) = read_object(
+            alloc,
+            value,
+            (Required("tokenTypes"), Required("tokenModifiers")),
+        )?;
         Ok(SemanticTokensLegend {
-            token_types: object.field("tokenTypes")?,
-            token_modifiers: object.field("tokenModifiers")?,
+            token_types,
+            token_modifiers,
         })
     }
 

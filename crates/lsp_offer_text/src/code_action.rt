@@ -4,7 +4,7 @@ ghost use Rattle.lsp_offer_text.specs.CodeAction.{code_action_provider_capabilit
 ghost use Rattle.lsp_offer_text.specs.declared.code_action.CodeActionProviderCapability.TheVariants as code_action_provider_capability;
 
 use lsp_names::{CodeActionKind, WorkDoneProgressOptions};
-use lsp_shape::{Misfit, NoMemory, Reader, Wire, Writer, attempt, flat, form};
+use lsp_shape::{Flat, Misfit, NoMemory, Optional, Wire, Writer, attempt, flat, form, read_object};
 use serde_json::Value;
 use std::alloc::Global;
 
@@ -78,11 +78,19 @@ impl Wire for CodeActionOptions {
     ghost shown = { code_action_options_row.shown };
 
     fn from_value(alloc: Global, value: &Value) -> Result<CodeActionOptions, Misfit> {
-        let object = Reader::new(alloc, value)?;
+        let (code_action_kinds, work_done_progress_options, resolve_provider) = read_object(
+            alloc,
+            value,
+            (
+                Optional("codeActionKinds"),
+                Flat,
+                Optional("resolveProvider"),
+            ),
+        )?;
         Ok(CodeActionOptions {
-            code_action_kinds: object.optional("codeActionKinds")?,
-            work_done_progress_options: flat(alloc, value)?,
-            resolve_provider: object.optional("resolveProvider")?,
+            code_action_kinds,
+            work_done_progress_options,
+            resolve_provider,
         })
     }
 
@@ -111,10 +119,8 @@ impl Wire for CodeLensOptions {
     ghost shown = { code_lens_options_row.shown };
 
     fn from_value(alloc: Global, value: &Value) -> Result<CodeLensOptions, Misfit> {
-        let object = Reader::new(alloc, value)?;
-        Ok(CodeLensOptions {
-            resolve_provider: object.optional("resolveProvider")?,
-        })
+        let resolve_provider = read_object(alloc, value, Optional("resolveProvider"))?;
+        Ok(CodeLensOptions { resolve_provider })
     }
 
     fn to_value(&self, alloc: Global) -> Result<Value, NoMemory> {
@@ -143,10 +149,14 @@ impl Wire for DocumentLinkOptions {
     ghost shown = { document_link_options_row.shown };
 
     fn from_value(alloc: Global, value: &Value) -> Result<DocumentLinkOptions, Misfit> {
-        let object = Reader::new(alloc, value)?;
+        let (resolve_provider, work_done_progress_options) = read_object(
+            alloc,
+            value,
+            (Optional("resolveProvider"), Flat),
+        )?;
         Ok(DocumentLinkOptions {
-            resolve_provider: object.optional("resolveProvider")?,
-            work_done_progress_options: flat(alloc, value)?,
+            resolve_provider,
+            work_done_progress_options,
         })
     }
 

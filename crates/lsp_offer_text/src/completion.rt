@@ -3,7 +3,7 @@ ghost use Rattle.lsp_offer_text.specs.Completion.{completion_options_row, comple
 
 use lsp_base::TextDocumentRegistrationOptions;
 use lsp_names::WorkDoneProgressOptions;
-use lsp_shape::{Misfit, NoMemory, Reader, Wire, Writer, flat};
+use lsp_shape::{Flat, Misfit, NoMemory, Optional, Wire, Writer, flat, read_object};
 use serde_json::Value;
 use std::alloc::Global;
 
@@ -33,13 +33,29 @@ impl Wire for CompletionOptions {
     ghost shown = { completion_options_row.shown };
 
     fn from_value(alloc: Global, value: &Value) -> Result<CompletionOptions, Misfit> {
-        let object = Reader::new(alloc, value)?;
+        let (
+            resolve_provider,
+            trigger_characters,
+            all_commit_characters,
+            work_done_progress_options,
+            completion_item,
+        ) = read_object(
+            alloc,
+            value,
+            (
+                Optional("resolveProvider"),
+                Optional("triggerCharacters"),
+                Optional("allCommitCharacters"),
+                Flat,
+                Optional("completionItem"),
+            ),
+        )?;
         Ok(CompletionOptions {
-            resolve_provider: object.optional("resolveProvider")?,
-            trigger_characters: object.optional("triggerCharacters")?,
-            all_commit_characters: object.optional("allCommitCharacters")?,
-            work_done_progress_options: flat(alloc, value)?,
-            completion_item: object.optional("completionItem")?,
+            resolve_provider,
+            trigger_characters,
+            all_commit_characters,
+            work_done_progress_options,
+            completion_item,
         })
     }
 
@@ -70,9 +86,9 @@ impl Wire for CompletionOptionsCompletionItem {
     ghost shown = { completion_options_completion_item_row.shown };
 
     fn from_value(alloc: Global, value: &Value) -> Result<CompletionOptionsCompletionItem, Misfit> {
-        let object = Reader::new(alloc, value)?;
+        let label_details_support = read_object(alloc, value, Optional("labelDetailsSupport"))?;
         Ok(CompletionOptionsCompletionItem {
-            label_details_support: object.optional("labelDetailsSupport")?,
+            label_details_support,
         })
     }
 

@@ -4,7 +4,7 @@ ghost use Rattle.lsp_offer_text.specs.Formatting.{document_formatting_options_ro
 
 use lsp_base::DocumentSelector;
 use lsp_names::WorkDoneProgressOptions;
-use lsp_shape::{Misfit, NoMemory, Reader, Wire, Writer, flat};
+use lsp_shape::{Flat, Misfit, NoMemory, Optional, Required, Wire, Writer, flat, read_object};
 use serde_json::Value;
 use std::alloc::Global;
 
@@ -94,10 +94,17 @@ impl Wire for DocumentOnTypeFormattingOptions {
     ghost shown = { document_on_type_formatting_options_row.shown };
 
     fn from_value(alloc: Global, value: &Value) -> Result<DocumentOnTypeFormattingOptions, Misfit> {
-        let object = Reader::new(alloc, value)?;
+        let (first_trigger_character, more_trigger_character) = read_object(
+            alloc,
+            value,
+            (
+                Required("firstTriggerCharacter"),
+                Optional("moreTriggerCharacter"),
+            ),
+        )?;
         Ok(DocumentOnTypeFormattingOptions {
-            first_trigger_character: object.field("firstTriggerCharacter")?,
-            more_trigger_character: object.optional("moreTriggerCharacter")?,
+            first_trigger_character,
+            more_trigger_character,
         })
     }
 
@@ -148,11 +155,19 @@ impl Wire for DocumentOnTypeFormattingRegistrationOptions {
         alloc: Global,
         value: &Value,
     ) -> Result<DocumentOnTypeFormattingRegistrationOptions, Misfit> {
-        let object = Reader::new(alloc, value)?;
+        let (document_selector, first_trigger_character, more_trigger_character) = read_object(
+            alloc,
+            value,
+            (
+                Optional("documentSelector"),
+                Required("firstTriggerCharacter"),
+                Optional("moreTriggerCharacter"),
+            ),
+        )?;
         Ok(DocumentOnTypeFormattingRegistrationOptions {
-            document_selector: object.optional("documentSelector")?,
-            first_trigger_character: object.field("firstTriggerCharacter")?,
-            more_trigger_character: object.optional("moreTriggerCharacter")?,
+            document_selector,
+            first_trigger_character,
+            more_trigger_character,
         })
     }
 
@@ -184,10 +199,14 @@ impl Wire for RenameOptions {
     ghost shown = { rename_options_row.shown };
 
     fn from_value(alloc: Global, value: &Value) -> Result<RenameOptions, Misfit> {
-        let object = Reader::new(alloc, value)?;
+        let (prepare_provider, work_done_progress_options) = read_object(
+            alloc,
+            value,
+            (Optional("prepareProvider"), Flat),
+        )?;
         Ok(RenameOptions {
-            prepare_provider: object.optional("prepareProvider")?,
-            work_done_progress_options: flat(alloc, value)?,
+            prepare_provider,
+            work_done_progress_options,
         })
     }
 

@@ -6,7 +6,7 @@ ghost use Rattle.lsp_offer_text.specs.declared.goto.TypeDefinitionProviderCapabi
 
 use lsp_base::{DocumentSelector, StaticRegistrationOptions, TextDocumentRegistrationOptions};
 use lsp_names::WorkDoneProgressOptions;
-use lsp_shape::{Misfit, NoMemory, Reader, Wire, Writer, attempt, flat, form};
+use lsp_shape::{Misfit, NoMemory, Optional, Wire, Writer, attempt, flat, form, read_object};
 use serde_json::Value;
 use std::alloc::Global;
 
@@ -32,10 +32,14 @@ impl Wire for StaticTextDocumentRegistrationOptions {
         alloc: Global,
         value: &Value,
     ) -> Result<StaticTextDocumentRegistrationOptions, Misfit> {
-        let object = Reader::new(alloc, value)?;
+        let (document_selector, id) = read_object(
+            alloc,
+            value,
+            (Optional("documentSelector"), Optional("id")),
+        )?;
         Ok(StaticTextDocumentRegistrationOptions {
-            document_selector: object.optional("documentSelector")?,
-            id: object.optional("id")?,
+            document_selector,
+            id,
         })
     }
 

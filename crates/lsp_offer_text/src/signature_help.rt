@@ -3,7 +3,7 @@ ghost use Rattle.lsp_offer_text.specs.SignatureHelp.{signature_help_options_row,
 
 use lsp_base::TextDocumentRegistrationOptions;
 use lsp_names::WorkDoneProgressOptions;
-use lsp_shape::{Misfit, NoMemory, Reader, Wire, Writer, flat};
+use lsp_shape::{Flat, Misfit, NoMemory, Optional, Wire, Writer, flat, read_object};
 use serde_json::Value;
 use std::alloc::Global;
 
@@ -28,11 +28,19 @@ impl Wire for SignatureHelpOptions {
     ghost shown = { signature_help_options_row.shown };
 
     fn from_value(alloc: Global, value: &Value) -> Result<SignatureHelpOptions, Misfit> {
-        let object = Reader::new(alloc, value)?;
+        let (trigger_characters, retrigger_characters, work_done_progress_options) = read_object(
+            alloc,
+            value,
+            (
+                Optional("triggerCharacters"),
+                Optional("retriggerCharacters"),
+                Flat,
+            ),
+        )?;
         Ok(SignatureHelpOptions {
-            trigger_characters: object.optional("triggerCharacters")?,
-            retrigger_characters: object.optional("retriggerCharacters")?,
-            work_done_progress_options: flat(alloc, value)?,
+            trigger_characters,
+            retrigger_characters,
+            work_done_progress_options,
         })
     }
 

@@ -2,7 +2,7 @@
 ghost use Rattle.lsp_offer_text.specs.Symbols.{document_symbol_options_row, workspace_symbol_options_row};
 
 use lsp_names::WorkDoneProgressOptions;
-use lsp_shape::{Misfit, NoMemory, Reader, Wire, Writer, flat};
+use lsp_shape::{Flat, Misfit, NoMemory, Optional, Wire, Writer, flat, read_object};
 use serde_json::Value;
 use std::alloc::Global;
 
@@ -25,10 +25,14 @@ impl Wire for DocumentSymbolOptions {
     ghost shown = { document_symbol_options_row.shown };
 
     fn from_value(alloc: Global, value: &Value) -> Result<DocumentSymbolOptions, Misfit> {
-        let object = Reader::new(alloc, value)?;
+        let (label, work_done_progress_options) = read_object(
+            alloc,
+            value,
+            (Optional("label"), Flat),
+        )?;
         Ok(DocumentSymbolOptions {
-            label: object.optional("label")?,
-            work_done_progress_options: flat(alloc, value)?,
+            label,
+            work_done_progress_options,
         })
     }
 
@@ -59,10 +63,14 @@ impl Wire for WorkspaceSymbolOptions {
     ghost shown = { workspace_symbol_options_row.shown };
 
     fn from_value(alloc: Global, value: &Value) -> Result<WorkspaceSymbolOptions, Misfit> {
-        let object = Reader::new(alloc, value)?;
+        let (work_done_progress_options, resolve_provider) = read_object(
+            alloc,
+            value,
+            (Flat, Optional("resolveProvider")),
+        )?;
         Ok(WorkspaceSymbolOptions {
-            work_done_progress_options: flat(alloc, value)?,
-            resolve_provider: object.optional("resolveProvider")?,
+            work_done_progress_options,
+            resolve_provider,
         })
     }
 

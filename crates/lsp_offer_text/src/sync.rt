@@ -6,7 +6,9 @@ ghost use Rattle.lsp_offer_text.specs.declared.sync.TextDocumentSyncSaveOptions.
 
 use lsp_base::{DocumentSelector, TextDocumentRegistrationOptions};
 use lsp_kinds::TextDocumentSyncKind;
-use lsp_shape::{Misfit, NoMemory, Reader, Wire, Writer, attempt, flat, form};
+use lsp_shape::{
+    Flat, Misfit, NoMemory, Optional, Required, Wire, Writer, attempt, flat, form, read_object,
+};
 use serde_json::Value;
 use std::alloc::Global;
 
@@ -81,13 +83,23 @@ impl Wire for TextDocumentSyncOptions {
     ghost shown = { text_document_sync_options_row.shown };
 
     fn from_value(alloc: Global, value: &Value) -> Result<TextDocumentSyncOptions, Misfit> {
-        let object = Reader::new(alloc, value)?;
+        let (open_close, change, will_save, will_save_wait_until, save) = read_object(
+            alloc,
+            value,
+            (
+                Optional("openClose"),
+                Optional("change"),
+                Optional("willSave"),
+                Optional("willSaveWaitUntil"),
+                Optional("save"),
+            ),
+        )?;
         Ok(TextDocumentSyncOptions {
-            open_close: object.optional("openClose")?,
-            change: object.optional("change")?,
-            will_save: object.optional("willSave")?,
-            will_save_wait_until: object.optional("willSaveWaitUntil")?,
-            save: object.optional("save")?,
+            open_close,
+            change,
+            will_save,
+            will_save_wait_until,
+            save,
         })
     }
 
@@ -163,10 +175,8 @@ impl Wire for SaveOptions {
     ghost shown = { save_options_row.shown };
 
     fn from_value(alloc: Global, value: &Value) -> Result<SaveOptions, Misfit> {
-        let object = Reader::new(alloc, value)?;
-        Ok(SaveOptions {
-            include_text: object.optional("includeText")?,
-        })
+        let include_text = read_object(alloc, value, Optional("includeText"))?;
+        Ok(SaveOptions { include_text })
     }
 
     fn to_value(&self, alloc: Global) -> Result<Value, NoMemory> {
@@ -198,10 +208,14 @@ impl Wire for TextDocumentChangeRegistrationOptions {
         alloc: Global,
         value: &Value,
     ) -> Result<TextDocumentChangeRegistrationOptions, Misfit> {
-        let object = Reader::new(alloc, value)?;
+        let (document_selector, sync_kind) = read_object(
+            alloc,
+            value,
+            (Optional("documentSelector"), Required("syncKind")),
+        )?;
         Ok(TextDocumentChangeRegistrationOptions {
-            document_selector: object.optional("documentSelector")?,
-            sync_kind: object.field("syncKind")?,
+            document_selector,
+            sync_kind,
         })
     }
 
@@ -233,10 +247,14 @@ impl Wire for TextDocumentSaveRegistrationOptions {
         alloc: Global,
         value: &Value,
     ) -> Result<TextDocumentSaveRegistrationOptions, Misfit> {
-        let object = Reader::new(alloc, value)?;
+        let (include_text, text_document_registration_options) = read_object(
+            alloc,
+            value,
+            (Optional("includeText"), Flat),
+        )?;
         Ok(TextDocumentSaveRegistrationOptions {
-            include_text: object.optional("includeText")?,
-            text_document_registration_options: flat(alloc, value)?,
+            include_text,
+            text_document_registration_options,
         })
     }
 

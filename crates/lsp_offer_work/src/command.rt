@@ -3,7 +3,7 @@ ghost use Rattle.std.specs.Prelude.{◌≡◌, None, []};
 ghost use Rattle.lsp_offer_work.specs.Command.{execute_command_options_row, execute_command_registration_options_row};
 
 use lsp_names::WorkDoneProgressOptions;
-use lsp_shape::{Misfit, NoMemory, Reader, Wire, Writer, flat};
+use lsp_shape::{Flat, Misfit, NoMemory, Required, Wire, Writer, flat, read_object};
 use serde_json::Value;
 use std::alloc::Global;
 
@@ -37,10 +37,14 @@ impl Wire for ExecuteCommandOptions {
     ghost shown = { execute_command_options_row.shown };
 
     fn from_value(alloc: Global, value: &Value) -> Result<ExecuteCommandOptions, Misfit> {
-        let object = Reader::new(alloc, value)?;
+        let (commands, work_done_progress_options) = read_object(
+            alloc,
+            value,
+            (Required("commands"), Flat),
+        )?;
         Ok(ExecuteCommandOptions {
-            commands: object.field("commands")?,
-            work_done_progress_options: flat(alloc, value)?,
+            commands,
+            work_done_progress_options,
         })
     }
 
@@ -72,10 +76,14 @@ impl Wire for ExecuteCommandRegistrationOptions {
         alloc: Global,
         value: &Value,
     ) -> Result<ExecuteCommandRegistrationOptions, Misfit> {
-        let object = Reader::new(alloc, value)?;
+        let (commands, work_done_progress_options) = read_object(
+            alloc,
+            value,
+            (Required("commands"), Flat),
+        )?;
         Ok(ExecuteCommandRegistrationOptions {
-            commands: object.field("commands")?,
-            work_done_progress_options: flat(alloc, value)?,
+            commands,
+            work_done_progress_options,
         })
     }
 

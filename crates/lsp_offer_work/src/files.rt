@@ -2,7 +2,7 @@
 ghost use Rattle.std.specs.Prelude.{◌≡◌, None, [], string_bytes};
 ghost use Rattle.lsp_offer_work.specs.Files.{workspace_file_operations_server_capabilities_row, file_operation_registration_options_row, file_operation_filter_row, file_operation_pattern_kind_row, file_operation_pattern_options_row, file_operation_pattern_row};
 
-use lsp_shape::{Copies, Misfit, NoMemory, Reader, Wanted, Wire, Writer};
+use lsp_shape::{Copies, Misfit, NoMemory, Optional, Required, Wanted, Wire, Writer, read_object};
 use serde_json::Value;
 use std::alloc::{AllocError, Global};
 
@@ -65,14 +65,26 @@ impl Wire for WorkspaceFileOperationsServerCapabilities {
         alloc: Global,
         value: &Value,
     ) -> Result<WorkspaceFileOperationsServerCapabilities, Misfit> {
-        let object = Reader::new(alloc, value)?;
+        let (did_create, will_create, did_rename, will_rename, did_delete, will_delete) =
+            read_object(
+                alloc,
+                value,
+                (
+                    Optional("didCreate"),
+                    Optional("willCreate"),
+                    Optional("didRename"),
+                    Optional("willRename"),
+                    Optional("didDelete"),
+                    Optional("willDelete"),
+                ),
+            )?;
         Ok(WorkspaceFileOperationsServerCapabilities {
-            did_create: object.optional("didCreate")?,
-            will_create: object.optional("willCreate")?,
-            did_rename: object.optional("didRename")?,
-            will_rename: object.optional("willRename")?,
-            did_delete: object.optional("didDelete")?,
-            will_delete: object.optional("willDelete")?,
+            did_create,
+            will_create,
+            did_rename,
+            will_rename,
+            did_delete,
+            will_delete,
         })
     }
 
@@ -117,10 +129,8 @@ impl Wire for FileOperationRegistrationOptions {
         alloc: Global,
         value: &Value,
     ) -> Result<FileOperationRegistrationOptions, Misfit> {
-        let object = Reader::new(alloc, value)?;
-        Ok(FileOperationRegistrationOptions {
-            filters: object.field("filters")?,
-        })
+        let filters = read_object(alloc, value, Required("filters"))?;
+        Ok(FileOperationRegistrationOptions { filters })
     }
 
     fn to_value(&self, alloc: Global) -> Result<Value, NoMemory> {
@@ -163,11 +173,12 @@ impl Wire for FileOperationFilter {
     ghost shown = { file_operation_filter_row.shown };
 
     fn from_value(alloc: Global, value: &Value) -> Result<FileOperationFilter, Misfit> {
-        let object = Reader::new(alloc, value)?;
-        Ok(FileOperationFilter {
-            scheme: object.optional("scheme")?,
-            pattern: object.field("pattern")?,
-        })
+        let (scheme, pattern) = read_object(
+            alloc,
+            value,
+            (Optional("scheme"), Required("pattern")),
+        )?;
+        Ok(FileOperationFilter { scheme, pattern })
     }
 
     fn to_value(&self, alloc: Global) -> Result<Value, NoMemory> {
@@ -226,10 +237,8 @@ impl Wire for FileOperationPatternOptions {
     ghost shown = { file_operation_pattern_options_row.shown };
 
     fn from_value(alloc: Global, value: &Value) -> Result<FileOperationPatternOptions, Misfit> {
-        let object = Reader::new(alloc, value)?;
-        Ok(FileOperationPatternOptions {
-            ignore_case: object.optional("ignoreCase")?,
-        })
+        let ignore_case = read_object(alloc, value, Optional("ignoreCase"))?;
+        Ok(FileOperationPatternOptions { ignore_case })
     }
 
     fn to_value(&self, alloc: Global) -> Result<Value, NoMemory> {
@@ -273,11 +282,15 @@ impl Wire for FileOperationPattern {
     ghost shown = { file_operation_pattern_row.shown };
 
     fn from_value(alloc: Global, value: &Value) -> Result<FileOperationPattern, Misfit> {
-        let object = Reader::new(alloc, value)?;
+        let (glob, matches, options) = read_object(
+            alloc,
+            value,
+            (Required("glob"), Optional("matches"), Optional("options")),
+        )?;
         Ok(FileOperationPattern {
-            glob: object.field("glob")?,
-            matches: object.optional("matches")?,
-            options: object.optional("options")?,
+            glob,
+            matches,
+            options,
         })
     }
 

@@ -1,7 +1,7 @@
 // Notebooks.
 ghost use Rattle.lsp_offer_work.specs.Notebook.{notebook_document_sync_options_row, notebook_document_sync_registration_options_row, notebook_cell_text_document_filter_row, notebook_selector_by_notebook_row, notebook_selector_by_cells_row, notebook_selector_row, notebook_cell_selector_row, notebook_row, notebook_document_filter_by_type_row, notebook_document_filter_by_scheme_row, notebook_document_filter_by_pattern_row, notebook_document_filter_row};
 
-use lsp_shape::{Misfit, NoMemory, Reader, Wire, Writer, attempt, form};
+use lsp_shape::{Misfit, NoMemory, Optional, Required, Wire, Writer, attempt, form, read_object};
 use serde_json::Value;
 use std::alloc::Global;
 
@@ -22,10 +22,14 @@ impl Wire for NotebookDocumentSyncOptions {
     ghost shown = { notebook_document_sync_options_row.shown };
 
     fn from_value(alloc: Global, value: &Value) -> Result<NotebookDocumentSyncOptions, Misfit> {
-        let object = Reader::new(alloc, value)?;
+        let (notebook_selector, save) = read_object(
+            alloc,
+            value,
+            (Required("notebookSelector"), Optional("save")),
+        )?;
         Ok(NotebookDocumentSyncOptions {
-            notebook_selector: object.field("notebookSelector")?,
-            save: object.optional("save")?,
+            notebook_selector,
+            save,
         })
     }
 
@@ -61,11 +65,19 @@ impl Wire for NotebookDocumentSyncRegistrationOptions {
         alloc: Global,
         value: &Value,
     ) -> Result<NotebookDocumentSyncRegistrationOptions, Misfit> {
-        let object = Reader::new(alloc, value)?;
+        let (notebook_selector, save, id) = read_object(
+            alloc,
+            value,
+            (
+                Required("notebookSelector"),
+                Optional("save"),
+                Optional("id"),
+            ),
+        )?;
         Ok(NotebookDocumentSyncRegistrationOptions {
-            notebook_selector: object.field("notebookSelector")?,
-            save: object.optional("save")?,
-            id: object.optional("id")?,
+            notebook_selector,
+            save,
+            id,
         })
     }
 
@@ -97,11 +109,12 @@ impl Wire for NotebookCellTextDocumentFilter {
     ghost shown = { notebook_cell_text_document_filter_row.shown };
 
     fn from_value(alloc: Global, value: &Value) -> Result<NotebookCellTextDocumentFilter, Misfit> {
-        let object = Reader::new(alloc, value)?;
-        Ok(NotebookCellTextDocumentFilter {
-            notebook: object.field("notebook")?,
-            language: object.optional("language")?,
-        })
+        let (notebook, language) = read_object(
+            alloc,
+            value,
+            (Required("notebook"), Optional("language")),
+        )?;
+        Ok(NotebookCellTextDocumentFilter { notebook, language })
     }
 
     fn to_value(&self, alloc: Global) -> Result<Value, NoMemory> {
@@ -148,11 +161,12 @@ impl Wire for NotebookSelectorByNotebook {
     ghost shown = { notebook_selector_by_notebook_row.shown };
 
     fn from_value(alloc: Global, value: &Value) -> Result<NotebookSelectorByNotebook, Misfit> {
-        let object = Reader::new(alloc, value)?;
-        Ok(NotebookSelectorByNotebook {
-            notebook: object.field("notebook")?,
-            cells: object.optional("cells")?,
-        })
+        let (notebook, cells) = read_object(
+            alloc,
+            value,
+            (Required("notebook"), Optional("cells")),
+        )?;
+        Ok(NotebookSelectorByNotebook { notebook, cells })
     }
 
     fn to_value(&self, alloc: Global) -> Result<Value, NoMemory> {
@@ -177,11 +191,12 @@ impl Wire for NotebookSelectorByCells {
     ghost shown = { notebook_selector_by_cells_row.shown };
 
     fn from_value(alloc: Global, value: &Value) -> Result<NotebookSelectorByCells, Misfit> {
-        let object = Reader::new(alloc, value)?;
-        Ok(NotebookSelectorByCells {
-            notebook: object.optional("notebook")?,
-            cells: object.field("cells")?,
-        })
+        let (notebook, cells) = read_object(
+            alloc,
+            value,
+            (Optional("notebook"), Required("cells")),
+        )?;
+        Ok(NotebookSelectorByCells { notebook, cells })
     }
 
     fn to_value(&self, alloc: Global) -> Result<Value, NoMemory> {
@@ -245,10 +260,8 @@ impl Wire for NotebookCellSelector {
     ghost shown = { notebook_cell_selector_row.shown };
 
     fn from_value(alloc: Global, value: &Value) -> Result<NotebookCellSelector, Misfit> {
-        let object = Reader::new(alloc, value)?;
-        Ok(NotebookCellSelector {
-            language: object.field("language")?,
-        })
+        let language = read_object(alloc, value, Required("language"))?;
+        Ok(NotebookCellSelector { language })
     }
 
     fn to_value(&self, alloc: Global) -> Result<Value, NoMemory> {
@@ -338,11 +351,19 @@ impl Wire for NotebookDocumentFilterByType {
     ghost shown = { notebook_document_filter_by_type_row.shown };
 
     fn from_value(alloc: Global, value: &Value) -> Result<NotebookDocumentFilterByType, Misfit> {
-        let object = Reader::new(alloc, value)?;
+        let (notebook_type, scheme, pattern) = read_object(
+            alloc,
+            value,
+            (
+                Required("notebookType"),
+                Optional("scheme"),
+                Optional("pattern"),
+            ),
+        )?;
         Ok(NotebookDocumentFilterByType {
-            notebook_type: object.field("notebookType")?,
-            scheme: object.optional("scheme")?,
-            pattern: object.optional("pattern")?,
+            notebook_type,
+            scheme,
+            pattern,
         })
     }
 
@@ -370,11 +391,19 @@ impl Wire for NotebookDocumentFilterByScheme {
     ghost shown = { notebook_document_filter_by_scheme_row.shown };
 
     fn from_value(alloc: Global, value: &Value) -> Result<NotebookDocumentFilterByScheme, Misfit> {
-        let object = Reader::new(alloc, value)?;
+        let (notebook_type, scheme, pattern) = read_object(
+            alloc,
+            value,
+            (
+                Optional("notebookType"),
+                Required("scheme"),
+                Optional("pattern"),
+            ),
+        )?;
         Ok(NotebookDocumentFilterByScheme {
-            notebook_type: object.optional("notebookType")?,
-            scheme: object.field("scheme")?,
-            pattern: object.optional("pattern")?,
+            notebook_type,
+            scheme,
+            pattern,
         })
     }
 
@@ -402,11 +431,19 @@ impl Wire for NotebookDocumentFilterByPattern {
     ghost shown = { notebook_document_filter_by_pattern_row.shown };
 
     fn from_value(alloc: Global, value: &Value) -> Result<NotebookDocumentFilterByPattern, Misfit> {
-        let object = Reader::new(alloc, value)?;
+        let (notebook_type, scheme, pattern) = read_object(
+            alloc,
+            value,
+            (
+                Optional("notebookType"),
+                Optional("scheme"),
+                Required("pattern"),
+            ),
+        )?;
         Ok(NotebookDocumentFilterByPattern {
-            notebook_type: object.optional("notebookType")?,
-            scheme: object.optional("scheme")?,
-            pattern: object.field("pattern")?,
+            notebook_type,
+            scheme,
+            pattern,
         })
     }
 

@@ -1,7 +1,7 @@
 // Registrations.
 ghost use Rattle.lsp_offer_work.specs.Registration.{registration_row, registration_params_row, unregistration_row, unregistration_params_row};
 
-use lsp_shape::{Misfit, NoMemory, Reader, Wire, Writer};
+use lsp_shape::{Misfit, NoMemory, Optional, Required, Wire, Writer, read_object};
 use serde_json::Value;
 use std::alloc::Global;
 
@@ -25,11 +25,19 @@ impl Wire for Registration {
     ghost shown = { registration_row.shown };
 
     fn from_value(alloc: Global, value: &Value) -> Result<Registration, Misfit> {
-        let object = Reader::new(alloc, value)?;
+        let (id, method, register_options) = read_object(
+            alloc,
+            value,
+            (
+                Required("id"),
+                Required("method"),
+                Optional("registerOptions"),
+            ),
+        )?;
         Ok(Registration {
-            id: object.field("id")?,
-            method: object.field("method")?,
-            register_options: object.optional("registerOptions")?,
+            id,
+            method,
+            register_options,
         })
     }
 
@@ -57,10 +65,8 @@ impl Wire for RegistrationParams {
     ghost shown = { registration_params_row.shown };
 
     fn from_value(alloc: Global, value: &Value) -> Result<RegistrationParams, Misfit> {
-        let object = Reader::new(alloc, value)?;
-        Ok(RegistrationParams {
-            registrations: object.field("registrations")?,
-        })
+        let registrations = read_object(alloc, value, Required("registrations"))?;
+        Ok(RegistrationParams { registrations })
     }
 
     fn to_value(&self, alloc: Global) -> Result<Value, NoMemory> {
@@ -87,11 +93,8 @@ impl Wire for Unregistration {
     ghost shown = { unregistration_row.shown };
 
     fn from_value(alloc: Global, value: &Value) -> Result<Unregistration, Misfit> {
-        let object = Reader::new(alloc, value)?;
-        Ok(Unregistration {
-            id: object.field("id")?,
-            method: object.field("method")?,
-        })
+        let (id, method) = read_object(alloc, value, (Required("id"), Required("method")))?;
+        Ok(Unregistration { id, method })
     }
 
     fn to_value(&self, alloc: Global) -> Result<Value, NoMemory> {
@@ -117,10 +120,8 @@ impl Wire for UnregistrationParams {
     ghost shown = { unregistration_params_row.shown };
 
     fn from_value(alloc: Global, value: &Value) -> Result<UnregistrationParams, Misfit> {
-        let object = Reader::new(alloc, value)?;
-        Ok(UnregistrationParams {
-            unregisterations: object.field("unregisterations")?,
-        })
+        let unregisterations = read_object(alloc, value, Required("unregisterations"))?;
+        Ok(UnregistrationParams { unregisterations })
     }
 
     fn to_value(&self, alloc: Global) -> Result<Value, NoMemory> {

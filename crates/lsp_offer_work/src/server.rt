@@ -2,7 +2,7 @@
 ghost use Rattle.std.specs.Prelude.{◌≡◌, None, [], string_bytes};
 ghost use Rattle.lsp_offer_work.specs.Server.{server_info_row, initialize_error_row};
 
-use lsp_shape::{Misfit, NoMemory, Reader, Wire, Writer};
+use lsp_shape::{Misfit, NoMemory, Optional, Required, Wire, Writer, read_object};
 use serde_json::Value;
 use std::alloc::Global;
 
@@ -36,11 +36,8 @@ impl Wire for ServerInfo {
     ghost shown = { server_info_row.shown };
 
     fn from_value(alloc: Global, value: &Value) -> Result<ServerInfo, Misfit> {
-        let object = Reader::new(alloc, value)?;
-        Ok(ServerInfo {
-            name: object.field("name")?,
-            version: object.optional("version")?,
-        })
+        let (name, version) = read_object(alloc, value, (Required("name"), Optional("version")))?;
+        Ok(ServerInfo { name, version })
     }
 
     fn to_value(&self, alloc: Global) -> Result<Value, NoMemory> {
@@ -66,10 +63,8 @@ impl Wire for InitializeError {
     ghost shown = { initialize_error_row.shown };
 
     fn from_value(alloc: Global, value: &Value) -> Result<InitializeError, Misfit> {
-        let object = Reader::new(alloc, value)?;
-        Ok(InitializeError {
-            retry: object.field("retry")?,
-        })
+        let retry = read_object(alloc, value, Required("retry"))?;
+        Ok(InitializeError { retry })
     }
 
     fn to_value(&self, alloc: Global) -> Result<Value, NoMemory> {

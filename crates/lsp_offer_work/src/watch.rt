@@ -5,7 +5,7 @@ ghost use Rattle.lsp_offer_work.specs.declared.watch.GlobPattern.TheVariants as 
 
 use crate::watch_kind::WatchKind;
 use lsp_base::{OneOf, WorkspaceFolder};
-use lsp_shape::{Misfit, NoMemory, Reader, Wire, Writer, attempt, form};
+use lsp_shape::{Misfit, NoMemory, Optional, Required, Wire, Writer, attempt, form, read_object};
 use lsp_uri::Uri;
 use serde_json::Value;
 use std::alloc::Global;
@@ -29,10 +29,8 @@ impl Wire for DidChangeWatchedFilesRegistrationOptions {
         alloc: Global,
         value: &Value,
     ) -> Result<DidChangeWatchedFilesRegistrationOptions, Misfit> {
-        let object = Reader::new(alloc, value)?;
-        Ok(DidChangeWatchedFilesRegistrationOptions {
-            watchers: object.field("watchers")?,
-        })
+        let watchers = read_object(alloc, value, Required("watchers"))?;
+        Ok(DidChangeWatchedFilesRegistrationOptions { watchers })
     }
 
     fn to_value(&self, alloc: Global) -> Result<Value, NoMemory> {
@@ -59,11 +57,12 @@ impl Wire for FileSystemWatcher {
     ghost shown = { file_system_watcher_row.shown };
 
     fn from_value(alloc: Global, value: &Value) -> Result<FileSystemWatcher, Misfit> {
-        let object = Reader::new(alloc, value)?;
-        Ok(FileSystemWatcher {
-            glob_pattern: object.field("globPattern")?,
-            kind: object.optional("kind")?,
-        })
+        let (glob_pattern, kind) = read_object(
+            alloc,
+            value,
+            (Required("globPattern"), Optional("kind")),
+        )?;
+        Ok(FileSystemWatcher { glob_pattern, kind })
     }
 
     fn to_value(&self, alloc: Global) -> Result<Value, NoMemory> {
@@ -139,11 +138,12 @@ impl Wire for RelativePattern {
     ghost shown = { relative_pattern_row.shown };
 
     fn from_value(alloc: Global, value: &Value) -> Result<RelativePattern, Misfit> {
-        let object = Reader::new(alloc, value)?;
-        Ok(RelativePattern {
-            base_uri: object.field("baseUri")?,
-            pattern: object.field("pattern")?,
-        })
+        let (base_uri, pattern) = read_object(
+            alloc,
+            value,
+            (Required("baseUri"), Required("pattern")),
+        )?;
+        Ok(RelativePattern { base_uri, pattern })
     }
 
     fn to_value(&self, alloc: Global) -> Result<Value, NoMemory> {

@@ -3,7 +3,7 @@ ghost use Rattle.lsp_offer_work.specs.Workspace.{workspace_server_capabilities_r
 
 use crate::files::WorkspaceFileOperationsServerCapabilities;
 use lsp_base::OneOf;
-use lsp_shape::{Misfit, NoMemory, Reader, Wire, Writer};
+use lsp_shape::{Misfit, NoMemory, Optional, Wire, Writer, read_object};
 use serde_json::Value;
 use std::alloc::Global;
 
@@ -24,10 +24,14 @@ impl Wire for WorkspaceServerCapabilities {
     ghost shown = { workspace_server_capabilities_row.shown };
 
     fn from_value(alloc: Global, value: &Value) -> Result<WorkspaceServerCapabilities, Misfit> {
-        let object = Reader::new(alloc, value)?;
+        let (workspace_folders, file_operations) = read_object(
+            alloc,
+            value,
+            (Optional("workspaceFolders"), Optional("fileOperations")),
+        )?;
         Ok(WorkspaceServerCapabilities {
-            workspace_folders: object.optional("workspaceFolders")?,
-            file_operations: object.optional("fileOperations")?,
+            workspace_folders,
+            file_operations,
         })
     }
 
@@ -60,10 +64,14 @@ impl Wire for WorkspaceFoldersServerCapabilities {
         alloc: Global,
         value: &Value,
     ) -> Result<WorkspaceFoldersServerCapabilities, Misfit> {
-        let object = Reader::new(alloc, value)?;
+        let (supported, change_notifications) = read_object(
+            alloc,
+            value,
+            (Optional("supported"), Optional("changeNotifications")),
+        )?;
         Ok(WorkspaceFoldersServerCapabilities {
-            supported: object.optional("supported")?,
-            change_notifications: object.optional("changeNotifications")?,
+            supported,
+            change_notifications,
         })
     }
 

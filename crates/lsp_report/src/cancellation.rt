@@ -2,7 +2,7 @@
 ghost use Rattle.std.specs.Prelude.{◌≡◌, true};
 ghost use Rattle.lsp_report.specs.Cancellation.{diagnostic_server_cancellation_data_row};
 
-use lsp_shape::{Misfit, NoMemory, Reader, Wire, Writer};
+use lsp_shape::{Misfit, NoMemory, Required, Wire, Writer, read_object};
 use serde_json::Value;
 use std::alloc::Global;
 
@@ -35,10 +35,8 @@ impl Wire for DiagnosticServerCancellationData {
         alloc: Global,
         value: &Value,
     ) -> Result<DiagnosticServerCancellationData, Misfit> {
-        let object = Reader::new(alloc, value)?;
-        Ok(DiagnosticServerCancellationData {
-            retrigger_request: object.field("retriggerRequest")?,
-        })
+        let retrigger_request = read_object(alloc, value, Required("retriggerRequest"))?;
+        Ok(DiagnosticServerCancellationData { retrigger_request })
     }
 
     fn to_value(&self, alloc: Global) -> Result<Value, NoMemory> {

@@ -7,7 +7,8 @@ ghost use Rattle.lsp_report.specs.declared.document.DocumentDiagnosticReportResu
 
 use lsp_base::{Diagnostic, PartialResultParams, TextDocumentIdentifier, WorkDoneProgressParams};
 use lsp_shape::{
-    Copies, Misfit, NoMemory, Reader, Wanted, Wire, Writer, attempt, flat, form, put_tag, tag,
+    Copies, Flat, Misfit, NoMemory, Optional, Required, Wanted, Wire, Writer, attempt, flat, form,
+    put_tag, read_object, tag,
 };
 use lsp_uri::Uri;
 use serde_json::Value;
@@ -64,13 +65,29 @@ impl Wire for DocumentDiagnosticParams {
     ghost shown = { document_diagnostic_params_row.shown };
 
     fn from_value(alloc: Global, value: &Value) -> Result<DocumentDiagnosticParams, Misfit> {
-        let object = Reader::new(alloc, value)?;
+        let (
+            text_document,
+            identifier,
+            previous_result_id,
+            work_done_progress_params,
+            partial_result_params,
+        ) = read_object(
+            alloc,
+            value,
+            (
+                Required("textDocument"),
+                Optional("identifier"),
+                Optional("previousResultId"),
+                Flat,
+                Flat,
+            ),
+        )?;
         Ok(DocumentDiagnosticParams {
-            text_document: object.field("textDocument")?,
-            identifier: object.optional("identifier")?,
-            previous_result_id: object.optional("previousResultId")?,
-            work_done_progress_params: flat(alloc, value)?,
-            partial_result_params: flat(alloc, value)?,
+            text_document,
+            identifier,
+            previous_result_id,
+            work_done_progress_params,
+            partial_result_params,
         })
     }
 
@@ -273,10 +290,14 @@ impl Wire for RelatedFullDocumentDiagnosticReport {
         alloc: Global,
         value: &Value,
     ) -> Result<RelatedFullDocumentDiagnosticReport, Misfit> {
-        let object = Reader::new(alloc, value)?;
+        let (related_documents, full_document_diagnostic_report) = read_object(
+            alloc,
+            value,
+            (Optional("relatedDocuments"), Flat),
+        )?;
         Ok(RelatedFullDocumentDiagnosticReport {
-            related_documents: object.optional("relatedDocuments")?,
-            full_document_diagnostic_report: flat(alloc, value)?,
+            related_documents,
+            full_document_diagnostic_report,
         })
     }
 
@@ -309,10 +330,14 @@ impl Wire for RelatedUnchangedDocumentDiagnosticReport {
         alloc: Global,
         value: &Value,
     ) -> Result<RelatedUnchangedDocumentDiagnosticReport, Misfit> {
-        let object = Reader::new(alloc, value)?;
+        let (related_documents, unchanged_document_diagnostic_report) = read_object(
+            alloc,
+            value,
+            (Optional("relatedDocuments"), Flat),
+        )?;
         Ok(RelatedUnchangedDocumentDiagnosticReport {
-            related_documents: object.optional("relatedDocuments")?,
-            unchanged_document_diagnostic_report: flat(alloc, value)?,
+            related_documents,
+            unchanged_document_diagnostic_report,
         })
     }
 
@@ -354,11 +379,12 @@ impl Wire for FullDocumentDiagnosticReport {
     ghost shown = { full_document_diagnostic_report_row.shown };
 
     fn from_value(alloc: Global, value: &Value) -> Result<FullDocumentDiagnosticReport, Misfit> {
-        let object = Reader::new(alloc, value)?;
-        Ok(FullDocumentDiagnosticReport {
-            result_id: object.optional("resultId")?,
-            items: object.field("items")?,
-        })
+        let (result_id, items) = read_object(
+            alloc,
+            value,
+            (Optional("resultId"), Required("items")),
+        )?;
+        Ok(FullDocumentDiagnosticReport { result_id, items })
     }
 
     fn to_value(&self, alloc: Global) -> Result<Value, NoMemory> {
@@ -389,10 +415,8 @@ impl Wire for UnchangedDocumentDiagnosticReport {
         alloc: Global,
         value: &Value,
     ) -> Result<UnchangedDocumentDiagnosticReport, Misfit> {
-        let object = Reader::new(alloc, value)?;
-        Ok(UnchangedDocumentDiagnosticReport {
-            result_id: object.field("resultId")?,
-        })
+        let result_id = read_object(alloc, value, Required("resultId"))?;
+        Ok(UnchangedDocumentDiagnosticReport { result_id })
     }
 
     fn to_value(&self, alloc: Global) -> Result<Value, NoMemory> {
@@ -420,10 +444,8 @@ impl Wire for DocumentDiagnosticReportPartialResult {
         alloc: Global,
         value: &Value,
     ) -> Result<DocumentDiagnosticReportPartialResult, Misfit> {
-        let object = Reader::new(alloc, value)?;
-        Ok(DocumentDiagnosticReportPartialResult {
-            related_documents: object.optional("relatedDocuments")?,
-        })
+        let related_documents = read_object(alloc, value, Optional("relatedDocuments"))?;
+        Ok(DocumentDiagnosticReportPartialResult { related_documents })
     }
 
     fn to_value(&self, alloc: Global) -> Result<Value, NoMemory> {

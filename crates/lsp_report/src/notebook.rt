@@ -6,7 +6,7 @@ use lsp_base::{
     LSPObject, TextDocumentContentChangeEvent, TextDocumentIdentifier, TextDocumentItem,
     VersionedTextDocumentIdentifier,
 };
-use lsp_shape::{Copies, Misfit, NoMemory, Reader, Wire, Writer};
+use lsp_shape::{Copies, Misfit, NoMemory, Optional, Required, Wire, Writer, read_object};
 use lsp_uri::Uri;
 use serde_json::Value;
 use std::alloc::{AllocError, Global};
@@ -34,13 +34,23 @@ impl Wire for NotebookDocument {
     ghost shown = { notebook_document_row.shown };
 
     fn from_value(alloc: Global, value: &Value) -> Result<NotebookDocument, Misfit> {
-        let object = Reader::new(alloc, value)?;
+        let (uri, notebook_type, version, metadata, cells) = read_object(
+            alloc,
+            value,
+            (
+                Required("uri"),
+                Required("notebookType"),
+                Required("version"),
+                Optional("metadata"),
+                Required("cells"),
+            ),
+        )?;
         Ok(NotebookDocument {
-            uri: object.field("uri")?,
-            notebook_type: object.field("notebookType")?,
-            version: object.field("version")?,
-            metadata: object.optional("metadata")?,
-            cells: object.field("cells")?,
+            uri,
+            notebook_type,
+            version,
+            metadata,
+            cells,
         })
     }
 
@@ -95,12 +105,21 @@ impl Wire for NotebookCell {
     ghost shown = { notebook_cell_row.shown };
 
     fn from_value(alloc: Global, value: &Value) -> Result<NotebookCell, Misfit> {
-        let object = Reader::new(alloc, value)?;
+        let (kind, document, metadata, execution_summary) = read_object(
+            alloc,
+            value,
+            (
+                Required("kind"),
+                Required("document"),
+                Optional("metadata"),
+                Optional("executionSummary"),
+            ),
+        )?;
         Ok(NotebookCell {
-            kind: object.field("kind")?,
-            document: object.field("document")?,
-            metadata: object.optional("metadata")?,
-            execution_summary: object.optional("executionSummary")?,
+            kind,
+            document,
+            metadata,
+            execution_summary,
         })
     }
 
@@ -132,10 +151,14 @@ impl Wire for ExecutionSummary {
     ghost shown = { execution_summary_row.shown };
 
     fn from_value(alloc: Global, value: &Value) -> Result<ExecutionSummary, Misfit> {
-        let object = Reader::new(alloc, value)?;
+        let (execution_order, success) = read_object(
+            alloc,
+            value,
+            (Required("executionOrder"), Optional("success")),
+        )?;
         Ok(ExecutionSummary {
-            execution_order: object.field("executionOrder")?,
-            success: object.optional("success")?,
+            execution_order,
+            success,
         })
     }
 
@@ -164,10 +187,14 @@ impl Wire for DidOpenNotebookDocumentParams {
     ghost shown = { did_open_notebook_document_params_row.shown };
 
     fn from_value(alloc: Global, value: &Value) -> Result<DidOpenNotebookDocumentParams, Misfit> {
-        let object = Reader::new(alloc, value)?;
+        let (notebook_document, cell_text_documents) = read_object(
+            alloc,
+            value,
+            (Required("notebookDocument"), Required("cellTextDocuments")),
+        )?;
         Ok(DidOpenNotebookDocumentParams {
-            notebook_document: object.field("notebookDocument")?,
-            cell_text_documents: object.field("cellTextDocuments")?,
+            notebook_document,
+            cell_text_documents,
         })
     }
 
@@ -196,10 +223,14 @@ impl Wire for DidChangeNotebookDocumentParams {
     ghost shown = { did_change_notebook_document_params_row.shown };
 
     fn from_value(alloc: Global, value: &Value) -> Result<DidChangeNotebookDocumentParams, Misfit> {
-        let object = Reader::new(alloc, value)?;
+        let (notebook_document, change) = read_object(
+            alloc,
+            value,
+            (Required("notebookDocument"), Required("change")),
+        )?;
         Ok(DidChangeNotebookDocumentParams {
-            notebook_document: object.field("notebookDocument")?,
-            change: object.field("change")?,
+            notebook_document,
+            change,
         })
     }
 
@@ -231,11 +262,8 @@ impl Wire for VersionedNotebookDocumentIdentifier {
         alloc: Global,
         value: &Value,
     ) -> Result<VersionedNotebookDocumentIdentifier, Misfit> {
-        let object = Reader::new(alloc, value)?;
-        Ok(VersionedNotebookDocumentIdentifier {
-            version: object.field("version")?,
-            uri: object.field("uri")?,
-        })
+        let (version, uri) = read_object(alloc, value, (Required("version"), Required("uri")))?;
+        Ok(VersionedNotebookDocumentIdentifier { version, uri })
     }
 
     fn to_value(&self, alloc: Global) -> Result<Value, NoMemory> {
@@ -262,11 +290,12 @@ impl Wire for NotebookDocumentChangeEvent {
     ghost shown = { notebook_document_change_event_row.shown };
 
     fn from_value(alloc: Global, value: &Value) -> Result<NotebookDocumentChangeEvent, Misfit> {
-        let object = Reader::new(alloc, value)?;
-        Ok(NotebookDocumentChangeEvent {
-            metadata: object.optional("metadata")?,
-            cells: object.optional("cells")?,
-        })
+        let (metadata, cells) = read_object(
+            alloc,
+            value,
+            (Optional("metadata"), Optional("cells")),
+        )?;
+        Ok(NotebookDocumentChangeEvent { metadata, cells })
     }
 
     fn to_value(&self, alloc: Global) -> Result<Value, NoMemory> {
@@ -297,11 +326,19 @@ impl Wire for NotebookDocumentCellChange {
     ghost shown = { notebook_document_cell_change_row.shown };
 
     fn from_value(alloc: Global, value: &Value) -> Result<NotebookDocumentCellChange, Misfit> {
-        let object = Reader::new(alloc, value)?;
+        let (structure, payload, text_content) = read_object(
+            alloc,
+            value,
+            (
+                Optional("structure"),
+                Optional("data"),
+                Optional("textContent"),
+            ),
+        )?;
         Ok(NotebookDocumentCellChange {
-            structure: object.optional("structure")?,
-            payload: object.optional("data")?,
-            text_content: object.optional("textContent")?,
+            structure,
+            payload,
+            text_content,
         })
     }
 
@@ -334,11 +371,12 @@ impl Wire for NotebookDocumentChangeTextContent {
         alloc: Global,
         value: &Value,
     ) -> Result<NotebookDocumentChangeTextContent, Misfit> {
-        let object = Reader::new(alloc, value)?;
-        Ok(NotebookDocumentChangeTextContent {
-            document: object.field("document")?,
-            changes: object.field("changes")?,
-        })
+        let (document, changes) = read_object(
+            alloc,
+            value,
+            (Required("document"), Required("changes")),
+        )?;
+        Ok(NotebookDocumentChangeTextContent { document, changes })
     }
 
     fn to_value(&self, alloc: Global) -> Result<Value, NoMemory> {
@@ -371,11 +409,15 @@ impl Wire for NotebookDocumentCellChangeStructure {
         alloc: Global,
         value: &Value,
     ) -> Result<NotebookDocumentCellChangeStructure, Misfit> {
-        let object = Reader::new(alloc, value)?;
+        let (array, did_open, did_close) = read_object(
+            alloc,
+            value,
+            (Required("array"), Optional("didOpen"), Optional("didClose")),
+        )?;
         Ok(NotebookDocumentCellChangeStructure {
-            array: object.field("array")?,
-            did_open: object.optional("didOpen")?,
-            did_close: object.optional("didClose")?,
+            array,
+            did_open,
+            did_close,
         })
     }
 
@@ -407,11 +449,19 @@ impl Wire for NotebookCellArrayChange {
     ghost shown = { notebook_cell_array_change_row.shown };
 
     fn from_value(alloc: Global, value: &Value) -> Result<NotebookCellArrayChange, Misfit> {
-        let object = Reader::new(alloc, value)?;
+        let (start, delete_count, cells) = read_object(
+            alloc,
+            value,
+            (
+                Required("start"),
+                Required("deleteCount"),
+                Optional("cells"),
+            ),
+        )?;
         Ok(NotebookCellArrayChange {
-            start: object.field("start")?,
-            delete_count: object.field("deleteCount")?,
-            cells: object.optional("cells")?,
+            start,
+            delete_count,
+            cells,
         })
     }
 
@@ -439,10 +489,8 @@ impl Wire for DidSaveNotebookDocumentParams {
     ghost shown = { did_save_notebook_document_params_row.shown };
 
     fn from_value(alloc: Global, value: &Value) -> Result<DidSaveNotebookDocumentParams, Misfit> {
-        let object = Reader::new(alloc, value)?;
-        Ok(DidSaveNotebookDocumentParams {
-            notebook_document: object.field("notebookDocument")?,
-        })
+        let notebook_document = read_object(alloc, value, Required("notebookDocument"))?;
+        Ok(DidSaveNotebookDocumentParams { notebook_document })
     }
 
     fn to_value(&self, alloc: Global) -> Result<Value, NoMemory> {
@@ -466,10 +514,8 @@ impl Wire for NotebookDocumentIdentifier {
     ghost shown = { notebook_document_identifier_row.shown };
 
     fn from_value(alloc: Global, value: &Value) -> Result<NotebookDocumentIdentifier, Misfit> {
-        let object = Reader::new(alloc, value)?;
-        Ok(NotebookDocumentIdentifier {
-            uri: object.field("uri")?,
-        })
+        let uri = read_object(alloc, value, Required("uri"))?;
+        Ok(NotebookDocumentIdentifier { uri })
     }
 
     fn to_value(&self, alloc: Global) -> Result<Value, NoMemory> {
@@ -496,10 +542,14 @@ impl Wire for DidCloseNotebookDocumentParams {
     ghost shown = { did_close_notebook_document_params_row.shown };
 
     fn from_value(alloc: Global, value: &Value) -> Result<DidCloseNotebookDocumentParams, Misfit> {
-        let object = Reader::new(alloc, value)?;
+        let (notebook_document, cell_text_documents) = read_object(
+            alloc,
+            value,
+            (Required("notebookDocument"), Required("cellTextDocuments")),
+        )?;
         Ok(DidCloseNotebookDocumentParams {
-            notebook_document: object.field("notebookDocument")?,
-            cell_text_documents: object.field("cellTextDocuments")?,
+            notebook_document,
+            cell_text_documents,
         })
     }
 

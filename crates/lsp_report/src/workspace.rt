@@ -7,7 +7,8 @@ ghost use Rattle.lsp_report.specs.declared.workspace.WorkspaceDocumentDiagnostic
 use crate::document::{FullDocumentDiagnosticReport, UnchangedDocumentDiagnosticReport};
 use lsp_base::{PartialResultParams, WorkDoneProgressParams};
 use lsp_shape::{
-    Misfit, NoMemory, Reader, Wanted, Wire, Writer, attempt, flat, form, put_tag, tag,
+    Flat, Misfit, NoMemory, Optional, Required, Wanted, Wire, Writer, attempt, flat, form, put_tag,
+    read_object, tag,
 };
 use lsp_uri::Uri;
 use serde_json::Value;
@@ -38,12 +39,22 @@ impl Wire for WorkspaceDiagnosticParams {
     ghost shown = { workspace_diagnostic_params_row.shown };
 
     fn from_value(alloc: Global, value: &Value) -> Result<WorkspaceDiagnosticParams, Misfit> {
-        let object = Reader::new(alloc, value)?;
+        let (identifier, previous_result_ids, work_done_progress_params, partial_result_params) =
+            read_object(
+                alloc,
+                value,
+                (
+                    Optional("identifier"),
+                    Required("previousResultIds"),
+                    Flat,
+                    Flat,
+                ),
+            )?;
         Ok(WorkspaceDiagnosticParams {
-            identifier: object.optional("identifier")?,
-            previous_result_ids: object.field("previousResultIds")?,
-            work_done_progress_params: flat(alloc, value)?,
-            partial_result_params: flat(alloc, value)?,
+            identifier,
+            previous_result_ids,
+            work_done_progress_params,
+            partial_result_params,
         })
     }
 
@@ -74,11 +85,8 @@ impl Wire for PreviousResultId {
     ghost shown = { previous_result_id_row.shown };
 
     fn from_value(alloc: Global, value: &Value) -> Result<PreviousResultId, Misfit> {
-        let object = Reader::new(alloc, value)?;
-        Ok(PreviousResultId {
-            uri: object.field("uri")?,
-            value: object.field("value")?,
-        })
+        let (uri, value) = read_object(alloc, value, (Required("uri"), Required("value")))?;
+        Ok(PreviousResultId { uri, value })
     }
 
     fn to_value(&self, alloc: Global) -> Result<Value, NoMemory> {
@@ -162,10 +170,8 @@ impl Wire for WorkspaceDiagnosticReport {
     ghost shown = { workspace_diagnostic_report_row.shown };
 
     fn from_value(alloc: Global, value: &Value) -> Result<WorkspaceDiagnosticReport, Misfit> {
-        let object = Reader::new(alloc, value)?;
-        Ok(WorkspaceDiagnosticReport {
-            items: object.field("items")?,
-        })
+        let items = read_object(alloc, value, Required("items"))?;
+        Ok(WorkspaceDiagnosticReport { items })
     }
 
     fn to_value(&self, alloc: Global) -> Result<Value, NoMemory> {
@@ -259,11 +265,15 @@ impl Wire for WorkspaceFullDocumentDiagnosticReport {
         alloc: Global,
         value: &Value,
     ) -> Result<WorkspaceFullDocumentDiagnosticReport, Misfit> {
-        let object = Reader::new(alloc, value)?;
+        let (uri, version, full_document_diagnostic_report) = read_object(
+            alloc,
+            value,
+            (Required("uri"), Optional("version"), Flat),
+        )?;
         Ok(WorkspaceFullDocumentDiagnosticReport {
-            uri: object.field("uri")?,
-            version: object.optional("version")?,
-            full_document_diagnostic_report: flat(alloc, value)?,
+            uri,
+            version,
+            full_document_diagnostic_report,
         })
     }
 
@@ -299,11 +309,15 @@ impl Wire for WorkspaceUnchangedDocumentDiagnosticReport {
         alloc: Global,
         value: &Value,
     ) -> Result<WorkspaceUnchangedDocumentDiagnosticReport, Misfit> {
-        let object = Reader::new(alloc, value)?;
+        let (uri, version, unchanged_document_diagnostic_report) = read_object(
+            alloc,
+            value,
+            (Required("uri"), Optional("version"), Flat),
+        )?;
         Ok(WorkspaceUnchangedDocumentDiagnosticReport {
-            uri: object.field("uri")?,
-            version: object.optional("version")?,
-            unchanged_document_diagnostic_report: flat(alloc, value)?,
+            uri,
+            version,
+            unchanged_document_diagnostic_report,
         })
     }
 
@@ -345,10 +359,8 @@ impl Wire for WorkspaceDiagnosticReportPartialResult {
         alloc: Global,
         value: &Value,
     ) -> Result<WorkspaceDiagnosticReportPartialResult, Misfit> {
-        let object = Reader::new(alloc, value)?;
-        Ok(WorkspaceDiagnosticReportPartialResult {
-            items: object.field("items")?,
-        })
+        let items = read_object(alloc, value, Required("items"))?;
+        Ok(WorkspaceDiagnosticReportPartialResult { items })
     }
 
     fn to_value(&self, alloc: Global) -> Result<Value, NoMemory> {

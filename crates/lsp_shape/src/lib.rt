@@ -7,6 +7,7 @@ mod law;
 mod map;
 mod member;
 mod object;
+mod reading;
 mod std_types;
 mod text;
 mod tokens;
@@ -24,6 +25,7 @@ pub use member::{
 };
 pub use no_memory::NoMemory;
 pub use object::{Reader, WideReader, Writer};
+pub use reading::{Flat, Optional, Reads, Required, Supported, TruthOrFalse, read_object};
 pub use text::{TextMisfit, read_text, write_text};
 pub use tokens::TokenNumbers;
 pub use unfit::{Step, Unfit, why_unfit};

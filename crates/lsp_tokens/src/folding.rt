@@ -3,7 +3,7 @@ ghost use Rattle.lsp_tokens.specs.Folding.{folding_range_params_row, folding_ran
 
 use lsp_base::{PartialResultParams, TextDocumentIdentifier, WorkDoneProgressParams};
 use lsp_names::FoldingRangeKind;
-use lsp_shape::{Misfit, NoMemory, Reader, Wire, Writer, flat};
+use lsp_shape::{Flat, Misfit, NoMemory, Optional, Required, Wire, Writer, flat, read_object};
 use serde_json::Value;
 use std::alloc::Global;
 
@@ -28,11 +28,15 @@ impl Wire for FoldingRangeParams {
     ghost shown = { folding_range_params_row.shown };
 
     fn from_value(alloc: Global, value: &Value) -> Result<FoldingRangeParams, Misfit> {
-        let object = Reader::new(alloc, value)?;
+        let (text_document, work_done_progress_params, partial_result_params) = read_object(
+            alloc,
+            value,
+            (Required("textDocument"), Flat, Flat),
+        )?;
         Ok(FoldingRangeParams {
-            text_document: object.field("textDocument")?,
-            work_done_progress_params: flat(alloc, value)?,
-            partial_result_params: flat(alloc, value)?,
+            text_document,
+            work_done_progress_params,
+            partial_result_params,
         })
     }
 
@@ -74,14 +78,26 @@ impl Wire for FoldingRange {
     ghost shown = { folding_range_row.shown };
 
     fn from_value(alloc: Global, value: &Value) -> Result<FoldingRange, Misfit> {
-        let object = Reader::new(alloc, value)?;
+        let (start_line, start_character, end_line, end_character, kind, collapsed_text) =
+            read_object(
+                alloc,
+                value,
+                (
+                    Required("startLine"),
+                    Optional("startCharacter"),
+                    Required("endLine"),
+                    Optional("endCharacter"),
+                    Optional("kind"),
+                    Optional("collapsedText"),
+                ),
+            )?;
         Ok(FoldingRange {
-            start_line: object.field("startLine")?,
-            start_character: object.optional("startCharacter")?,
-            end_line: object.field("endLine")?,
-            end_character: object.optional("endCharacter")?,
-            kind: object.optional("kind")?,
-            collapsed_text: object.optional("collapsedText")?,
+            start_line,
+            start_character,
+            end_line,
+            end_character,
+            kind,
+            collapsed_text,
         })
     }
 

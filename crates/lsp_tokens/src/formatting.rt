@@ -3,7 +3,9 @@ ghost use Rattle.std.specs.Prelude.{◌≡◌, None, [], false};
 ghost use Rattle.lsp_tokens.specs.Formatting.{document_formatting_params_row, formatting_options_row, formatting_property_row, document_range_formatting_params_row, document_on_type_formatting_params_row};
 
 use lsp_base::{Range, TextDocumentIdentifier, TextDocumentPositionParams, WorkDoneProgressParams};
-use lsp_shape::{Misfit, NoMemory, Reader, Wire, Writer, attempt, flat, form};
+use lsp_shape::{
+    Flat, Misfit, NoMemory, Reader, Required, Wire, Writer, attempt, flat, form, read_object,
+};
 use serde_json::Value;
 use std::alloc::Global;
 use std::collections::HashMap;
@@ -28,11 +30,15 @@ impl Wire for DocumentFormattingParams {
     ghost shown = { document_formatting_params_row.shown };
 
     fn from_value(alloc: Global, value: &Value) -> Result<DocumentFormattingParams, Misfit> {
-        let object = Reader::new(alloc, value)?;
+        let (text_document, options, work_done_progress_params) = read_object(
+            alloc,
+            value,
+            (Required("textDocument"), Required("options"), Flat),
+        )?;
         Ok(DocumentFormattingParams {
-            text_document: object.field("textDocument")?,
-            options: object.field("options")?,
-            work_done_progress_params: flat(alloc, value)?,
+            text_document,
+            options,
+            work_done_progress_params,
         })
     }
 
@@ -180,12 +186,21 @@ impl Wire for DocumentRangeFormattingParams {
     ghost shown = { document_range_formatting_params_row.shown };
 
     fn from_value(alloc: Global, value: &Value) -> Result<DocumentRangeFormattingParams, Misfit> {
-        let object = Reader::new(alloc, value)?;
+        let (text_document, range, options, work_done_progress_params) = read_object(
+            alloc,
+            value,
+            (
+                Required("textDocument"),
+                Required("range"),
+                Required("options"),
+                Flat,
+            ),
+        )?;
         Ok(DocumentRangeFormattingParams {
-            text_document: object.field("textDocument")?,
-            range: object.field("range")?,
-            options: object.field("options")?,
-            work_done_progress_params: flat(alloc, value)?,
+            text_document,
+            range,
+            options,
+            work_done_progress_params,
         })
     }
 
@@ -221,11 +236,15 @@ impl Wire for DocumentOnTypeFormattingParams {
     ghost shown = { document_on_type_formatting_params_row.shown };
 
     fn from_value(alloc: Global, value: &Value) -> Result<DocumentOnTypeFormattingParams, Misfit> {
-        let object = Reader::new(alloc, value)?;
+        let (text_document_position, ch, options) = read_object(
+            alloc,
+            value,
+            (Flat, Required("ch"), Required("options")),
+        )?;
         Ok(DocumentOnTypeFormattingParams {
-            text_document_position: flat(alloc, value)?,
-            ch: object.field("ch")?,
-            options: object.field("options")?,
+            text_document_position,
+            ch,
+            options,
         })
     }
 

@@ -2,7 +2,7 @@
 ghost use Rattle.lsp_tokens.specs.Moniker.{moniker_params_row, moniker_row, uniqueness_level_row, moniker_kind_row};
 
 use lsp_base::{PartialResultParams, TextDocumentPositionParams, WorkDoneProgressParams};
-use lsp_shape::{Misfit, NoMemory, Reader, Wanted, Wire, Writer, flat};
+use lsp_shape::{Misfit, NoMemory, Optional, Required, Wanted, Wire, Writer, flat, read_object};
 use serde_json::Value;
 use std::alloc::Global;
 
@@ -66,12 +66,21 @@ impl Wire for Moniker {
     ghost shown = { moniker_row.shown };
 
     fn from_value(alloc: Global, value: &Value) -> Result<Moniker, Misfit> {
-        let object = Reader::new(alloc, value)?;
+        let (scheme, identifier, unique, kind) = read_object(
+            alloc,
+            value,
+            (
+                Required("scheme"),
+                Required("identifier"),
+                Required("unique"),
+                Optional("kind"),
+            ),
+        )?;
         Ok(Moniker {
-            scheme: object.field("scheme")?,
-            identifier: object.field("identifier")?,
-            unique: object.field("unique")?,
-            kind: object.optional("kind")?,
+            scheme,
+            identifier,
+            unique,
+            kind,
         })
     }
 

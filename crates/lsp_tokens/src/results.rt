@@ -7,7 +7,9 @@ ghost use Rattle.lsp_tokens.specs.declared.results.SemanticTokensResult.TheVaria
 
 use crate::tokens::{SemanticTokens, SemanticTokensEdit, SemanticTokensPartialResult};
 use lsp_base::{PartialResultParams, Range, TextDocumentIdentifier, WorkDoneProgressParams};
-use lsp_shape::{Misfit, NoMemory, Reader, Wire, Writer, attempt, flat, form};
+use lsp_shape::{
+    Flat, Misfit, NoMemory, Optional, Required, Wire, Writer, attempt, flat, form, read_object,
+};
 use serde_json::Value;
 use std::alloc::Global;
 
@@ -33,11 +35,15 @@ impl Wire for SemanticTokensParams {
     ghost shown = { semantic_tokens_params_row.shown };
 
     fn from_value(alloc: Global, value: &Value) -> Result<SemanticTokensParams, Misfit> {
-        let object = Reader::new(alloc, value)?;
+        let (work_done_progress_params, partial_result_params, text_document) = read_object(
+            alloc,
+            value,
+            (Flat, Flat, Required("textDocument")),
+        )?;
         Ok(SemanticTokensParams {
-            work_done_progress_params: flat(alloc, value)?,
-            partial_result_params: flat(alloc, value)?,
-            text_document: object.field("textDocument")?,
+            work_done_progress_params,
+            partial_result_params,
+            text_document,
         })
     }
 
@@ -75,12 +81,22 @@ impl Wire for SemanticTokensDeltaParams {
     ghost shown = { semantic_tokens_delta_params_row.shown };
 
     fn from_value(alloc: Global, value: &Value) -> Result<SemanticTokensDeltaParams, Misfit> {
-        let object = Reader::new(alloc, value)?;
+        let (work_done_progress_params, partial_result_params, text_document, previous_result_id) =
+            read_object(
+                alloc,
+                value,
+                (
+                    Flat,
+                    Flat,
+                    Required("textDocument"),
+                    Required("previousResultId"),
+                ),
+            )?;
         Ok(SemanticTokensDeltaParams {
-            work_done_progress_params: flat(alloc, value)?,
-            partial_result_params: flat(alloc, value)?,
-            text_document: object.field("textDocument")?,
-            previous_result_id: object.field("previousResultId")?,
+            work_done_progress_params,
+            partial_result_params,
+            text_document,
+            previous_result_id,
         })
     }
 
@@ -118,12 +134,16 @@ impl Wire for SemanticTokensRangeParams {
     ghost shown = { semantic_tokens_range_params_row.shown };
 
     fn from_value(alloc: Global, value: &Value) -> Result<SemanticTokensRangeParams, Misfit> {
-        let object = Reader::new(alloc, value)?;
+        let (work_done_progress_params, partial_result_params, text_document, range) = read_object(
+            alloc,
+            value,
+            (Flat, Flat, Required("textDocument"), Required("range")),
+        )?;
         Ok(SemanticTokensRangeParams {
-            work_done_progress_params: flat(alloc, value)?,
-            partial_result_params: flat(alloc, value)?,
-            text_document: object.field("textDocument")?,
-            range: object.field("range")?,
+            work_done_progress_params,
+            partial_result_params,
+            text_document,
+            range,
         })
     }
 
@@ -217,10 +237,8 @@ impl Wire for SemanticTokensFullDeltaResultPartialTokensDelta {
         alloc: Global,
         value: &Value,
     ) -> Result<SemanticTokensFullDeltaResultPartialTokensDelta, Misfit> {
-        let object = Reader::new(alloc, value)?;
-        Ok(SemanticTokensFullDeltaResultPartialTokensDelta {
-            edits: object.field("edits")?,
-        })
+        let edits = read_object(alloc, value, Required("edits"))?;
+        Ok(SemanticTokensFullDeltaResultPartialTokensDelta { edits })
     }
 
     fn to_value(&self, alloc: Global) -> Result<Value, NoMemory> {
@@ -308,11 +326,12 @@ impl Wire for SemanticTokensDelta {
     ghost shown = { semantic_tokens_delta_row.shown };
 
     fn from_value(alloc: Global, value: &Value) -> Result<SemanticTokensDelta, Misfit> {
-        let object = Reader::new(alloc, value)?;
-        Ok(SemanticTokensDelta {
-            result_id: object.optional("resultId")?,
-            edits: object.field("edits")?,
-        })
+        let (result_id, edits) = read_object(
+            alloc,
+            value,
+            (Optional("resultId"), Required("edits")),
+        )?;
+        Ok(SemanticTokensDelta { result_id, edits })
     }
 
     fn to_value(&self, alloc: Global) -> Result<Value, NoMemory> {

@@ -5,7 +5,7 @@ use lsp_base::{
     PartialResultParams, Position, Range, TextDocumentIdentifier, TextDocumentPositionParams,
     WorkDoneProgressParams,
 };
-use lsp_shape::{Misfit, NoMemory, Reader, Wire, Writer, flat};
+use lsp_shape::{Flat, Misfit, NoMemory, Optional, Required, Wire, Writer, flat, read_object};
 use serde_json::Value;
 use std::alloc::Global;
 
@@ -33,12 +33,17 @@ impl Wire for SelectionRangeParams {
     ghost shown = { selection_range_params_row.shown };
 
     fn from_value(alloc: Global, value: &Value) -> Result<SelectionRangeParams, Misfit> {
-        let object = Reader::new(alloc, value)?;
+        let (text_document, positions, work_done_progress_params, partial_result_params) =
+            read_object(
+                alloc,
+                value,
+                (Required("textDocument"), Required("positions"), Flat, Flat),
+            )?;
         Ok(SelectionRangeParams {
-            text_document: object.field("textDocument")?,
-            positions: object.field("positions")?,
-            work_done_progress_params: flat(alloc, value)?,
-            partial_result_params: flat(alloc, value)?,
+            text_document,
+            positions,
+            work_done_progress_params,
+            partial_result_params,
         })
     }
 
@@ -103,10 +108,14 @@ impl Wire for LinkedEditingRanges {
     ghost shown = { linked_editing_ranges_row.shown };
 
     fn from_value(alloc: Global, value: &Value) -> Result<LinkedEditingRanges, Misfit> {
-        let object = Reader::new(alloc, value)?;
+        let (ranges, word_pattern) = read_object(
+            alloc,
+            value,
+            (Required("ranges"), Optional("wordPattern")),
+        )?;
         Ok(LinkedEditingRanges {
-            ranges: object.field("ranges")?,
-            word_pattern: object.optional("wordPattern")?,
+            ranges,
+            word_pattern,
         })
     }
 

@@ -4,7 +4,9 @@ ghost use Rattle.lsp_tokens.specs.SignatureHelp.{signature_help_params_row, sign
 use lsp_base::{TextDocumentPositionParams, WorkDoneProgressParams};
 use lsp_kinds::SignatureHelpTriggerKind;
 use lsp_names::Documentation;
-use lsp_shape::{Misfit, NoMemory, Reader, Wire, Writer, attempt, flat, form};
+use lsp_shape::{
+    Flat, Misfit, NoMemory, Optional, Required, Wire, Writer, attempt, flat, form, read_object,
+};
 use serde_json::Value;
 use std::alloc::Global;
 
@@ -29,11 +31,15 @@ impl Wire for SignatureHelpParams {
     ghost shown = { signature_help_params_row.shown };
 
     fn from_value(alloc: Global, value: &Value) -> Result<SignatureHelpParams, Misfit> {
-        let object = Reader::new(alloc, value)?;
+        let (context, text_document_position_params, work_done_progress_params) = read_object(
+            alloc,
+            value,
+            (Optional("context"), Flat, Flat),
+        )?;
         Ok(SignatureHelpParams {
-            context: object.optional("context")?,
-            text_document_position_params: flat(alloc, value)?,
-            work_done_progress_params: flat(alloc, value)?,
+            context,
+            text_document_position_params,
+            work_done_progress_params,
         })
     }
 
@@ -69,12 +75,21 @@ impl Wire for SignatureHelpContext {
     ghost shown = { signature_help_context_row.shown };
 
     fn from_value(alloc: Global, value: &Value) -> Result<SignatureHelpContext, Misfit> {
-        let object = Reader::new(alloc, value)?;
+        let (trigger_kind, trigger_character, is_retrigger, active_signature_help) = read_object(
+            alloc,
+            value,
+            (
+                Required("triggerKind"),
+                Optional("triggerCharacter"),
+                Required("isRetrigger"),
+                Optional("activeSignatureHelp"),
+            ),
+        )?;
         Ok(SignatureHelpContext {
-            trigger_kind: object.field("triggerKind")?,
-            trigger_character: object.optional("triggerCharacter")?,
-            is_retrigger: object.field("isRetrigger")?,
-            active_signature_help: object.optional("activeSignatureHelp")?,
+            trigger_kind,
+            trigger_character,
+            is_retrigger,
+            active_signature_help,
         })
     }
 
@@ -108,11 +123,19 @@ impl Wire for SignatureHelp {
     ghost shown = { signature_help_row.shown };
 
     fn from_value(alloc: Global, value: &Value) -> Result<SignatureHelp, Misfit> {
-        let object = Reader::new(alloc, value)?;
+        let (signatures, active_signature, active_parameter) = read_object(
+            alloc,
+            value,
+            (
+                Required("signatures"),
+                Optional("activeSignature"),
+                Optional("activeParameter"),
+            ),
+        )?;
         Ok(SignatureHelp {
-            signatures: object.field("signatures")?,
-            active_signature: object.optional("activeSignature")?,
-            active_parameter: object.optional("activeParameter")?,
+            signatures,
+            active_signature,
+            active_parameter,
         })
     }
 
@@ -147,12 +170,21 @@ impl Wire for SignatureInformation {
     ghost shown = { signature_information_row.shown };
 
     fn from_value(alloc: Global, value: &Value) -> Result<SignatureInformation, Misfit> {
-        let object = Reader::new(alloc, value)?;
+        let (label, documentation, parameters, active_parameter) = read_object(
+            alloc,
+            value,
+            (
+                Required("label"),
+                Optional("documentation"),
+                Optional("parameters"),
+                Optional("activeParameter"),
+            ),
+        )?;
         Ok(SignatureInformation {
-            label: object.field("label")?,
-            documentation: object.optional("documentation")?,
-            parameters: object.optional("parameters")?,
-            active_parameter: object.optional("activeParameter")?,
+            label,
+            documentation,
+            parameters,
+            active_parameter,
         })
     }
 
@@ -183,10 +215,14 @@ impl Wire for ParameterInformation {
     ghost shown = { parameter_information_row.shown };
 
     fn from_value(alloc: Global, value: &Value) -> Result<ParameterInformation, Misfit> {
-        let object = Reader::new(alloc, value)?;
+        let (label, documentation) = read_object(
+            alloc,
+            value,
+            (Required("label"), Optional("documentation")),
+        )?;
         Ok(ParameterInformation {
-            label: object.field("label")?,
-            documentation: object.optional("documentation")?,
+            label,
+            documentation,
         })
     }
 

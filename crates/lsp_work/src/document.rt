@@ -7,7 +7,7 @@ use lsp_base::{
     VersionedTextDocumentIdentifier,
 };
 use lsp_kinds::TextDocumentSaveReason;
-use lsp_shape::{Misfit, NoMemory, Reader, Wire, Writer};
+use lsp_shape::{Misfit, NoMemory, Optional, Required, Wire, Writer, read_object};
 use lsp_uri::Uri;
 use serde_json::Value;
 use std::alloc::Global;
@@ -27,10 +27,8 @@ impl Wire for DidOpenTextDocumentParams {
     ghost shown = { did_open_text_document_params_row.shown };
 
     fn from_value(alloc: Global, value: &Value) -> Result<DidOpenTextDocumentParams, Misfit> {
-        let object = Reader::new(alloc, value)?;
-        Ok(DidOpenTextDocumentParams {
-            text_document: object.field("textDocument")?,
-        })
+        let text_document = read_object(alloc, value, Required("textDocument"))?;
+        Ok(DidOpenTextDocumentParams { text_document })
     }
 
     fn to_value(&self, alloc: Global) -> Result<Value, NoMemory> {
@@ -57,10 +55,14 @@ impl Wire for DidChangeTextDocumentParams {
     ghost shown = { did_change_text_document_params_row.shown };
 
     fn from_value(alloc: Global, value: &Value) -> Result<DidChangeTextDocumentParams, Misfit> {
-        let object = Reader::new(alloc, value)?;
+        let (text_document, content_changes) = read_object(
+            alloc,
+            value,
+            (Required("textDocument"), Required("contentChanges")),
+        )?;
         Ok(DidChangeTextDocumentParams {
-            text_document: object.field("textDocument")?,
-            content_changes: object.field("contentChanges")?,
+            text_document,
+            content_changes,
         })
     }
 
@@ -90,10 +92,14 @@ impl Wire for WillSaveTextDocumentParams {
     ghost shown = { will_save_text_document_params_row.shown };
 
     fn from_value(alloc: Global, value: &Value) -> Result<WillSaveTextDocumentParams, Misfit> {
-        let object = Reader::new(alloc, value)?;
+        let (text_document, reason) = read_object(
+            alloc,
+            value,
+            (Required("textDocument"), Required("reason")),
+        )?;
         Ok(WillSaveTextDocumentParams {
-            text_document: object.field("textDocument")?,
-            reason: object.field("reason")?,
+            text_document,
+            reason,
         })
     }
 
@@ -122,10 +128,14 @@ impl Wire for DidSaveTextDocumentParams {
     ghost shown = { did_save_text_document_params_row.shown };
 
     fn from_value(alloc: Global, value: &Value) -> Result<DidSaveTextDocumentParams, Misfit> {
-        let object = Reader::new(alloc, value)?;
+        let (text_document, text) = read_object(
+            alloc,
+            value,
+            (Required("textDocument"), Optional("text")),
+        )?;
         Ok(DidSaveTextDocumentParams {
-            text_document: object.field("textDocument")?,
-            text: object.optional("text")?,
+            text_document,
+            text,
         })
     }
 
@@ -152,10 +162,8 @@ impl Wire for DidCloseTextDocumentParams {
     ghost shown = { did_close_text_document_params_row.shown };
 
     fn from_value(alloc: Global, value: &Value) -> Result<DidCloseTextDocumentParams, Misfit> {
-        let object = Reader::new(alloc, value)?;
-        Ok(DidCloseTextDocumentParams {
-            text_document: object.field("textDocument")?,
-        })
+        let text_document = read_object(alloc, value, Required("textDocument"))?;
+        Ok(DidCloseTextDocumentParams { text_document })
     }
 
     fn to_value(&self, alloc: Global) -> Result<Value, NoMemory> {
@@ -201,11 +209,19 @@ impl Wire for PublishDiagnosticsParams {
     ghost shown = { publish_diagnostics_params_row.shown };
 
     fn from_value(alloc: Global, value: &Value) -> Result<PublishDiagnosticsParams, Misfit> {
-        let object = Reader::new(alloc, value)?;
+        let (uri, diagnostics, version) = read_object(
+            alloc,
+            value,
+            (
+                Required("uri"),
+                Required("diagnostics"),
+                Optional("version"),
+            ),
+        )?;
         Ok(PublishDiagnosticsParams {
-            uri: object.field("uri")?,
-            diagnostics: object.field("diagnostics")?,
-            version: object.optional("version")?,
+            uri,
+            diagnostics,
+            version,
         })
     }
 

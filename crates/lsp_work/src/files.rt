@@ -2,7 +2,7 @@
 ghost use Rattle.std.specs.Prelude.{◌≡◌, [], string_bytes};
 ghost use Rattle.lsp_work.specs.Files.{create_files_params_row, file_create_row, rename_files_params_row, file_rename_row, delete_files_params_row, file_delete_row};
 
-use lsp_shape::{Misfit, NoMemory, Reader, Wire, Writer};
+use lsp_shape::{Misfit, NoMemory, Required, Wire, Writer, read_object};
 use serde_json::Value;
 use std::alloc::Global;
 
@@ -34,10 +34,8 @@ impl Wire for CreateFilesParams {
     ghost shown = { create_files_params_row.shown };
 
     fn from_value(alloc: Global, value: &Value) -> Result<CreateFilesParams, Misfit> {
-        let object = Reader::new(alloc, value)?;
-        Ok(CreateFilesParams {
-            files: object.field("files")?,
-        })
+        let files = read_object(alloc, value, Required("files"))?;
+        Ok(CreateFilesParams { files })
     }
 
     fn to_value(&self, alloc: Global) -> Result<Value, NoMemory> {
@@ -74,10 +72,8 @@ impl Wire for FileCreate {
     ghost shown = { file_create_row.shown };
 
     fn from_value(alloc: Global, value: &Value) -> Result<FileCreate, Misfit> {
-        let object = Reader::new(alloc, value)?;
-        Ok(FileCreate {
-            uri: object.field("uri")?,
-        })
+        let uri = read_object(alloc, value, Required("uri"))?;
+        Ok(FileCreate { uri })
     }
 
     fn to_value(&self, alloc: Global) -> Result<Value, NoMemory> {
@@ -115,10 +111,8 @@ impl Wire for RenameFilesParams {
     ghost shown = { rename_files_params_row.shown };
 
     fn from_value(alloc: Global, value: &Value) -> Result<RenameFilesParams, Misfit> {
-        let object = Reader::new(alloc, value)?;
-        Ok(RenameFilesParams {
-            files: object.field("files")?,
-        })
+        let files = read_object(alloc, value, Required("files"))?;
+        Ok(RenameFilesParams { files })
     }
 
     fn to_value(&self, alloc: Global) -> Result<Value, NoMemory> {
@@ -159,11 +153,12 @@ impl Wire for FileRename {
     ghost shown = { file_rename_row.shown };
 
     fn from_value(alloc: Global, value: &Value) -> Result<FileRename, Misfit> {
-        let object = Reader::new(alloc, value)?;
-        Ok(FileRename {
-            old_uri: object.field("oldUri")?,
-            new_uri: object.field("newUri")?,
-        })
+        let (old_uri, new_uri) = read_object(
+            alloc,
+            value,
+            (Required("oldUri"), Required("newUri")),
+        )?;
+        Ok(FileRename { old_uri, new_uri })
     }
 
     fn to_value(&self, alloc: Global) -> Result<Value, NoMemory> {
@@ -202,10 +197,8 @@ impl Wire for DeleteFilesParams {
     ghost shown = { delete_files_params_row.shown };
 
     fn from_value(alloc: Global, value: &Value) -> Result<DeleteFilesParams, Misfit> {
-        let object = Reader::new(alloc, value)?;
-        Ok(DeleteFilesParams {
-            files: object.field("files")?,
-        })
+        let files = read_object(alloc, value, Required("files"))?;
+        Ok(DeleteFilesParams { files })
     }
 
     fn to_value(&self, alloc: Global) -> Result<Value, NoMemory> {
@@ -242,10 +235,8 @@ impl Wire for FileDelete {
     ghost shown = { file_delete_row.shown };
 
     fn from_value(alloc: Global, value: &Value) -> Result<FileDelete, Misfit> {
-        let object = Reader::new(alloc, value)?;
-        Ok(FileDelete {
-            uri: object.field("uri")?,
-        })
+        let uri = read_object(alloc, value, Required("uri"))?;
+        Ok(FileDelete { uri })
     }
 
     fn to_value(&self, alloc: Global) -> Result<Value, NoMemory> {

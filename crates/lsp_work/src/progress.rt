@@ -3,7 +3,9 @@ ghost use Rattle.std.specs.Prelude.{◌≡◌, None, [], string_bytes};
 ghost use Rattle.lsp_work.specs.Progress.{progress_params_row, progress_params_value_row, work_done_progress_row, work_done_progress_begin_row, work_done_progress_report_row, work_done_progress_end_row, work_done_progress_create_params_row, work_done_progress_cancel_params_row};
 
 use lsp_base::ProgressToken;
-use lsp_shape::{Misfit, NoMemory, Reader, Wanted, Wire, Writer, form, put_tag, tag};
+use lsp_shape::{
+    Misfit, NoMemory, Optional, Required, Wanted, Wire, Writer, form, put_tag, read_object, tag,
+};
 use serde_json::Value;
 use std::alloc::Global;
 
@@ -25,11 +27,8 @@ impl Wire for ProgressParams {
     ghost shown = { progress_params_row.shown };
 
     fn from_value(alloc: Global, value: &Value) -> Result<ProgressParams, Misfit> {
-        let object = Reader::new(alloc, value)?;
-        Ok(ProgressParams {
-            token: object.field("token")?,
-            value: object.field("value")?,
-        })
+        let (token, value) = read_object(alloc, value, (Required("token"), Required("value")))?;
+        Ok(ProgressParams { token, value })
     }
 
     fn to_value(&self, alloc: Global) -> Result<Value, NoMemory> {
@@ -140,12 +139,21 @@ impl Wire for WorkDoneProgressBegin {
     ghost shown = { work_done_progress_begin_row.shown };
 
     fn from_value(alloc: Global, value: &Value) -> Result<WorkDoneProgressBegin, Misfit> {
-        let object = Reader::new(alloc, value)?;
+        let (title, cancellable, message, percentage) = read_object(
+            alloc,
+            value,
+            (
+                Required("title"),
+                Optional("cancellable"),
+                Optional("message"),
+                Optional("percentage"),
+            ),
+        )?;
         Ok(WorkDoneProgressBegin {
-            title: object.field("title")?,
-            cancellable: object.optional("cancellable")?,
-            message: object.optional("message")?,
-            percentage: object.optional("percentage")?,
+            title,
+            cancellable,
+            message,
+            percentage,
         })
     }
 
@@ -178,11 +186,19 @@ impl Wire for WorkDoneProgressReport {
     ghost shown = { work_done_progress_report_row.shown };
 
     fn from_value(alloc: Global, value: &Value) -> Result<WorkDoneProgressReport, Misfit> {
-        let object = Reader::new(alloc, value)?;
+        let (cancellable, message, percentage) = read_object(
+            alloc,
+            value,
+            (
+                Optional("cancellable"),
+                Optional("message"),
+                Optional("percentage"),
+            ),
+        )?;
         Ok(WorkDoneProgressReport {
-            cancellable: object.optional("cancellable")?,
-            message: object.optional("message")?,
-            percentage: object.optional("percentage")?,
+            cancellable,
+            message,
+            percentage,
         })
     }
 
@@ -210,10 +226,8 @@ impl Wire for WorkDoneProgressEnd {
     ghost shown = { work_done_progress_end_row.shown };
 
     fn from_value(alloc: Global, value: &Value) -> Result<WorkDoneProgressEnd, Misfit> {
-        let object = Reader::new(alloc, value)?;
-        Ok(WorkDoneProgressEnd {
-            message: object.optional("message")?,
-        })
+        let message = read_object(alloc, value, Optional("message"))?;
+        Ok(WorkDoneProgressEnd { message })
     }
 
     fn to_value(&self, alloc: Global) -> Result<Value, NoMemory> {
@@ -240,10 +254,8 @@ impl Wire for WorkDoneProgressCreateParams {
     ghost shown = { work_done_progress_create_params_row.shown };
 
     fn from_value(alloc: Global, value: &Value) -> Result<WorkDoneProgressCreateParams, Misfit> {
-        let object = Reader::new(alloc, value)?;
-        Ok(WorkDoneProgressCreateParams {
-            token: object.field("token")?,
-        })
+        let token = read_object(alloc, value, Required("token"))?;
+        Ok(WorkDoneProgressCreateParams { token })
     }
 
     fn to_value(&self, alloc: Global) -> Result<Value, NoMemory> {
@@ -269,10 +281,8 @@ impl Wire for WorkDoneProgressCancelParams {
     ghost shown = { work_done_progress_cancel_params_row.shown };
 
     fn from_value(alloc: Global, value: &Value) -> Result<WorkDoneProgressCancelParams, Misfit> {
-        let object = Reader::new(alloc, value)?;
-        Ok(WorkDoneProgressCancelParams {
-            token: object.field("token")?,
-        })
+        let token = read_object(alloc, value, Required("token"))?;
+        Ok(WorkDoneProgressCancelParams { token })
     }
 
     fn to_value(&self, alloc: Global) -> Result<Value, NoMemory> {

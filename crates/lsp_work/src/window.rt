@@ -4,7 +4,9 @@ ghost use Rattle.lsp_work.specs.Window.{show_message_params_row, show_message_re
 use lsp_base::Range;
 use lsp_kinds::MessageType;
 use lsp_names::TraceValue;
-use lsp_shape::{Misfit, NoMemory, Reader, Wire, Writer, attempt, form};
+use lsp_shape::{
+    Misfit, NoMemory, Optional, Reader, Required, Wire, Writer, attempt, form, read_object,
+};
 use lsp_uri::Uri;
 use serde_json::Value;
 use std::alloc::Global;
@@ -28,11 +30,8 @@ impl Wire for ShowMessageParams {
     ghost shown = { show_message_params_row.shown };
 
     fn from_value(alloc: Global, value: &Value) -> Result<ShowMessageParams, Misfit> {
-        let object = Reader::new(alloc, value)?;
-        Ok(ShowMessageParams {
-            typ: object.field("type")?,
-            message: object.field("message")?,
-        })
+        let (typ, message) = read_object(alloc, value, (Required("type"), Required("message")))?;
+        Ok(ShowMessageParams { typ, message })
     }
 
     fn to_value(&self, alloc: Global) -> Result<Value, NoMemory> {
@@ -63,11 +62,15 @@ impl Wire for ShowMessageRequestParams {
     ghost shown = { show_message_request_params_row.shown };
 
     fn from_value(alloc: Global, value: &Value) -> Result<ShowMessageRequestParams, Misfit> {
-        let object = Reader::new(alloc, value)?;
+        let (typ, message, actions) = read_object(
+            alloc,
+            value,
+            (Required("type"), Required("message"), Optional("actions")),
+        )?;
         Ok(ShowMessageRequestParams {
-            typ: object.field("type")?,
-            message: object.field("message")?,
-            actions: object.optional("actions")?,
+            typ,
+            message,
+            actions,
         })
     }
 
@@ -173,11 +176,8 @@ impl Wire for LogMessageParams {
     ghost shown = { log_message_params_row.shown };
 
     fn from_value(alloc: Global, value: &Value) -> Result<LogMessageParams, Misfit> {
-        let object = Reader::new(alloc, value)?;
-        Ok(LogMessageParams {
-            typ: object.field("type")?,
-            message: object.field("message")?,
-        })
+        let (typ, message) = read_object(alloc, value, (Required("type"), Required("message")))?;
+        Ok(LogMessageParams { typ, message })
     }
 
     fn to_value(&self, alloc: Global) -> Result<Value, NoMemory> {
@@ -212,12 +212,21 @@ impl Wire for ShowDocumentParams {
     ghost shown = { show_document_params_row.shown };
 
     fn from_value(alloc: Global, value: &Value) -> Result<ShowDocumentParams, Misfit> {
-        let object = Reader::new(alloc, value)?;
+        let (uri, external, take_focus, selection) = read_object(
+            alloc,
+            value,
+            (
+                Required("uri"),
+                Optional("external"),
+                Optional("takeFocus"),
+                Optional("selection"),
+            ),
+        )?;
         Ok(ShowDocumentParams {
-            uri: object.field("uri")?,
-            external: object.optional("external")?,
-            take_focus: object.optional("takeFocus")?,
-            selection: object.optional("selection")?,
+            uri,
+            external,
+            take_focus,
+            selection,
         })
     }
 
@@ -245,10 +254,8 @@ impl Wire for ShowDocumentResult {
     ghost shown = { show_document_result_row.shown };
 
     fn from_value(alloc: Global, value: &Value) -> Result<ShowDocumentResult, Misfit> {
-        let object = Reader::new(alloc, value)?;
-        Ok(ShowDocumentResult {
-            success: object.field("success")?,
-        })
+        let success = read_object(alloc, value, Required("success"))?;
+        Ok(ShowDocumentResult { success })
     }
 
     fn to_value(&self, alloc: Global) -> Result<Value, NoMemory> {
@@ -273,10 +280,8 @@ impl Wire for SetTraceParams {
     ghost shown = { set_trace_params_row.shown };
 
     fn from_value(alloc: Global, value: &Value) -> Result<SetTraceParams, Misfit> {
-        let object = Reader::new(alloc, value)?;
-        Ok(SetTraceParams {
-            value: object.field("value")?,
-        })
+        let value = read_object(alloc, value, Required("value"))?;
+        Ok(SetTraceParams { value })
     }
 
     fn to_value(&self, alloc: Global) -> Result<Value, NoMemory> {
@@ -303,11 +308,12 @@ impl Wire for LogTraceParams {
     ghost shown = { log_trace_params_row.shown };
 
     fn from_value(alloc: Global, value: &Value) -> Result<LogTraceParams, Misfit> {
-        let object = Reader::new(alloc, value)?;
-        Ok(LogTraceParams {
-            message: object.field("message")?,
-            verbose: object.optional("verbose")?,
-        })
+        let (message, verbose) = read_object(
+            alloc,
+            value,
+            (Required("message"), Optional("verbose")),
+        )?;
+        Ok(LogTraceParams { message, verbose })
     }
 
     fn to_value(&self, alloc: Global) -> Result<Value, NoMemory> {

@@ -4,7 +4,7 @@ ghost use Rattle.lsp_work.specs.Workspace.{did_change_configuration_params_row, 
 
 use lsp_base::{WorkDoneProgressParams, WorkspaceEdit, WorkspaceFolder};
 use lsp_kinds::FileChangeType;
-use lsp_shape::{Misfit, NoMemory, Reader, Wire, Writer, flat};
+use lsp_shape::{Misfit, NoMemory, Optional, Reader, Required, Wire, Writer, flat, read_object};
 use lsp_uri::Uri;
 use serde_json::Value;
 use std::alloc::Global;
@@ -24,10 +24,8 @@ impl Wire for DidChangeConfigurationParams {
     ghost shown = { did_change_configuration_params_row.shown };
 
     fn from_value(alloc: Global, value: &Value) -> Result<DidChangeConfigurationParams, Misfit> {
-        let object = Reader::new(alloc, value)?;
-        Ok(DidChangeConfigurationParams {
-            settings: object.field("settings")?,
-        })
+        let settings = read_object(alloc, value, Required("settings"))?;
+        Ok(DidChangeConfigurationParams { settings })
     }
 
     fn to_value(&self, alloc: Global) -> Result<Value, NoMemory> {
@@ -65,10 +63,8 @@ impl Wire for ConfigurationParams {
     ghost shown = { configuration_params_row.shown };
 
     fn from_value(alloc: Global, value: &Value) -> Result<ConfigurationParams, Misfit> {
-        let object = Reader::new(alloc, value)?;
-        Ok(ConfigurationParams {
-            items: object.field("items")?,
-        })
+        let items = read_object(alloc, value, Required("items"))?;
+        Ok(ConfigurationParams { items })
     }
 
     fn to_value(&self, alloc: Global) -> Result<Value, NoMemory> {
@@ -95,11 +91,12 @@ impl Wire for ConfigurationItem {
     ghost shown = { configuration_item_row.shown };
 
     fn from_value(alloc: Global, value: &Value) -> Result<ConfigurationItem, Misfit> {
-        let object = Reader::new(alloc, value)?;
-        Ok(ConfigurationItem {
-            scope_uri: object.optional("scopeUri")?,
-            section: object.optional("section")?,
-        })
+        let (scope_uri, section) = read_object(
+            alloc,
+            value,
+            (Optional("scopeUri"), Optional("section")),
+        )?;
+        Ok(ConfigurationItem { scope_uri, section })
     }
 
     fn to_value(&self, alloc: Global) -> Result<Value, NoMemory> {
@@ -125,10 +122,8 @@ impl Wire for DidChangeWatchedFilesParams {
     ghost shown = { did_change_watched_files_params_row.shown };
 
     fn from_value(alloc: Global, value: &Value) -> Result<DidChangeWatchedFilesParams, Misfit> {
-        let object = Reader::new(alloc, value)?;
-        Ok(DidChangeWatchedFilesParams {
-            changes: object.field("changes")?,
-        })
+        let changes = read_object(alloc, value, Required("changes"))?;
+        Ok(DidChangeWatchedFilesParams { changes })
     }
 
     fn to_value(&self, alloc: Global) -> Result<Value, NoMemory> {
@@ -163,11 +158,8 @@ impl Wire for FileEvent {
     ghost shown = { file_event_row.shown };
 
     fn from_value(alloc: Global, value: &Value) -> Result<FileEvent, Misfit> {
-        let object = Reader::new(alloc, value)?;
-        Ok(FileEvent {
-            uri: object.field("uri")?,
-            typ: object.field("type")?,
-        })
+        let (uri, typ) = read_object(alloc, value, (Required("uri"), Required("type")))?;
+        Ok(FileEvent { uri, typ })
     }
 
     fn to_value(&self, alloc: Global) -> Result<Value, NoMemory> {
@@ -205,10 +197,8 @@ impl Wire for DidChangeWorkspaceFoldersParams {
     ghost shown = { did_change_workspace_folders_params_row.shown };
 
     fn from_value(alloc: Global, value: &Value) -> Result<DidChangeWorkspaceFoldersParams, Misfit> {
-        let object = Reader::new(alloc, value)?;
-        Ok(DidChangeWorkspaceFoldersParams {
-            event: object.field("event")?,
-        })
+        let event = read_object(alloc, value, Required("event"))?;
+        Ok(DidChangeWorkspaceFoldersParams { event })
     }
 
     fn to_value(&self, alloc: Global) -> Result<Value, NoMemory> {
@@ -248,11 +238,8 @@ impl Wire for WorkspaceFoldersChangeEvent {
     ghost shown = { workspace_folders_change_event_row.shown };
 
     fn from_value(alloc: Global, value: &Value) -> Result<WorkspaceFoldersChangeEvent, Misfit> {
-        let object = Reader::new(alloc, value)?;
-        Ok(WorkspaceFoldersChangeEvent {
-            added: object.field("added")?,
-            removed: object.field("removed")?,
-        })
+        let (added, removed) = read_object(alloc, value, (Required("added"), Required("removed")))?;
+        Ok(WorkspaceFoldersChangeEvent { added, removed })
     }
 
     fn to_value(&self, alloc: Global) -> Result<Value, NoMemory> {
@@ -334,11 +321,8 @@ impl Wire for ApplyWorkspaceEditParams {
     ghost shown = { apply_workspace_edit_params_row.shown };
 
     fn from_value(alloc: Global, value: &Value) -> Result<ApplyWorkspaceEditParams, Misfit> {
-        let object = Reader::new(alloc, value)?;
-        Ok(ApplyWorkspaceEditParams {
-            label: object.optional("label")?,
-            edit: object.field("edit")?,
-        })
+        let (label, edit) = read_object(alloc, value, (Optional("label"), Required("edit")))?;
+        Ok(ApplyWorkspaceEditParams { label, edit })
     }
 
     fn to_value(&self, alloc: Global) -> Result<Value, NoMemory> {
@@ -369,11 +353,19 @@ impl Wire for ApplyWorkspaceEditResponse {
     ghost shown = { apply_workspace_edit_response_row.shown };
 
     fn from_value(alloc: Global, value: &Value) -> Result<ApplyWorkspaceEditResponse, Misfit> {
-        let object = Reader::new(alloc, value)?;
+        let (applied, failure_reason, failed_change) = read_object(
+            alloc,
+            value,
+            (
+                Required("applied"),
+                Optional("failureReason"),
+                Optional("failedChange"),
+            ),
+        )?;
         Ok(ApplyWorkspaceEditResponse {
-            applied: object.field("applied")?,
-            failure_reason: object.optional("failureReason")?,
-            failed_change: object.optional("failedChange")?,
+            applied,
+            failure_reason,
+            failed_change,
         })
     }
 

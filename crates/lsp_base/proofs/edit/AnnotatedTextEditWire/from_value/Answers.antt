@@ -1,18 +1,10 @@
-use Rattle.std.proofs.Common.{refl, ap, inl, inr}
+use Rattle.std.proofs.Common.{refl, ap, inl}
 use Rattle.std.specs.Prelude.{Err}
-use Rattle.lsp_shape.proofs.Refusals.{passed, passed_in}
+use Rattle.lsp_shape.proofs.Refusals.{passed}
 use Rattle.lsp_base.specs.Edit.{annotated_text_edit_row}
 use Rattle.lsp_base.specs.Edit.{text_edit_row}
 use Rattle.lsp_base.proofs.edit.AnnotatedTextEditWire.from_value.Goals as goal
 
-pub returns-in_err-object-clause-unfit : goal.returns-in_err-object-clause-unfit
+pub returns-in_err-text_edit-clause-unfit : goal.returns-in_err-text_edit-clause-unfit
 unfolding annotated_text_edit_row text_edit_row
-returns-in_err-object-clause-unfit c = passed c.from_residual.result c.in_err-object.field-0.0 _ c.from_residual.ensures.1 (λ why is. c.in_err-object.ensures.unfit why (ap Err is) annotated_text_edit_row.shape refl)
-
-pub returns-in_err-flat-clause-unfit : goal.returns-in_err-flat-clause-unfit
-unfolding annotated_text_edit_row text_edit_row
-returns-in_err-flat-clause-unfit c = passed c.from_residual-in_err-flat.result c.in_err-flat.field-0.0 _ c.from_residual-in_err-flat.ensures.1 (λ why is. c.in_err-flat.ensures.unfit why (ap Err is) annotated_text_edit_row.shape (inl refl))
-
-pub returns-in_err-field-clause-unfit : goal.returns-in_err-field-clause-unfit
-unfolding annotated_text_edit_row text_edit_row
-returns-in_err-field-clause-unfit c = passed_in c.from_residual-in_err-field.result c.in_err-field.field-0.0 annotated_text_edit_row.shape c.in_ok-object.ensures.ok c.from_residual-in_err-field.ensures.1 (λ why is. c.in_err-field.ensures.unfit why (ap Err is) annotated_text_edit_row.shape refl)
+returns-in_err-text_edit-clause-unfit c = passed c.from_residual.result c.in_err-text_edit.field-0.0 _ c.from_residual.ensures.1 (λ why is. c.in_err-text_edit.ensures.unfit why (ap Err is) annotated_text_edit_row.shape refl (inl refl, refl))

@@ -1,13 +1,9 @@
-use Rattle.std.proofs.Common.{refl, ap, inl, inr}
+use Rattle.std.proofs.Common.{refl, ap}
 use Rattle.std.specs.Prelude.{Err}
-use Rattle.lsp_shape.proofs.Refusals.{passed, passed_in}
+use Rattle.lsp_shape.proofs.Refusals.{passed}
 use Rattle.lsp_base.specs.Progress.{partial_result_params_row}
 use Rattle.lsp_base.proofs.progress.PartialResultParamsWire.from_value.Goals as goal
 
-pub returns-in_err-object-clause-unfit : goal.returns-in_err-object-clause-unfit
+pub returns-in_err-partial_result_token-clause-unfit : goal.returns-in_err-partial_result_token-clause-unfit
 unfolding partial_result_params_row
-returns-in_err-object-clause-unfit c = passed c.from_residual.result c.in_err-object.field-0.0 _ c.from_residual.ensures.1 (λ why is. c.in_err-object.ensures.unfit why (ap Err is) partial_result_params_row.shape refl)
-
-pub returns-in_err-optional-clause-unfit : goal.returns-in_err-optional-clause-unfit
-unfolding partial_result_params_row
-returns-in_err-optional-clause-unfit c = passed_in c.from_residual-in_err-optional.result c.in_err-optional.field-0.0 partial_result_params_row.shape c.in_ok-object.ensures.ok c.from_residual-in_err-optional.ensures.1 (λ why is. c.in_err-optional.ensures.unfit why (ap Err is) partial_result_params_row.shape refl)
+returns-in_err-partial_result_token-clause-unfit c = passed c.from_residual.result c.in_err-partial_result_token.field-0.0 _ c.from_residual.ensures.1 (λ why is. c.in_err-partial_result_token.ensures.unfit why (ap Err is) partial_result_params_row.shape refl refl)

@@ -1,21 +1,9 @@
-use Rattle.std.proofs.Common.{refl, ap, inl, inr}
+use Rattle.std.proofs.Common.{refl, ap}
 use Rattle.std.specs.Prelude.{Err}
-use Rattle.lsp_shape.proofs.Refusals.{passed, passed_in}
+use Rattle.lsp_shape.proofs.Refusals.{passed}
 use Rattle.lsp_base.specs.Resource.{delete_file_options_row}
 use Rattle.lsp_base.proofs.resource.DeleteFileOptionsWire.from_value.Goals as goal
 
-pub returns-in_err-object-clause-unfit : goal.returns-in_err-object-clause-unfit
+pub returns-in_err-recursive-clause-unfit : goal.returns-in_err-recursive-clause-unfit
 unfolding delete_file_options_row
-returns-in_err-object-clause-unfit c = passed c.from_residual.result c.in_err-object.field-0.0 _ c.from_residual.ensures.1 (λ why is. c.in_err-object.ensures.unfit why (ap Err is) delete_file_options_row.shape refl)
-
-pub returns-in_err-optional-clause-unfit : goal.returns-in_err-optional-clause-unfit
-unfolding delete_file_options_row
-returns-in_err-optional-clause-unfit c = passed_in c.from_residual-in_err-optional.result c.in_err-optional.field-0.0 delete_file_options_row.shape c.in_ok-object.ensures.ok c.from_residual-in_err-optional.ensures.1 (λ why is. c.in_err-optional.ensures.unfit why (ap Err is) delete_file_options_row.shape refl)
-
-pub returns-in_err-optional-2-clause-unfit : goal.returns-in_err-optional-2-clause-unfit
-unfolding delete_file_options_row
-returns-in_err-optional-2-clause-unfit c = passed_in c.from_residual-in_err-optional-2.result c.in_err-optional-2.field-0.0 delete_file_options_row.shape c.in_ok-object.ensures.ok c.from_residual-in_err-optional-2.ensures.1 (λ why is. c.in_err-optional-2.ensures.unfit why (ap Err is) delete_file_options_row.shape refl)
-
-pub returns-in_err-optional-3-clause-unfit : goal.returns-in_err-optional-3-clause-unfit
-unfolding delete_file_options_row
-returns-in_err-optional-3-clause-unfit c = passed_in c.from_residual-in_err-optional-3.result c.in_err-optional-3.field-0.0 delete_file_options_row.shape c.in_ok-object.ensures.ok c.from_residual-in_err-optional-3.ensures.1 (λ why is. c.in_err-optional-3.ensures.unfit why (ap Err is) delete_file_options_row.shape refl)
+returns-in_err-recursive-clause-unfit c = passed c.from_residual.result c.in_err-recursive.field-0.0 _ c.from_residual.ensures.1 (λ why is. c.in_err-recursive.ensures.unfit why (ap Err is) delete_file_options_row.shape refl (refl, refl, refl))

@@ -1,41 +1,9 @@
-use Rattle.std.proofs.Common.{refl, ap, inl, inr}
+use Rattle.std.proofs.Common.{refl, ap}
 use Rattle.std.specs.Prelude.{Err}
-use Rattle.lsp_shape.proofs.Refusals.{passed, passed_in}
+use Rattle.lsp_shape.proofs.Refusals.{passed}
 use Rattle.lsp_lang_goto.specs.Calls.{call_hierarchy_item_row}
 use Rattle.lsp_lang_goto.proofs.calls.CallHierarchyItemWire.from_value.Goals as goal
 
-pub returns-in_err-object-clause-unfit : goal.returns-in_err-object-clause-unfit
+pub returns-in_err-name-clause-unfit : goal.returns-in_err-name-clause-unfit
 unfolding call_hierarchy_item_row
-returns-in_err-object-clause-unfit c = passed c.from_residual.result c.in_err-object.field-0.0 _ c.from_residual.ensures.1 (λ why is. c.in_err-object.ensures.unfit why (ap Err is) call_hierarchy_item_row.shape refl)
-
-pub returns-in_err-field-clause-unfit : goal.returns-in_err-field-clause-unfit
-unfolding call_hierarchy_item_row
-returns-in_err-field-clause-unfit c = passed_in c.from_residual-in_err-field.result c.in_err-field.field-0.0 call_hierarchy_item_row.shape c.in_ok-object.ensures.ok c.from_residual-in_err-field.ensures.1 (λ why is. c.in_err-field.ensures.unfit why (ap Err is) call_hierarchy_item_row.shape refl)
-
-pub returns-in_err-field-2-clause-unfit : goal.returns-in_err-field-2-clause-unfit
-unfolding call_hierarchy_item_row
-returns-in_err-field-2-clause-unfit c = passed_in c.from_residual-in_err-field-2.result c.in_err-field-2.field-0.0 call_hierarchy_item_row.shape c.in_ok-object.ensures.ok c.from_residual-in_err-field-2.ensures.1 (λ why is. c.in_err-field-2.ensures.unfit why (ap Err is) call_hierarchy_item_row.shape refl)
-
-pub returns-in_err-optional-clause-unfit : goal.returns-in_err-optional-clause-unfit
-unfolding call_hierarchy_item_row
-returns-in_err-optional-clause-unfit c = passed_in c.from_residual-in_err-optional.result c.in_err-optional.field-0.0 call_hierarchy_item_row.shape c.in_ok-object.ensures.ok c.from_residual-in_err-optional.ensures.1 (λ why is. c.in_err-optional.ensures.unfit why (ap Err is) call_hierarchy_item_row.shape refl)
-
-pub returns-in_err-optional-2-clause-unfit : goal.returns-in_err-optional-2-clause-unfit
-unfolding call_hierarchy_item_row
-returns-in_err-optional-2-clause-unfit c = passed_in c.from_residual-in_err-optional-2.result c.in_err-optional-2.field-0.0 call_hierarchy_item_row.shape c.in_ok-object.ensures.ok c.from_residual-in_err-optional-2.ensures.1 (λ why is. c.in_err-optional-2.ensures.unfit why (ap Err is) call_hierarchy_item_row.shape refl)
-
-pub returns-in_err-field-3-clause-unfit : goal.returns-in_err-field-3-clause-unfit
-unfolding call_hierarchy_item_row
-returns-in_err-field-3-clause-unfit c = passed_in c.from_residual-in_err-field-3.result c.in_err-field-3.field-0.0 call_hierarchy_item_row.shape c.in_ok-object.ensures.ok c.from_residual-in_err-field-3.ensures.1 (λ why is. c.in_err-field-3.ensures.unfit why (ap Err is) call_hierarchy_item_row.shape refl)
-
-pub returns-in_err-field-4-clause-unfit : goal.returns-in_err-field-4-clause-unfit
-unfolding call_hierarchy_item_row
-returns-in_err-field-4-clause-unfit c = passed_in c.from_residual-in_err-field-4.result c.in_err-field-4.field-0.0 call_hierarchy_item_row.shape c.in_ok-object.ensures.ok c.from_residual-in_err-field-4.ensures.1 (λ why is. c.in_err-field-4.ensures.unfit why (ap Err is) call_hierarchy_item_row.shape refl)
-
-pub returns-in_err-field-5-clause-unfit : goal.returns-in_err-field-5-clause-unfit
-unfolding call_hierarchy_item_row
-returns-in_err-field-5-clause-unfit c = passed_in c.from_residual-in_err-field-5.result c.in_err-field-5.field-0.0 call_hierarchy_item_row.shape c.in_ok-object.ensures.ok c.from_residual-in_err-field-5.ensures.1 (λ why is. c.in_err-field-5.ensures.unfit why (ap Err is) call_hierarchy_item_row.shape refl)
-
-pub returns-in_err-optional-3-clause-unfit : goal.returns-in_err-optional-3-clause-unfit
-unfolding call_hierarchy_item_row
-returns-in_err-optional-3-clause-unfit c = passed_in c.from_residual-in_err-optional-3.result c.in_err-optional-3.field-0.0 call_hierarchy_item_row.shape c.in_ok-object.ensures.ok c.from_residual-in_err-optional-3.ensures.1 (λ why is. c.in_err-optional-3.ensures.unfit why (ap Err is) call_hierarchy_item_row.shape refl)
+returns-in_err-name-clause-unfit c = passed c.from_residual.result c.in_err-name.field-0.0 _ c.from_residual.ensures.1 (λ why is. c.in_err-name.ensures.unfit why (ap Err is) call_hierarchy_item_row.shape refl ((refl, refl, refl, refl), (refl, refl, refl, refl)))

@@ -1,22 +1,10 @@
-use Rattle.std.proofs.Common.{refl, ap, inl, inr}
+use Rattle.std.proofs.Common.{refl, ap, inl}
 use Rattle.std.specs.Prelude.{Err}
-use Rattle.lsp_shape.proofs.Refusals.{passed, passed_in}
+use Rattle.lsp_shape.proofs.Refusals.{passed}
 use Rattle.lsp_lsif.specs.Edge.{item_row}
 use Rattle.lsp_lsif.specs.Edge.{edge_data_multi_in_row}
 use Rattle.lsp_lsif.proofs.edge.ItemWire.from_value.Goals as goal
 
-pub returns-in_err-object-clause-unfit : goal.returns-in_err-object-clause-unfit
+pub returns-in_err-document-clause-unfit : goal.returns-in_err-document-clause-unfit
 unfolding item_row edge_data_multi_in_row
-returns-in_err-object-clause-unfit c = passed c.from_residual.result c.in_err-object.field-0.0 _ c.from_residual.ensures.1 (λ why is. c.in_err-object.ensures.unfit why (ap Err is) item_row.shape refl)
-
-pub returns-in_err-field-clause-unfit : goal.returns-in_err-field-clause-unfit
-unfolding item_row edge_data_multi_in_row
-returns-in_err-field-clause-unfit c = passed_in c.from_residual-in_err-field.result c.in_err-field.field-0.0 item_row.shape c.in_ok-object.ensures.ok c.from_residual-in_err-field.ensures.1 (λ why is. c.in_err-field.ensures.unfit why (ap Err is) item_row.shape refl)
-
-pub returns-in_err-optional-clause-unfit : goal.returns-in_err-optional-clause-unfit
-unfolding item_row edge_data_multi_in_row
-returns-in_err-optional-clause-unfit c = passed_in c.from_residual-in_err-optional.result c.in_err-optional.field-0.0 item_row.shape c.in_ok-object.ensures.ok c.from_residual-in_err-optional.ensures.1 (λ why is. c.in_err-optional.ensures.unfit why (ap Err is) item_row.shape refl)
-
-pub returns-in_err-flat-clause-unfit : goal.returns-in_err-flat-clause-unfit
-unfolding item_row edge_data_multi_in_row
-returns-in_err-flat-clause-unfit c = passed c.from_residual-in_err-flat.result c.in_err-flat.field-0.0 _ c.from_residual-in_err-flat.ensures.1 (λ why is. c.in_err-flat.ensures.unfit why (ap Err is) item_row.shape (inl refl))
+returns-in_err-document-clause-unfit c = passed c.from_residual.result c.in_err-document.field-0.0 _ c.from_residual.ensures.1 (λ why is. c.in_err-document.ensures.unfit why (ap Err is) item_row.shape refl (refl, refl, inl refl))

@@ -1,22 +1,10 @@
-use Rattle.std.proofs.Common.{refl, ap, inl, inr}
+use Rattle.std.proofs.Common.{refl, ap, inl}
 use Rattle.std.specs.Prelude.{Err}
-use Rattle.lsp_shape.proofs.Refusals.{passed, passed_in}
+use Rattle.lsp_shape.proofs.Refusals.{passed}
 use Rattle.lsp_offer_text.specs.SignatureHelp.{signature_help_options_row}
 use Rattle.lsp_names.specs.Progress.{work_done_progress_options_row}
 use Rattle.lsp_offer_text.proofs.signature_help.SignatureHelpOptionsWire.from_value.Goals as goal
 
-pub returns-in_err-object-clause-unfit : goal.returns-in_err-object-clause-unfit
+pub returns-in_err-trigger_characters-clause-unfit : goal.returns-in_err-trigger_characters-clause-unfit
 unfolding signature_help_options_row work_done_progress_options_row
-returns-in_err-object-clause-unfit c = passed c.from_residual.result c.in_err-object.field-0.0 _ c.from_residual.ensures.1 (λ why is. c.in_err-object.ensures.unfit why (ap Err is) signature_help_options_row.shape refl)
-
-pub returns-in_err-optional-clause-unfit : goal.returns-in_err-optional-clause-unfit
-unfolding signature_help_options_row work_done_progress_options_row
-returns-in_err-optional-clause-unfit c = passed_in c.from_residual-in_err-optional.result c.in_err-optional.field-0.0 signature_help_options_row.shape c.in_ok-object.ensures.ok c.from_residual-in_err-optional.ensures.1 (λ why is. c.in_err-optional.ensures.unfit why (ap Err is) signature_help_options_row.shape refl)
-
-pub returns-in_err-optional-2-clause-unfit : goal.returns-in_err-optional-2-clause-unfit
-unfolding signature_help_options_row work_done_progress_options_row
-returns-in_err-optional-2-clause-unfit c = passed_in c.from_residual-in_err-optional-2.result c.in_err-optional-2.field-0.0 signature_help_options_row.shape c.in_ok-object.ensures.ok c.from_residual-in_err-optional-2.ensures.1 (λ why is. c.in_err-optional-2.ensures.unfit why (ap Err is) signature_help_options_row.shape refl)
-
-pub returns-in_err-flat-clause-unfit : goal.returns-in_err-flat-clause-unfit
-unfolding signature_help_options_row work_done_progress_options_row
-returns-in_err-flat-clause-unfit c = passed c.from_residual-in_err-flat.result c.in_err-flat.field-0.0 _ c.from_residual-in_err-flat.ensures.1 (λ why is. c.in_err-flat.ensures.unfit why (ap Err is) signature_help_options_row.shape (inl refl))
+returns-in_err-trigger_characters-clause-unfit c = passed c.from_residual.result c.in_err-trigger_characters.field-0.0 _ c.from_residual.ensures.1 (λ why is. c.in_err-trigger_characters.ensures.unfit why (ap Err is) signature_help_options_row.shape refl (refl, refl, inl refl))

@@ -1,17 +1,9 @@
-use Rattle.std.proofs.Common.{refl, ap, inl, inr}
+use Rattle.std.proofs.Common.{refl, ap}
 use Rattle.std.specs.Prelude.{Err}
-use Rattle.lsp_shape.proofs.Refusals.{passed, passed_in}
+use Rattle.lsp_shape.proofs.Refusals.{passed}
 use Rattle.lsp_offer_text.specs.Sync.{text_document_change_registration_options_row}
 use Rattle.lsp_offer_text.proofs.sync.TextDocumentChangeRegistrationOptionsWire.from_value.Goals as goal
 
-pub returns-in_err-object-clause-unfit : goal.returns-in_err-object-clause-unfit
+pub returns-in_err-document_selector-clause-unfit : goal.returns-in_err-document_selector-clause-unfit
 unfolding text_document_change_registration_options_row
-returns-in_err-object-clause-unfit c = passed c.from_residual.result c.in_err-object.field-0.0 _ c.from_residual.ensures.1 (λ why is. c.in_err-object.ensures.unfit why (ap Err is) text_document_change_registration_options_row.shape refl)
-
-pub returns-in_err-optional-clause-unfit : goal.returns-in_err-optional-clause-unfit
-unfolding text_document_change_registration_options_row
-returns-in_err-optional-clause-unfit c = passed_in c.from_residual-in_err-optional.result c.in_err-optional.field-0.0 text_document_change_registration_options_row.shape c.in_ok-object.ensures.ok c.from_residual-in_err-optional.ensures.1 (λ why is. c.in_err-optional.ensures.unfit why (ap Err is) text_document_change_registration_options_row.shape refl)
-
-pub returns-in_err-field-clause-unfit : goal.returns-in_err-field-clause-unfit
-unfolding text_document_change_registration_options_row
-returns-in_err-field-clause-unfit c = passed_in c.from_residual-in_err-field.result c.in_err-field.field-0.0 text_document_change_registration_options_row.shape c.in_ok-object.ensures.ok c.from_residual-in_err-field.ensures.1 (λ why is. c.in_err-field.ensures.unfit why (ap Err is) text_document_change_registration_options_row.shape refl)
+returns-in_err-document_selector-clause-unfit c = passed c.from_residual.result c.in_err-document_selector.field-0.0 _ c.from_residual.ensures.1 (λ why is. c.in_err-document_selector.ensures.unfit why (ap Err is) text_document_change_registration_options_row.shape refl (refl, refl))

@@ -1,18 +1,10 @@
-use Rattle.std.proofs.Common.{refl, ap, inl, inr}
+use Rattle.std.proofs.Common.{refl, ap, inl}
 use Rattle.std.specs.Prelude.{Err}
-use Rattle.lsp_shape.proofs.Refusals.{passed, passed_in}
+use Rattle.lsp_shape.proofs.Refusals.{passed}
 use Rattle.lsp_report.specs.Document.{related_full_document_diagnostic_report_row}
 use Rattle.lsp_report.specs.Document.{full_document_diagnostic_report_row}
 use Rattle.lsp_report.proofs.document.RelatedFullDocumentDiagnosticReportWire.from_value.Goals as goal
 
-pub returns-in_err-object-clause-unfit : goal.returns-in_err-object-clause-unfit
+pub returns-in_err-related_documents-clause-unfit : goal.returns-in_err-related_documents-clause-unfit
 unfolding related_full_document_diagnostic_report_row full_document_diagnostic_report_row
-returns-in_err-object-clause-unfit c = passed c.from_residual.result c.in_err-object.field-0.0 _ c.from_residual.ensures.1 (λ why is. c.in_err-object.ensures.unfit why (ap Err is) related_full_document_diagnostic_report_row.shape refl)
-
-pub returns-in_err-optional-clause-unfit : goal.returns-in_err-optional-clause-unfit
-unfolding related_full_document_diagnostic_report_row full_document_diagnostic_report_row
-returns-in_err-optional-clause-unfit c = passed_in c.from_residual-in_err-optional.result c.in_err-optional.field-0.0 related_full_document_diagnostic_report_row.shape c.in_ok-object.ensures.ok c.from_residual-in_err-optional.ensures.1 (λ why is. c.in_err-optional.ensures.unfit why (ap Err is) related_full_document_diagnostic_report_row.shape refl)
-
-pub returns-in_err-flat-clause-unfit : goal.returns-in_err-flat-clause-unfit
-unfolding related_full_document_diagnostic_report_row full_document_diagnostic_report_row
-returns-in_err-flat-clause-unfit c = passed c.from_residual-in_err-flat.result c.in_err-flat.field-0.0 _ c.from_residual-in_err-flat.ensures.1 (λ why is. c.in_err-flat.ensures.unfit why (ap Err is) related_full_document_diagnostic_report_row.shape (inl refl))
+returns-in_err-related_documents-clause-unfit c = passed c.from_residual.result c.in_err-related_documents.field-0.0 _ c.from_residual.ensures.1 (λ why is. c.in_err-related_documents.ensures.unfit why (ap Err is) related_full_document_diagnostic_report_row.shape refl (refl, inl refl))

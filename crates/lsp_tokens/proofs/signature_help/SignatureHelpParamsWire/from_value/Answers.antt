@@ -1,23 +1,11 @@
 use Rattle.std.proofs.Common.{refl, ap, inl, inr}
 use Rattle.std.specs.Prelude.{Err}
-use Rattle.lsp_shape.proofs.Refusals.{passed, passed_in}
+use Rattle.lsp_shape.proofs.Refusals.{passed}
 use Rattle.lsp_tokens.specs.SignatureHelp.{signature_help_params_row}
 use Rattle.lsp_base.specs.Document.{text_document_position_params_row}
 use Rattle.lsp_base.specs.Progress.{work_done_progress_params_row}
 use Rattle.lsp_tokens.proofs.signature_help.SignatureHelpParamsWire.from_value.Goals as goal
 
-pub returns-in_err-object-clause-unfit : goal.returns-in_err-object-clause-unfit
+pub returns-in_err-context-clause-unfit : goal.returns-in_err-context-clause-unfit
 unfolding signature_help_params_row text_document_position_params_row work_done_progress_params_row
-returns-in_err-object-clause-unfit c = passed c.from_residual.result c.in_err-object.field-0.0 _ c.from_residual.ensures.1 (λ why is. c.in_err-object.ensures.unfit why (ap Err is) signature_help_params_row.shape refl)
-
-pub returns-in_err-optional-clause-unfit : goal.returns-in_err-optional-clause-unfit
-unfolding signature_help_params_row text_document_position_params_row work_done_progress_params_row
-returns-in_err-optional-clause-unfit c = passed_in c.from_residual-in_err-optional.result c.in_err-optional.field-0.0 signature_help_params_row.shape c.in_ok-object.ensures.ok c.from_residual-in_err-optional.ensures.1 (λ why is. c.in_err-optional.ensures.unfit why (ap Err is) signature_help_params_row.shape refl)
-
-pub returns-in_err-flat-clause-unfit : goal.returns-in_err-flat-clause-unfit
-unfolding signature_help_params_row text_document_position_params_row work_done_progress_params_row
-returns-in_err-flat-clause-unfit c = passed c.from_residual-in_err-flat.result c.in_err-flat.field-0.0 _ c.from_residual-in_err-flat.ensures.1 (λ why is. c.in_err-flat.ensures.unfit why (ap Err is) signature_help_params_row.shape (inl refl))
-
-pub returns-in_err-flat-2-clause-unfit : goal.returns-in_err-flat-2-clause-unfit
-unfolding signature_help_params_row text_document_position_params_row work_done_progress_params_row
-returns-in_err-flat-2-clause-unfit c = passed c.from_residual-in_err-flat-2.result c.in_err-flat-2.field-0.0 _ c.from_residual-in_err-flat-2.ensures.1 (λ why is. c.in_err-flat-2.ensures.unfit why (ap Err is) signature_help_params_row.shape (inr (inl refl)))
+returns-in_err-context-clause-unfit c = passed c.from_residual.result c.in_err-context.field-0.0 _ c.from_residual.ensures.1 (λ why is. c.in_err-context.ensures.unfit why (ap Err is) signature_help_params_row.shape refl (refl, inl refl, inr (inl refl)))
