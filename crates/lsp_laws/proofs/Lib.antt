@@ -1,3 +1,4 @@
 pub mod AnswerLemmas
+pub mod GateLemmas
 pub mod LifeLemmas
 pub mod StartLemmas

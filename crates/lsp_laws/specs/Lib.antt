@@ -1,3 +1,4 @@
 pub mod Answers
+pub mod Gates
 pub mod Lives
 pub mod Starts

@@ -4,5 +4,5 @@
 mod desk;
 mod session;
 
-pub use desk::answers_come_back;
+pub use desk::{answers_come_back, gated_calls_wait};
 pub use session::{calls_begin, lives_follow};

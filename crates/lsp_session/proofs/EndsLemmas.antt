@@ -4,10 +4,11 @@ use Rattle.std.specs.Prelude.{Result, Ok, Err}
 use Rattle.std.specs.Result.{IsErrAnd}
 use Rattle.lsp_desk.specs.declared.call.DeskFault.{DeskFault}
 use Rattle.lsp_desk.specs.declared.call.DeskFault.TheVariants as faults
-use Rattle.lsp_desk.specs.Meaning.{Meaning, FailsOn}
+use Rattle.lsp_desk.specs.Meaning.{Meaning}
 use Rattle.lsp_desk.proofs.TraceLemmas.{grows_on}
 use Rattle.lsp_session.specs.declared.running.Running.{Running}
 use Rattle.lsp_session.specs.Semantics.{Semantics}
+use Rattle.lsp_session.specs.Fails.{FailsKept}
 use Rattle.lsp_session.specs.State.{State, Effect}
 use Rattle.lsp_session.specs.Session.{IsCut}
 use Rattle.lsp_session.specs.View.{running_view, Keeps, KeepsAll, TellsLife}
@@ -24,10 +25,10 @@ module _ {H D C T : Type 0} (semantics : Semantics H C T) (m : Meaning D) (old n
   breaks_part (Ok x) fault is b = absurd is
   breaks_part (Err e) fault is b = subst (Breaks semantics m old P new) (sym is) b
 
-  -- nothing was put out, and no exit was noted
-  pub breaks_silent : (fault : DeskFault) → (running_view semantics m new).out ≡ (running_view semantics m old).out → new.exited ≡ old.exited → FailsOn m old.desk new.desk fault → TellsLife m new
+  -- nothing was put out, no exit was noted, and the life stayed
+  pub breaks_silent : (fault : DeskFault) → (running_view semantics m new).out ≡ (running_view semantics m old).out → new.exited ≡ old.exited → FailsKept m old.desk new.desk fault → TellsLife m new
       → Breaks semantics m old P new fault
-  breaks_silent fault out exited failed life = record { failed = failed; stays = record { out = extends_as _ _ out; exited = exited }; puts = inl out; life = life }
+  breaks_silent fault out exited broken life = record { failed = broken.failed; stays = record { out = extends_as _ _ out; exited = exited }; puts = inl (record { out = out; life = broken.kept }); life = life }
 
   -- out of memory, after all calls on the desk
   pub breaks_short : IsCut m (running_view semantics m old) P (running_view semantics m new) → new.exited ≡ old.exited → TellsLife m new → Breaks semantics m old P new faults.NoMemory

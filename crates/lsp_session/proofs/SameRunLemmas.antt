@@ -16,7 +16,7 @@ use Rattle.lsp_session.specs.Determined.{IsDetermined}
 use Rattle.lsp_session.specs.Admission.{Verdict, Silence, Refuses, Answers, Cancels, Exits, Starts, Admission, admission, reads_by}
 use Rattle.lsp_session.specs.Item.{ItemData}
 use Rattle.lsp_session.specs.Run.{Order, Picked, Step, Run, Rounds, Round, PollsAt, Poll, Applies, Admits, Changes, GivesAnswer, Quits, Drains, after_poll, admission_of, occasion, replied, changing, poll_change, answers_for, cancelled}
-use Rattle.lsp_session.specs.Semantics.{Semantics, Phase, Progress, Pending, Done, Fresh, Polls}
+use Rattle.lsp_session.specs.Semantics.{Semantics, Progress, Pending, Done, Fresh, Polls}
 use Rattle.lsp_session.specs.State.{State, Work, Effect, marked, dues, entered, moved_up, without_request, notifications, live, both}
 
 -- ---- what is made on a desk that others don't use

@@ -4,7 +4,7 @@ use Rattle.std.proofs.lemmas.List.{append-nil}
 use Rattle.lsp_desk.proofs.TraceLemmas.{makes_of}
 use Rattle.lsp_session.specs.PendingView.{live_ids}
 use Rattle.lsp_session.specs.View.{running_view}
-use Rattle.lsp_session.proofs.RunningLemmas.{facts_desk}
+use Rattle.lsp_session.proofs.RunningLemmas.{facts_desk, on_any_err}
 use Rattle.lsp_session.proofs.EndsLemmas.{breaks_part, breaks_silent}
 use Rattle.lsp_session.proofs.running.Running.change.Goals as goal
 
@@ -36,4 +36,7 @@ returns-in_err-self-clause-ends g c =
     let m = g.D.Caller.meaning in
     let old = c.args.self.now in
     let broken = c.in_err-self.ensures.calls in
-    breaks_part g.H.Handlers.semantics m old _ _ c.from_residual.result _ c.from_residual.ensures.1 (breaks_silent _ m old _ _ _ refl refl broken.failed (c.requires.life_is ∙ sym broken.kept))
+    breaks_part g.H.Handlers.semantics m old _ _ c.from_residual.result _ c.from_residual.ensures.1 (breaks_silent _ m old _ _ _ refl refl broken (c.requires.life_is ∙ sym broken.kept))
+
+pub returns-in_err-self-clause-kept : goal.returns-in_err-self-clause-kept
+returns-in_err-self-clause-kept g c = on_any_err c.from_residual.result c.in_err-self.ensures.calls.kept
