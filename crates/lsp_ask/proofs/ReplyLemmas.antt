@@ -14,7 +14,7 @@ use Rattle.lsp_desk.specs.Shown.{show_client_reply}
 use Rattle.lsp_desk.specs.Meaning.{Meaning, Calls}
 use Rattle.lsp_desk.proofs.TraceLemmas.{own_fits}
 use Rattle.lsp_shape.specs.Shape.{Shape}
-use Rattle.lsp_client.specs.Answers.{asked_of, answered_of}
+use Rattle.lsp_ask.specs.Answers.{asked_of, answered_of}
 
 -- the reply is the table's at some state
 client_reply_is : {D : Type 0} (m : Meaning D) (old new : D) (call : Call) (reply : ClientReply) → Calls m show_client_reply old call (Ok reply) new → (mid : DeskState) × (show_client_reply reply ≡ (desk_step mid call).0)
