@@ -1,16 +1,20 @@
 // What becomes of what a server sends and asks.
 ghost use Rattle.std.specs.Prelude.{◌≡◌, true, false, is_ok, IfOk, OnErr, IsSome, Some};
+ghost use Rattle.serde_json.specs.View.{view};
+ghost use Rattle.serde_json.specs.Written.{has_float};
 ghost use Rattle.lsp_rpc.specs.Message.{body_has_float};
 ghost use Rattle.lsp_rpc.specs.Shown.{show_response};
 ghost use Rattle.lsp_desk.specs.Flow.{is_sent};
 ghost use Rattle.lsp_desk.specs.Reply.{reply_has_float};
 ghost use Rattle.lsp_desk.specs.Shown.{show_client_reply};
-ghost use Rattle.lsp_ask.specs.Answers.{answer_in, asked_of, answered_of, answered_has_float, may_lack};
+ghost use Rattle.lsp_shape.specs.Read.{read};
+ghost use Rattle.lsp_ask.specs.Answers.{answer_in, asked_of, answered_of, answered_has_float, may_lack, read_result};
 ghost use Rattle.lsp_ask.specs.Shown.{show_asked, show_answered};
 
 use lsp_desk::ClientReply;
 use lsp_rpc::{Error, NoMemory, Response};
 use lsp_shape::{Wire, attempt};
+use serde_json::Value;
 use std::alloc::Global;
 use std::marker::PhantomData;
 
@@ -118,10 +122,20 @@ fn answer_in_response<R, A: Wire>(
 {
     let (_, body) = response.into_parts();
     match body {
-        Ok(value) => match attempt(alloc, &value)? {
-            Some(read) => Ok(Answered::Value(read)),
-            None => Ok(Answered::Error(Error::parse_error(alloc)?)),
-        },
+        Ok(value) => answer_in_result(alloc, &value),
         Err(error) => Ok(Answered::Error(error)),
+    }
+}
+
+fn answer_in_result<R, A: Wire>(alloc: Global, value: &Value) -> Result<Answered<R, A>, NoMemory>
+    requires { has_float (view value.now) ≡ false }
+    ensures answered { IfOk result (λ answered. show_answered A.shown answered
+        ≡ read_result (read A.shape (view value.now))) }
+    ensures float_free { IfOk result (λ answered.
+        answered_has_float (show_answered A.shown answered) ≡ false) }
+{
+    match attempt(alloc, value)? {
+        Some(read) => Ok(Answered::Value(read)),
+        None => Ok(Answered::Error(Error::parse_error(alloc)?)),
     }
 }
