@@ -1,4 +1,1 @@
-pub mod Answers
-pub mod Shown
-pub mod Client
 pub mod Methods

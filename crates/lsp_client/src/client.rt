@@ -10,15 +10,15 @@ ghost use Rattle.lsp_desk.specs.Meaning.{PollsOn};
 ghost use Rattle.lsp_desk.specs.Shown.{show_client_reply};
 ghost use Rattle.lsp_session.specs.Fails.{PollFails};
 ghost use Rattle.lsp_session.specs.Run.{replied};
-ghost use Rattle.lsp_client.specs.Answers.{answered_has_float};
-ghost use Rattle.lsp_client.specs.Client.{Continues, IsPolled, IsAsked, IsDrawn, IsPollCut, IsTold, IsUnreplied, SendsNone};
+ghost use Rattle.lsp_ask.specs.Answers.{answered_has_float};
+ghost use Rattle.lsp_ask.specs.Client.{Continues, IsPolled, IsAsked, IsDrawn, IsPollCut, IsTold, IsUnreplied, SendsNone};
+ghost use Rattle.lsp_ask.specs.Shown.{show_answered, show_asked, ticket_number};
 ghost use Rattle.lsp_client.specs.Methods.{register_capability_call, unregister_capability_call, show_message_call, log_message_call, show_message_request_call, show_document_call, telemetry_event_call, refresh_call, publish_diagnostics_call, configuration_call, workspace_folders_call, apply_edit_call};
-ghost use Rattle.lsp_client.specs.Shown.{show_answered, show_asked, ticket_number};
 
-use crate::answers::{Answered, Asked, Ticket, Told, answered_by};
-use crate::desk::{make_call, notify, request, telemetry_params, tell, text};
+use crate::desk::{notify, request, telemetry_params};
+use lsp_ask::{Answered, Asked, Ticket, Told, next_id, poll, tell, text};
 use lsp_base::{Diagnostic, WorkspaceEdit};
-use lsp_desk::{Caller, ClientCall, ClientReply, DeskFault};
+use lsp_desk::{Caller, ClientReply, DeskFault};
 use lsp_kinds::MessageType;
 use lsp_methods::notification::{
     LogMessage, Notification, PublishDiagnostics, ShowMessage, TelemetryEvent,
@@ -392,11 +392,7 @@ pub trait Client: Caller {
         ensures once { OnErr result (PollsOn Self.meaning self.old self.new
             (IsPollCut (ticket_number ticket))) }
     {
-        let number = ticket.number;
-        match make_call(self, ClientCall::Poll(number)) {
-            Ok(reply) => Ok(answered_by::<R>(alloc, number, reply)?),
-            Err(fault) => Err(fault),
-        }
+        poll(alloc, self, ticket)
     }
 
     /// Draws an id.
@@ -407,13 +403,7 @@ pub trait Client: Caller {
         ensures continues { Continues Self.meaning self.old self.new }
         ensures once { OnErr result (PollsOn Self.meaning self.old self.new (IsUnreplied NextId)) }
     {
-        match make_call(self, ClientCall::NextId) {
-            Ok(reply) => match reply {
-                ClientReply::Number(number) => Ok(Id::Number(number as i64)),
-                _ => unreachable!(),
-            },
-            Err(fault) => Err(fault),
-        }
+        next_id(self)
     }
 
     /// Sends a message as it is, whatever the life, until the session has exited.
@@ -428,10 +418,7 @@ pub trait Client: Caller {
         ensures unsent { OnErr result (PollsOn Self.meaning self.old self.new
             (SendsNone (Raw (show_request request)))) }
     {
-        match make_call(self, ClientCall::Raw(request)) {
-            Ok(reply) => Ok(reply),
-            Err(fault) => Err(fault),
-        }
+        lsp_ask::call(self, request)
     }
 }
 

@@ -15,7 +15,7 @@ use Rattle.lsp_session.specs.Semantics.{Phase, Progress, Fresh, Held, Polls}
 use Rattle.lsp_session.specs.State.{Effect}
 use Rattle.lsp_session.specs.Table.{MethodData, find_in}
 use Rattle.lsp_methods.specs.ServiceTable.{service_methods}
-use Rattle.lsp_client.specs.Answers.{told_reply}
+use Rattle.lsp_ask.specs.Answers.{told_reply}
 use Rattle.lsp_documents.specs.Documents.{DocumentMap}
 use Rattle.lsp_service.specs.declared.server.NoTask.{NoTask}
 use Rattle.lsp_service.specs.declared.service.LspService.{LspService}

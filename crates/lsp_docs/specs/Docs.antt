@@ -21,8 +21,8 @@ use Rattle.lsp_documents.specs.OpenDocument.{OpenDocument}
 use Rattle.lsp_methods.specs.declared.method.Method.TheVariants as methods
 use Rattle.lsp_methods.specs.declared.method.LifeMethod.TheVariants as life
 use Rattle.lsp_methods.specs.declared.method.SyncMethod.TheVariants as sync
-use Rattle.lsp_client.specs.declared.answers.Told.{Told}
-use Rattle.lsp_client.specs.Client.{IsTold}
+use Rattle.lsp_ask.specs.declared.answers.Told.{Told}
+use Rattle.lsp_ask.specs.Client.{IsTold}
 use Rattle.lsp_client.specs.Methods.{log_message_call}
 use Rattle.lsp_service.specs.declared.server.NoTask.{NoTask}
 use Rattle.lsp_service.specs.Replies.{initialize_data}

@@ -3,8 +3,8 @@ use Rattle.std.specs.Prelude.{◌≡◌, List, Bool, true, false}
 use Rattle.std.proofs.Common.{refl, sym, ap, subst}
 use Rattle.lsp_desk.specs.Trace.{DeskEntry}
 use Rattle.lsp_session.specs.Semantics.{Phase, Fresh, Held, AreClient}
-use Rattle.lsp_client.specs.declared.answers.Told.{Told}
-use Rattle.lsp_client.specs.Client.{IsTold}
+use Rattle.lsp_ask.specs.declared.answers.Told.{Told}
+use Rattle.lsp_ask.specs.Client.{IsTold}
 use Rattle.lsp_service.specs.declared.server.NoTask.{NoTask}
 use Rattle.lsp_service.specs.Data.{MethodCall, MethodReply}
 use Rattle.lsp_service.specs.Open.{no_call}

@@ -4,8 +4,8 @@ use Rattle.lsp_desk.specs.Meaning.{Meaning, PollsOn}
 use Rattle.lsp_desk.specs.Trace.{DeskEntry}
 use Rattle.lsp_desk.proofs.TraceLemmas.{grows_none}
 use Rattle.lsp_shape.specs.Plain.{Plain}
-use Rattle.lsp_client.specs.Answers.{AskedData, AnsweredData}
-use Rattle.lsp_client.specs.Client.{IsAsked, IsPolled}
+use Rattle.lsp_ask.specs.Answers.{AskedData, AnsweredData}
+use Rattle.lsp_ask.specs.Client.{IsAsked, IsPolled}
 use Rattle.lsp_client.specs.Methods.{workspace_folders_call}
 use Rattle.lsp_service.specs.Server.{Start}
 use Rattle.lsp_sample_server.specs.declared.command.Command.{Command}

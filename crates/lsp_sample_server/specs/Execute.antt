@@ -11,8 +11,8 @@ use Rattle.lsp_shape.specs.Write.{write}
 use Rattle.lsp_base.specs.Document.{workspace_folder_row}
 use Rattle.lsp_methods.specs.declared.method.Method.TheVariants as methods
 use Rattle.lsp_methods.specs.declared.method.WorkMethod.TheVariants as work
-use Rattle.lsp_client.specs.Answers.{AskedData, ticket, refused, AnsweredData, value, error, pending}
-use Rattle.lsp_client.specs.Client.{IsAsked, IsPolled}
+use Rattle.lsp_ask.specs.Answers.{AskedData, ticket, refused, AnsweredData, value, error, pending}
+use Rattle.lsp_ask.specs.Client.{IsAsked, IsPolled}
 use Rattle.lsp_client.specs.Methods.{workspace_folders_call}
 use Rattle.lsp_service.specs.Data.{MethodReply, answer}
 use Rattle.lsp_service.specs.Server.{Start, Now, Later}

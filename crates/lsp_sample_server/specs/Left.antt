@@ -1,6 +1,6 @@
 -- What a command of the sample goes on with.
 use Rattle.std.specs.Prelude.{ℕ}
-use Rattle.lsp_client.specs.Shown.{ticket_number}
+use Rattle.lsp_ask.specs.Shown.{ticket_number}
 use Rattle.lsp_sample_server.specs.declared.command.Command.{Command}
 use Rattle.lsp_sample_server.specs.declared.command.Command.TheVariants.{Wait, Ask}
 use Rattle.lsp_sample_server.specs.declared.task.Left.{Left}

@@ -15,8 +15,8 @@ use Rattle.lsp_methods.specs.declared.method.LifeMethod.TheVariants as life
 use Rattle.lsp_methods.specs.declared.method.WorkMethod.{WorkMethod}
 use Rattle.lsp_methods.specs.declared.method.WorkMethod.TheVariants as work
 use Rattle.lsp_methods.specs.Methods.{method_row}
-use Rattle.lsp_client.specs.declared.answers.Told.{Told}
-use Rattle.lsp_client.specs.Client.{IsTold}
+use Rattle.lsp_ask.specs.declared.answers.Told.{Told}
+use Rattle.lsp_ask.specs.Client.{IsTold}
 use Rattle.lsp_client.specs.Methods.{log_message_call}
 use Rattle.lsp_service.specs.declared.call.Target.{Target}
 use Rattle.lsp_service.specs.declared.call.Target.TheVariants as targets

@@ -10,7 +10,7 @@ use Rattle.lsp_methods.specs.declared.method.LifeMethod.{LifeMethod}
 use Rattle.lsp_methods.specs.declared.method.LifeMethod.TheVariants as life
 use Rattle.lsp_methods.specs.declared.method.WorkMethod.{WorkMethod}
 use Rattle.lsp_methods.specs.declared.method.WorkMethod.TheVariants as work
-use Rattle.lsp_client.specs.Answers.{AskedData, ticket, refused, AnsweredData, value, error, pending}
+use Rattle.lsp_ask.specs.Answers.{AskedData, ticket, refused, AnsweredData, value, error, pending}
 use Rattle.lsp_service.specs.Data.{MethodCall, typed, MethodReply}
 use Rattle.lsp_service.specs.Server.{Start, Now, Later, ServerPolls, polled_call, IsLawfulServer}
 use Rattle.lsp_sample_server.specs.declared.command.Command.{Command}

@@ -7,7 +7,7 @@ ghost use Rattle.lsp_work.specs.Workspace.{execute_command_params_row};
 ghost use Rattle.lsp_desk.specs.Meaning.{PollsOn};
 ghost use Rattle.lsp_session.specs.Fails.{PollFails};
 ghost use Rattle.lsp_client.specs.Methods.{written_by_row};
-ghost use Rattle.lsp_client.specs.Shown.{ticket_number};
+ghost use Rattle.lsp_ask.specs.Shown.{ticket_number};
 ghost use Rattle.lsp_sample_server.specs.Command.{command_in};
 ghost use Rattle.lsp_sample_server.specs.Execute.{Asks, Executes, ResumesCommand, PollsAnswer, waits as waits_def};
 ghost use Rattle.lsp_sample_server.specs.Shown.{show_outcome, show_task};

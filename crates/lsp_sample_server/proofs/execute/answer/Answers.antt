@@ -1,7 +1,7 @@
 -- The answer is the folders, an error, or that none has come.
 use Rattle.std.proofs.Common.{refl, ap}
 use Rattle.lsp_work.specs.Workspace.{execute_command_params_row}
-use Rattle.lsp_client.specs.Shown.{ticket_number}
+use Rattle.lsp_ask.specs.Shown.{ticket_number}
 use Rattle.lsp_service.specs.Server.{Now}
 use Rattle.lsp_sample_server.specs.Execute.{command_result}
 use Rattle.lsp_sample_server.proofs.PollLemmas.{answers_as}

@@ -11,9 +11,9 @@ use Rattle.lsp_desk.specs.Meaning.{Meaning, PollsOn}
 use Rattle.lsp_session.specs.Run.{replied}
 use Rattle.lsp_session.specs.Semantics.{AreClient}
 use Rattle.lsp_shape.specs.Shape.{Shape}
-use Rattle.lsp_client.specs.declared.answers.Told.{Told}
-use Rattle.lsp_client.specs.declared.answers.Told.TheVariants as tolds
-use Rattle.lsp_client.specs.Answers.{told_reply, AskedData, refused, asked_of, AnsweredData, answered_of, may_lack}
+use Rattle.lsp_ask.specs.declared.answers.Told.{Told}
+use Rattle.lsp_ask.specs.declared.answers.Told.TheVariants as tolds
+use Rattle.lsp_ask.specs.Answers.{told_reply, AskedData, refused, asked_of, AnsweredData, answered_of, may_lack}
 
 -- this call was made, and the desk's reply is told
 abbrev pub TellsClean : Call → Told → List DeskEntry → Type 0

@@ -2,12 +2,12 @@
 use Rattle.std.specs.Prelude.{ℕ}
 use Rattle.lsp_rpc.specs.Shown.{show_error}
 use Rattle.lsp_shape.specs.Plain.{Plain}
-use Rattle.lsp_client.specs.declared.answers.Asked.{Asked}
-use Rattle.lsp_client.specs.declared.answers.Asked.TheVariants as askeds
-use Rattle.lsp_client.specs.declared.answers.Answered.{Answered}
-use Rattle.lsp_client.specs.declared.answers.Answered.TheVariants as answereds
-use Rattle.lsp_client.specs.declared.answers.Ticket.{Ticket}
-use Rattle.lsp_client.specs.Answers.{AskedData, ticket, refused, AnsweredData, value, error, pending}
+use Rattle.lsp_ask.specs.declared.answers.Asked.{Asked}
+use Rattle.lsp_ask.specs.declared.answers.Asked.TheVariants as askeds
+use Rattle.lsp_ask.specs.declared.answers.Answered.{Answered}
+use Rattle.lsp_ask.specs.declared.answers.Answered.TheVariants as answereds
+use Rattle.lsp_ask.specs.declared.answers.Ticket.{Ticket}
+use Rattle.lsp_ask.specs.Answers.{AskedData, ticket, refused, AnsweredData, value, error, pending}
 
 abbrev pub ticket_number : {R : Type 0} → Ticket R → ℕ
 ticket_number t = t.number

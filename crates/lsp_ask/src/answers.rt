@@ -1,17 +1,20 @@
 // What becomes of what a server sends and asks.
 ghost use Rattle.std.specs.Prelude.{◌≡◌, true, false, is_ok, IfOk, OnErr, IsSome, Some};
+ghost use Rattle.serde_json.specs.View.{view};
+ghost use Rattle.serde_json.specs.Written.{has_float};
 ghost use Rattle.lsp_rpc.specs.Message.{body_has_float};
 ghost use Rattle.lsp_rpc.specs.Shown.{show_response};
 ghost use Rattle.lsp_desk.specs.Flow.{is_sent};
 ghost use Rattle.lsp_desk.specs.Reply.{reply_has_float};
 ghost use Rattle.lsp_desk.specs.Shown.{show_client_reply};
-ghost use Rattle.lsp_client.specs.Answers.{answer_in, asked_of, answered_of, answered_has_float, may_lack};
-ghost use Rattle.lsp_client.specs.Shown.{show_asked, show_answered};
+ghost use Rattle.lsp_shape.specs.Read.{read};
+ghost use Rattle.lsp_ask.specs.Answers.{answer_in, asked_of, answered_of, answered_has_float, may_lack, read_result};
+ghost use Rattle.lsp_ask.specs.Shown.{show_asked, show_answered};
 
 use lsp_desk::ClientReply;
-use lsp_methods::request::Request;
 use lsp_rpc::{Error, NoMemory, Response};
 use lsp_shape::{Wire, attempt};
+use serde_json::Value;
 use std::alloc::Global;
 use std::marker::PhantomData;
 
@@ -84,49 +87,55 @@ pub(crate) fn asked_by<R>(alloc: Global, reply: ClientReply) -> Result<Asked<R>,
 }
 
 // What a reply of the desk to a poll comes to.
-pub(crate) fn answered_by<R: Request>(
+pub(crate) fn answered_by<R, A: Wire>(
     alloc: Global,
     number: u64,
     reply: ClientReply,
-) -> Result<Answered<R, R::Result>, NoMemory>
-where
-    R::Result: Wire,
-    requires polled { IsSome (answered_of R.Result.shape number (show_client_reply reply)) }
+) -> Result<Answered<R, A>, NoMemory>
+    requires polled { IsSome (answered_of A.shape number (show_client_reply reply)) }
     requires float_free { reply_has_float (show_client_reply reply) ≡ false }
     ensures answered { IfOk result (λ answered.
-        answered_of R.Result.shape number (show_client_reply reply)
-        ≡ Some (show_answered R.Result.shown answered)) }
+        answered_of A.shape number (show_client_reply reply)
+        ≡ Some (show_answered A.shown answered)) }
     ensures float_free { IfOk result (λ answered.
-        answered_has_float (show_answered R.Result.shown answered) ≡ false) }
+        answered_has_float (show_answered A.shown answered) ≡ false) }
     ensures memory { OnErr result (may_lack (show_client_reply reply) ≡ true) }
 {
     match reply {
-        ClientReply::Answer(response) => answer_in_response::<R>(alloc, response),
+        ClientReply::Answer(response) => answer_in_response(alloc, response),
         ClientReply::Awaited => Ok(Answered::Pending(Ticket::new(number))),
         ClientReply::Gone => Ok(Answered::Error(Error::internal_error(alloc)?)),
         _ => unreachable!(),
     }
 }
 
-fn answer_in_response<R: Request>(
+fn answer_in_response<R, A: Wire>(
     alloc: Global,
     response: Response,
-) -> Result<Answered<R, R::Result>, NoMemory>
-where
-    R::Result: Wire,
+) -> Result<Answered<R, A>, NoMemory>
     requires { body_has_float (show_response response).body ≡ false }
-    ensures answered { IfOk result (λ answered. show_answered R.Result.shown answered
-        ≡ answer_in R.Result.shape (show_response response).body) }
+    ensures answered { IfOk result (λ answered. show_answered A.shown answered
+        ≡ answer_in A.shape (show_response response).body) }
     ensures float_free { IfOk result (λ answered.
-        answered_has_float (show_answered R.Result.shown answered) ≡ false) }
+        answered_has_float (show_answered A.shown answered) ≡ false) }
     ensures memory { OnErr result (is_ok (show_response response).body ≡ true) }
 {
     let (_, body) = response.into_parts();
     match body {
-        Ok(value) => match attempt(alloc, &value)? {
-            Some(read) => Ok(Answered::Value(read)),
-            None => Ok(Answered::Error(Error::parse_error(alloc)?)),
-        },
+        Ok(value) => answer_in_result(alloc, &value),
         Err(error) => Ok(Answered::Error(error)),
+    }
+}
+
+fn answer_in_result<R, A: Wire>(alloc: Global, value: &Value) -> Result<Answered<R, A>, NoMemory>
+    requires { has_float (view value.now) ≡ false }
+    ensures answered { IfOk result (λ answered. show_answered A.shown answered
+        ≡ read_result (read A.shape (view value.now))) }
+    ensures float_free { IfOk result (λ answered.
+        answered_has_float (show_answered A.shown answered) ≡ false) }
+{
+    match attempt(alloc, value)? {
+        Some(read) => Ok(Answered::Value(read)),
+        None => Ok(Answered::Error(Error::parse_error(alloc)?)),
     }
 }

@@ -8,8 +8,8 @@ use Rattle.lsp_desk.specs.Reply as replies
 use Rattle.lsp_shape.specs.Plain.{Plain, plain_has_float}
 use Rattle.lsp_shape.specs.Shape.{Shape}
 use Rattle.lsp_shape.specs.Read.{read}
-use Rattle.lsp_client.specs.declared.answers.Told.{Told}
-use Rattle.lsp_client.specs.declared.answers.Told.TheVariants as tolds
+use Rattle.lsp_ask.specs.declared.answers.Told.{Told}
+use Rattle.lsp_ask.specs.declared.answers.Told.TheVariants as tolds
 
 -- ---- a notification
 

@@ -1,20 +1,24 @@
 -- Which replies a desk has to a call of a client.
 use Rattle.std.proofs.Common.{◌≡◌, ℕ, refl, List, true, false, sym, ap, ◌∙◌, subst, true≢false}
-use Rattle.std.specs.Prelude.{Bool, Ok, Option, Some, None, IsSome, if◌then◌else◌, ◌&&◌}
+use Rattle.std.specs.Prelude.{Bool, not, Result, Ok, Err, IfOk, Option, Some, None, IsSome, if◌then◌else◌, ◌&&◌}
 use Rattle.std.specs.List.{list_any, find}
 use Rattle.serde_json.specs.Data.{Data}
 use Rattle.lsp_desk.specs.declared.call.ClientReply.{ClientReply}
 use Rattle.lsp_desk.specs.declared.call.ClientReply.TheVariants as code
-use Rattle.lsp_desk.specs.Call.{Call, Ask, Tell, Poll, NextId}
+use Rattle.lsp_desk.specs.declared.call.DeskFault.{DeskFault}
+use Rattle.lsp_desk.specs.Call.{Call, Ask, Tell, Poll, NextId, call_has_float}
 use Rattle.lsp_desk.specs.Reply.{Reply}
 use Rattle.lsp_desk.specs.Reply as replies
 use Rattle.lsp_desk.specs.Lives.{is_exited, holds_back}
 use Rattle.lsp_desk.specs.Desk.{DeskState, KeptData, desk_step, polled, is_kept_for, is_awaited_by}
 use Rattle.lsp_desk.specs.Shown.{show_client_reply}
-use Rattle.lsp_desk.specs.Meaning.{Meaning, Calls}
+use Rattle.lsp_desk.specs.Meaning.{Meaning, Calls, PollsOn}
 use Rattle.lsp_desk.proofs.TraceLemmas.{own_fits}
 use Rattle.lsp_shape.specs.Shape.{Shape}
-use Rattle.lsp_client.specs.Answers.{asked_of, answered_of}
+use Rattle.lsp_ask.specs.declared.answers.Asked.{Asked}
+use Rattle.lsp_ask.specs.Answers.{asked_of, answered_of}
+use Rattle.lsp_ask.specs.Client.{AsksClean, IsAsked, UnlessFloat}
+use Rattle.lsp_ask.specs.Shown.{show_asked}
 
 -- the reply is the table's at some state
 client_reply_is : {D : Type 0} (m : Meaning D) (old new : D) (call : Call) (reply : ClientReply) → Calls m show_client_reply old call (Ok reply) new → (mid : DeskState) × (show_client_reply reply ≡ (desk_step mid call).0)
@@ -67,6 +71,16 @@ asks m old new method params gated reply p =
     let is = client_reply_is m old new (Ask method params gated) reply p in
     let P : Reply → Type 0 = λ r. IsSome (asked_of r) in
     subst P (sym is.1) (ask_replies (gated && holds_back is.0.life) (is_exited is.0.life) is.0 _ _ _)
+
+unless : (P Q : Type 0) (b : Bool) → true ≡ not b → P → UnlessFloat b P Q
+unless P Q false e p = p
+unless P Q true e p = cc
+
+-- one that holds no float is made
+pub is_made : {D R : Type 0} (m : Meaning D) (old new : D) (call : Call) (result : Result (Asked R) DeskFault) → true ≡ not (call_has_float call) → IfOk result (λ asked. PollsOn m old new (AsksClean call (show_asked asked)))
+    → IfOk result (λ asked. PollsOn m old new (IsAsked call (show_asked asked)))
+is_made m old new made (Ok asked) clean p = record { trace = p.trace; grows = p.grows; holds = unless _ _ (call_has_float made) clean p.holds }
+is_made m old new made (Err fault) clean p = p
 
 -- ---- an answer
 
