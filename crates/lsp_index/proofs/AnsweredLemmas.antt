@@ -1,6 +1,7 @@
 -- What reading a dump comes to over a call.
 use Rattle.std.proofs.Common.{◌≡◌, ◌≤◌, ℕ, List, length, arith, [], ◌++◌, Bool, true, false, ◌⊎◌, inl, inr, refl, sym, ◌∙◌, ap, subst}
-use Rattle.std.specs.Prelude.{◌≢◌, ⊤, Option, Some, Result, Ok, Err, OnOk, OnErr, IfErr, not}
+use Rattle.std.specs.Prelude.{◌≢◌, ⊤, Option, Some, IfSome, Result, Ok, Err, OnOk, OnErr, IfErr, not, String}
+use Rattle.std.specs.declared.alloc.Global.{Global}
 use Rattle.std.specs.Bool.{MatchBool}
 use Rattle.std.specs.Result.{result_err}
 use Rattle.std.specs.Io.KnownBytes.{Consumes, Appends}
@@ -14,15 +15,16 @@ use Rattle.lsp_server.specs.Served.{call_bytes}
 use Rattle.lsp_server.specs.ServesSession.{SourceSinkTold}
 use Rattle.lsp_server.specs.Written.{IsPrefixOf}
 use Rattle.lsp_server.specs.Consuming.{Given, piece, end, ConsumerOutcome, goes_on, done, stops, IsLawfulConsumer, Did, Took, bytes_of, IsTimely, TookLast, consumer_outcome, last_outcome}
-use Rattle.lsp_server.proofs.KnownLemmas.{if_told, appends_none, appends_more, consumes_more, what_is_left, all_read, end_before, prefix_all}
+use Rattle.lsp_server.proofs.KnownLemmas.{if_told, consumes_none, appends_none, appends_more, consumes_more, what_is_left, all_read, end_before, prefix_all}
 use Rattle.lsp_index.specs.declared.lines.Lines.{Lines}
 use Rattle.lsp_index.specs.declared.lines.Search.{Search}
 use Rattle.lsp_index.specs.Graph.{Graph}
 use Rattle.lsp_index.specs.Queries.{QueryData}
 use Rattle.lsp_index.specs.Entries.{HasBadLine, EndsBadLine}
 use Rattle.lsp_index.specs.Shown.{show_query}
+use Rattle.lsp_index.specs.Words.{query_asked}
 use Rattle.lsp_index.specs.Kept.{IsKept}
-use Rattle.lsp_index.specs.Answered.{IsAnswerLine, IsQueryAnswered, IsRefused, WroteBegun, WroteNone, ReadGood, IsLine}
+use Rattle.lsp_index.specs.Answered.{IsAnswerLine, IsQueryAnswered, IsRefused, WroteBegun, WroteNone, ReadGood, WhereAsked, IsLine}
 use Rattle.lsp_index.specs.Ended.{AnswerEnded, ended_with}
 use Rattle.lsp_index.specs.Reading.{IsAfter, TookEnd, TookEndPart, TookGood, TookBad, TookBytes, Reads, dump_reading}
 use Rattle.lsp_index.proofs.LineLemmas.{bad_stays, bad_ended, ends_bad, entries_good, ended_good}
@@ -161,6 +163,7 @@ module _ (q : QueryData) (a : Lines × Search) (start : IsAfter q [] a) (bytes :
 
     module _ (b : Lines × Search) (now : Moment) where
       refused_at : (xs : List ℕ) → Consumes middle.left now.left xs → length xs ≤ 4096 → Did dump_reading mid (piece xs) done middle.taken now.taken b → IsRefused (call_bytes bytes now.left begin.taken now.taken)
+      unfolding read_good
       refused_at xs gives short d =
           let ended = d.does.1.1 q took.read after in
           let left = what_is_left bytes now.left (took.read ++ xs) (consumes_more (Some bytes) middle.left now.left took.read xs gave gives) in
@@ -221,7 +224,7 @@ module _ (q : QueryData) (a : Lines × Search) (start : IsAfter q [] a) (bytes :
     begun_between t =
         let none = between b now t in
         record {
-          read = record { early = t.read; piece = []; gives = subst (Consumes (Some bytes) now.left) (sym (append-nil t.read)) none.gives; short = omega arith; good = none.good };
+          read = record { early = none.read; piece = []; gives = subst (Consumes (Some bytes) now.left) (sym (append-nil none.read)) none.gives; short = omega arith; good = none.good };
           written = [];
           begins = inl refl;
           writes = none.writes;
@@ -234,6 +237,15 @@ module _ (q : QueryData) (a : Lines × Search) (start : IsAfter q [] a) (bytes :
     begun_any ReadsSpent last took = begun_between (took tt)
     begun_any (DeskSpent n) last took = begun_last (DeskSpent n) (last tt)
     begun_any NoMemory last took = begun_last NoMemory (last tt)
+
+-- nothing was read, nor written
+pub nothing_read : (words : List (String Global)) (left taken : Option (List ℕ)) → WhereAsked words left (λ q bytes. WroteBegun q (call_bytes bytes left taken taken))
+nothing_read words left taken = if_told (query_asked words) (λ q. IfSome left (λ bytes. WroteBegun q (call_bytes bytes left taken taken))) (λ q asked. if_told left _ (λ bytes is. record {
+  read = record { early = []; piece = []; gives = subst (λ o. Consumes o left []) is (consumes_none left); short = omega arith; good = ended_good [] [] refl };
+  written = [];
+  begins = inl refl;
+  writes = appends_none taken;
+}))
 
 -- whether no line is bad
 pub flipped : (bad : Bool) (P Q : Type 0) → MatchBool bad P Q → MatchBool (not bad) Q P

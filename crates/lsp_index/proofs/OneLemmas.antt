@@ -1,14 +1,13 @@
 -- A query has one answer over a dump.
 use Rattle.std.proofs.Common.{◌≡◌, ◌≤◌, ◌+◌, ◌++◌, ◌∷◌, ℕ, zero, suc, List, [], map, Option, Some, None, refl, sym, ◌∙◌, ap, subst, fold, arith}
-use Rattle.std.specs.Prelude.{unwrap_or}
 use Rattle.lsp_rpc.specs.Message.{IdData}
 use Rattle.lsp_base.specs.declared.position.Range.{Range}
 use Rattle.lsp_index.specs.declared.query.Request.{Request}
 use Rattle.lsp_index.specs.declared.query.Request.TheVariants.{Definition, References, Hover}
 use Rattle.lsp_index.specs.Graph.{Graph, at_id, graph_of}
-use Rattle.lsp_index.specs.Queries.{QueryData, own_or_next, reached_within, IsReached, IsReachedFrom, locations_text, with_places, hover_at, null_text, IsListed, IsHover, IsAnswerFrom, IsAnswer, chosen_at}
+use Rattle.lsp_index.specs.Queries.{QueryData, own_or_next, reached_within, IsReached, IsReachedFrom, locations_text, with_places, IsListed, IsHover, IsAnswerFrom, IsAnswer, chosen_at}
 use Rattle.lsp_index.specs.Entries.{entry_data}
-use Rattle.lsp_index.specs.Answered.{IsAnswerLine, OneAnswer}
+use Rattle.lsp_index.specs.Answered.{OneAnswer}
 use Rattle.lsp_index.proofs.SetLemmas.{results_only}
 use Rattle.lsp_index.proofs.PlainLemmas.{same_entries}
 

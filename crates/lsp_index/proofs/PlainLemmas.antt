@@ -1,7 +1,7 @@
 -- What a query sees of an entry is told by the plain data of the entry.
 use Rattle.std.proofs.Common.{◌≡◌, ◌==◌, ℕ, List, [], ◌∷◌, Bool, true, false, cond, map, refl, sym, ◌∙◌, ap}
-use Rattle.std.specs.Prelude.{ℤ, pos, negsuc, Option, Some, None, bytes_eq, codes, if◌then◌else◌}
-use Rattle.serde_json.specs.Data.{Num, unsigned, negative, float, Data, null, boolean, number, string, array, object}
+use Rattle.std.specs.Prelude.{ℤ, pos, negsuc, Option, Some, None, bytes_eq, codes}
+use Rattle.serde_json.specs.Data.{Num, unsigned, negative, float, Data, null, number, string}
 use Rattle.serde_json.specs.Find.{of_integer}
 use Rattle.serde_json.specs.Written.{compact_text}
 use Rattle.lsp_shape.specs.Plain.{Plain, leaf, absent, present, parts, choice, Parts, no_parts, part, parts_of}
