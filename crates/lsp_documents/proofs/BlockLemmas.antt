@@ -46,7 +46,7 @@ step c (d ∷ ds) = go (c == 10) (c == 13) (d == 10) (cond (d == 13) (Some (afte
     go false true false o = inl (refl, refl)
     go false false f o = inr (refl, refl)
 
-from_next : (n : ℕ) (t : List ℕ) → from_line (suc n) t ≡ option_and_then (from_line n) (later_lines t)
+pub from_next : (n : ℕ) (t : List ℕ) → from_line (suc n) t ≡ option_and_then (from_line n) (later_lines t)
 from_next zero t = go (later_lines t)
   where
     go : (o : Option (List ℕ)) → o ≡ option_and_then (from_line zero) o

@@ -1,5 +1,5 @@
 -- Changes of characters and of bytes.
-use Rattle.std.proofs.Common.{◌≡◌, ◌<◌, ◌≤◌, ◌+◌, ◌-◌, ℕ, suc, List, [], ◌∷◌, ◌++◌, Bool, true, false, cond, Option, Some, None, refl, sym, ap, ◌∙◌, subst, arith, length, map, take, drop, get_or, nat_le}
+use Rattle.std.proofs.Common.{◌≡◌, ◌<◌, ◌≤◌, ◌+◌, ℕ, List, ◌++◌, cond, Option, Some, None, refl, sym, ap, ◌∙◌, subst, arith, length, map, take, drop, get_or}
 use Rattle.std.specs.Prelude.{slice_index, IsSome}
 use Rattle.std.specs.Option.{option_and_then}
 use Rattle.std.specs.Str.{chars, IsUtf8, IsCharBoundary}
@@ -9,29 +9,14 @@ use Rattle.std.proofs.lemmas.Str.{encodes-append, encodes-chars, scalars-chars, 
 use lib.Utf8.{encodes}
 use Rattle.lsp_base.specs.declared.document.TextDocumentContentChangeEvent.{TextDocumentContentChangeEvent}
 use Rattle.lsp_base.specs.declared.position.Range.{Range}
-use Rattle.lsp_documents.specs.Lines.{ends_line, units, first_line, from_line, fitting, place_of, place_from}
+use Rattle.lsp_documents.specs.Lines.{first_line, from_line, place_of, place_from}
 use Rattle.lsp_documents.specs.Documents.{change_of, changed_in, changed, all_changed}
+use Rattle.lsp_documents.proofs.FittingLemmas.{fitting-le, first_line-le}
 use Rattle.lsp_documents.proofs.LineLemmas.{IsOptionEnd, from_line-end}
 use Rattle.lsp_documents.proofs.PlaceLemmas.{bytes_apart, scalars-drop}
 use Rattle.lsp_documents.proofs.PositionLemmas.{bytes_to, place_below, place_before}
 
 -- ---- a place is within the text
-
-fitting-le : (n : ℕ) (cs : List ℕ) → fitting n cs ≤ length cs
-fitting-le n [] = omega arith
-fitting-le n (c ∷ cs) = go (nat_le (units c) n) (fitting-le (n - units c) cs)
-  where
-    go : (b : Bool) → fitting (n - units c) cs ≤ length cs → cond b (suc (fitting (n - units c) cs)) 0 ≤ suc (length cs)
-    go true h = omega (arith, h)
-    go false h = omega arith
-
-first_line-le : (cs : List ℕ) → length (first_line cs) ≤ length cs
-first_line-le [] = omega arith
-first_line-le (c ∷ cs) = go (ends_line c) (first_line-le cs)
-  where
-    go : (b : Bool) → length (first_line cs) ≤ length cs → length (cond b [] (c ∷ first_line cs)) ≤ suc (length cs)
-    go true h = omega arith
-    go false h = omega (arith, h)
 
 pub place_within : (line character : ℕ) (cs : List ℕ) → place_of line character cs ≤ length cs
 place_within line character cs = go (from_line line cs) (from_line-end line cs)

@@ -1,5 +1,5 @@
 -- How many characters of a line fit.
-use Rattle.std.proofs.Common.{◌≡◌, ◌≢◌, ◌<◌, ◌≤◌, ◌+◌, ◌-◌, ℕ, suc, List, [], ◌∷◌, ◌++◌, Bool, true, false, cond, refl, sym, ap, ◌∙◌, arith, length, take, drop, get_or, ◌⊎◌, inl, inr}
+use Rattle.std.proofs.Common.{◌≡◌, ◌≢◌, ◌<◌, ◌≤◌, ◌+◌, ◌-◌, ℕ, suc, List, [], ◌∷◌, ◌++◌, Bool, true, false, cond, refl, sym, ap, ◌∙◌, arith, length, take, drop, get_or, nat_le, ◌⊎◌, inl, inr}
 use Rattle.std.specs.Prelude.{◌==◌, ◌||◌}
 use Rattle.std.proofs.lemmas.List.{at_drop_more, at_drop_all, take_more, length-append, take-append-drop, append-nil}
 use Rattle.std.proofs.lemmas.Str.{encodes-append, length-encode}
@@ -8,6 +8,23 @@ use Rattle.std.proofs.lemmas.Bool.{lt-leb, le-leb}
 use Rattle.lsp_documents.proofs.LineLemmas.{other}
 use lib.Utf8.{encodes, encode}
 use Rattle.lsp_documents.specs.Lines.{ends_line, units, first_line, fitting}
+
+-- what fits is no more than all, and a line no more than the text
+pub fitting-le : (n : ℕ) (cs : List ℕ) → fitting n cs ≤ length cs
+fitting-le n [] = omega arith
+fitting-le n (c ∷ cs) = go (nat_le (units c) n) (fitting-le (n - units c) cs)
+  where
+    go : (b : Bool) → fitting (n - units c) cs ≤ length cs → cond b (suc (fitting (n - units c) cs)) 0 ≤ suc (length cs)
+    go true h = omega (arith, h)
+    go false h = omega arith
+
+pub first_line-le : (cs : List ℕ) → length (first_line cs) ≤ length cs
+first_line-le [] = omega arith
+first_line-le (c ∷ cs) = go (ends_line c) (first_line-le cs)
+  where
+    go : (b : Bool) → length (first_line cs) ≤ length cs → length (cond b [] (c ∷ first_line cs)) ≤ suc (length cs)
+    go true h = omega arith
+    go false h = omega (arith, h)
 
 -- one more character of the list cs, which stands behind n others
 pub record IsNext (cs : List ℕ) (n c : ℕ) : Type 0 where

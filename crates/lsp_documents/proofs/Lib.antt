@@ -1,3 +1,4 @@
+pub mod BackLemmas
 pub mod BlockLemmas
 pub mod ChangeLemmas
 pub mod FittingLemmas

@@ -81,7 +81,7 @@ offset_in_line cs rest line start character within h =
     ap (λ o. length (encodes (take (place_from (length cs) character o) cs))) h.is
     ∙ behind_start cs rest line start (fitting character (first_line rest)) within h
 
-from_line-add : (t rest : List ℕ) (a b : ℕ) → from_line a t ≡ Some rest → from_line (a + b) t ≡ from_line b rest
+pub from_line-add : (t rest : List ℕ) (a b : ℕ) → from_line a t ≡ Some rest → from_line (a + b) t ≡ from_line b rest
 from_line-add t rest a zero e = let same : a + 0 ≡ a = omega arith in ap (λ n. from_line n t) same ∙ e
 from_line-add t rest a (suc b) e =
     let more : a + suc b ≡ suc (a + b) = omega arith in

@@ -112,6 +112,7 @@ position_is bs offset line start character u b begun line_is not_later is =
     record {
       rest = rest;
       line_is = found.1.is;
+      within = a.within;
       begun = before;
       not_later = next_line_later cs rest at offset found.1.end a.bytes later;
       character_is = is ∙ ap (sum_by units) (sym line_chars);

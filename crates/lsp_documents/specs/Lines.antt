@@ -1,5 +1,5 @@
 -- The lines of a text and the places in them (LSP 3.17, "Text Documents", "Position"). A text is the list of its characters, and a place in it is how many of them stand before it.
-use Rattle.std.specs.Prelude.{◌≡◌, ℕ, zero, suc, ◌+◌, ◌-◌, ◌<◌, ◌≤◌, Bool, ◌==◌, ◌||◌, nat_lt, nat_le, List, [], ◌∷◌, length, take, Option, None, Some, IfSome, sum_by, if◌then◌else◌}
+use Rattle.std.specs.Prelude.{◌≡◌, ℕ, zero, suc, ◌+◌, ◌-◌, ◌<◌, ◌≤◌, Bool, ◌==◌, ◌||◌, nat_lt, nat_le, List, [], ◌∷◌, ◌++◌, length, take, Option, None, Some, IfSome, sum_by, if◌then◌else◌}
 use Rattle.std.specs.Option.{option_and_then}
 
 abbrev pub line_feed : ℕ
@@ -57,6 +57,29 @@ place_of line character t = place_from (length t) character (from_line line t)
 pub record IsPosition (t : List ℕ) (at line character : ℕ) : Type 0 where
   pub rest : List ℕ
   pub line_is : from_line line t ≡ Some rest
+  pub within : at ≤ length t
   pub begun : length t - length rest ≤ at
   pub not_later : IfSome (later_lines rest) (λ later. at < length t - length later)
   pub character_is : character ≡ sum_by units (take (at - (length t - length rest)) rest)
+
+-- ---- laws
+
+-- the place between the CR and the LF of one end of line
+pub record IsInLineEnd (t : List ℕ) (at : ℕ) : Type 0 where
+  pub before : List ℕ
+  pub later : List ℕ
+  pub text_is : t ≡ before ++ carriage_return ∷ line_feed ∷ later
+  pub at_is : at ≡ length before + 1
+
+-- places and positions lead to each other
+pub record PositionsComeBack : Type 0 where
+  -- each place has one position
+  pub some : (t : List ℕ) (at : ℕ) → at ≤ length t → (line : ℕ) × (character : ℕ) × IsPosition t at line character
+  pub one : (t : List ℕ) (at line character line' character' : ℕ) → IsPosition t at line character → IsPosition t at line' character' → (line ≡ line') × (character ≡ character')
+  -- whose place it is; that of a place inside an end of line is the one before it
+  pub back : (t : List ℕ) (at line character : ℕ) → IsPosition t at line character → ¬ IsInLineEnd t at → place_of line character t ≡ at
+  pub before_end : (t : List ℕ) (at line character : ℕ) → IsPosition t at line character → IsInLineEnd t at → place_of line character t + 1 ≡ at
+  -- the place of any position in a line is the last of the line whose character is not greater, and inside no end of line
+  pub in_line : (t rest : List ℕ) (line character : ℕ) → from_line line t ≡ Some rest → (c : ℕ) × (c ≤ character) × IsPosition t (place_of line character t) line c
+  pub last : (t : List ℕ) (at line c character : ℕ) → IsPosition t at line c → ¬ IsInLineEnd t at → c ≤ character → at ≤ place_of line character t
+  pub outside : (t : List ℕ) (line character : ℕ) → ¬ IsInLineEnd t (place_of line character t)

@@ -1,4 +1,4 @@
-ghost use Rattle.std.specs.Prelude.{◌≡◌, ◌≢◌, ◌^◌, ◌<◌, Some, None, Err, OnOk, OnErr, IfSome, IsSome, length, map, take, string_bytes};
+ghost use Rattle.std.specs.Prelude.{ℕ, ◌≡◌, ◌≢◌, ◌^◌, ◌<◌, Some, None, Err, OnOk, OnErr, IfSome, IsSome, length, map, take, string_bytes};
 ghost use Rattle.std.specs.Str.{chars, encode_utf8_all, IsCharBoundary};
 ghost use Rattle.lsp_documents.specs.Documents.{all_changed, change_of};
 ghost use Rattle.lsp_documents.specs.Lines.{place_of, IsPosition};
@@ -66,6 +66,10 @@ impl Document {
             (length (chars (take offset (encode_utf8_all t)))) p.line p.character) }
         ensures some { let bytes = encode_utf8_all self.now.text in
             IsCharBoundary bytes offset → length bytes < 2 ^ 32 → IsSome result }
+        ensures in_range { let t = self.now.text in let bytes = encode_utf8_all t in
+            IsCharBoundary bytes offset → (line : ℕ) (character : ℕ)
+            → IsPosition t (length (chars (take offset bytes))) line character
+            → line < 2 ^ 32 → character < 2 ^ 32 → IsSome result }
         ensures boundary { IsSome result → IsCharBoundary (encode_utf8_all self.now.text) offset }
     {
         let (line, character) = place::position(self.text.as_str(), offset)?;

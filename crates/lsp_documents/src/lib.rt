@@ -7,8 +7,10 @@ mod change;
 mod document;
 mod documents;
 mod error;
+mod law;
 mod place;
 
 pub use document::Document;
 pub use documents::Documents;
 pub use error::{ChangeError, OpenError};
+pub use law::positions_come_back;

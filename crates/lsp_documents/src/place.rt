@@ -1,5 +1,5 @@
 // The bytes of a text at which positions are.
-ghost use Rattle.std.specs.Prelude.{◌≡◌, ◌≤◌, ◌<◌, ◌+◌, ◌-◌, ◌^◌, length, take, drop, option_map, sum_by, Some, IfSome, IsSome};
+ghost use Rattle.std.specs.Prelude.{ℕ, ◌≡◌, ◌≤◌, ◌<◌, ◌+◌, ◌-◌, ◌^◌, length, take, drop, option_map, sum_by, Some, IfSome, IsSome};
 ghost use Rattle.std.specs.Str.{chars, encode_utf8_all, IsCharBoundary};
 ghost use Rattle.lsp_documents.specs.Lines.{first_line, later_lines, from_line, fitting, units, place_of, IsPosition};
 
@@ -187,6 +187,9 @@ pub fn position(text: &str, offset: usize) -> Option<(u32, u32)>
     ensures is { IfSome result (λ p.
         IsPosition (chars text.now) (length (chars (take offset text.now))) p.0 p.1) }
     ensures some { IsCharBoundary text.now offset → length text.now < 2 ^ 32 → IsSome result }
+    ensures in_range { IsCharBoundary text.now offset → (line : ℕ) (character : ℕ)
+        → IsPosition (chars text.now) (length (chars (take offset text.now))) line character
+        → line < 2 ^ 32 → character < 2 ^ 32 → IsSome result }
     ensures boundary { IsSome result → IsCharBoundary text.now offset }
 {
     if !text.is_char_boundary(offset) {

@@ -1,6 +1,7 @@
 -- What reading a dump comes to over a call.
-use Rattle.std.proofs.Common.{◌≡◌, ℕ, List, [], ◌++◌, Bool, true, false, ◌⊎◌, inl, inr, refl, sym, ◌∙◌, ap, subst}
-use Rattle.std.specs.Prelude.{◌≢◌, ⊤, Option, Some, Result, Ok, Err, OnOk, OnErr, IfErr, not}
+use Rattle.std.proofs.Common.{◌≡◌, ◌≤◌, ℕ, List, length, arith, [], ◌++◌, Bool, true, false, ◌⊎◌, inl, inr, refl, sym, ◌∙◌, ap, subst}
+use Rattle.std.specs.Prelude.{◌≢◌, ⊤, Option, Some, IfSome, Result, Ok, Err, OnOk, OnErr, IfErr, not, String}
+use Rattle.std.specs.declared.alloc.Global.{Global}
 use Rattle.std.specs.Bool.{MatchBool}
 use Rattle.std.specs.Result.{result_err}
 use Rattle.std.specs.Io.KnownBytes.{Consumes, Appends}
@@ -14,18 +15,19 @@ use Rattle.lsp_server.specs.Served.{call_bytes}
 use Rattle.lsp_server.specs.ServesSession.{SourceSinkTold}
 use Rattle.lsp_server.specs.Written.{IsPrefixOf}
 use Rattle.lsp_server.specs.Consuming.{Given, piece, end, ConsumerOutcome, goes_on, done, stops, IsLawfulConsumer, Did, Took, bytes_of, IsTimely, TookLast, consumer_outcome, last_outcome}
-use Rattle.lsp_server.proofs.KnownLemmas.{if_told, appends_none, appends_more, consumes_more, what_is_left, all_read, end_before, prefix_all}
+use Rattle.lsp_server.proofs.KnownLemmas.{if_told, consumes_none, appends_none, appends_more, consumes_more, what_is_left, all_read, end_before, prefix_all}
 use Rattle.lsp_index.specs.declared.lines.Lines.{Lines}
 use Rattle.lsp_index.specs.declared.lines.Search.{Search}
 use Rattle.lsp_index.specs.Graph.{Graph}
 use Rattle.lsp_index.specs.Queries.{QueryData}
-use Rattle.lsp_index.specs.Entries.{HasBadLine}
+use Rattle.lsp_index.specs.Entries.{HasBadLine, EndsBadLine}
 use Rattle.lsp_index.specs.Shown.{show_query}
+use Rattle.lsp_index.specs.Words.{query_asked}
 use Rattle.lsp_index.specs.Kept.{IsKept}
-use Rattle.lsp_index.specs.Answered.{IsAnswerLine, IsQueryAnswered, IsRefused, WroteBegun, WroteNone, IsLine}
+use Rattle.lsp_index.specs.Answered.{IsAnswerLine, IsQueryAnswered, IsRefused, WroteBegun, WroteNone, ReadGood, WhereAsked, IsLine}
 use Rattle.lsp_index.specs.Ended.{AnswerEnded, ended_with}
 use Rattle.lsp_index.specs.Reading.{IsAfter, TookEnd, TookEndPart, TookGood, TookBad, TookBytes, Reads, dump_reading}
-use Rattle.lsp_index.proofs.LineLemmas.{bad_stays, bad_ended, entries_good}
+use Rattle.lsp_index.proofs.LineLemmas.{bad_stays, bad_ended, ends_bad, entries_good, ended_good}
 use Rattle.lsp_index.proofs.ReadingLemmas.{took_both, took_last_bad, answer_line}
 
 -- ---- the laws
@@ -42,6 +44,12 @@ EndPart q bytes written = (written ≡ []) ⊎ ((line : List ℕ) × IsAnswerLin
 end_part : (q : QueryData) (bytes written : List ℕ) (t : Bool) → MatchBool t (HasBadLine bytes × (written ≡ [])) (IsAnswerLine q bytes written) → EndPart q bytes written
 end_part q bytes written true p = inl p.1
 end_part q bytes written false p = inr (written, p, prefix_all written)
+
+-- the line is begun only at the end
+at_end : {q : QueryData} (left : Option (List ℕ)) → left ≡ Some [] → (bytes written : List ℕ) → EndPart q bytes written
+    → (written ≡ []) ⊎ ((left ≡ Some []) × (line : List ℕ) × IsAnswerLine q bytes line × IsPrefixOf written line)
+at_end left ends bytes written (inl none) = inl none
+at_end left ends bytes written (inr part) = inr (ends, part.0, part.1, part.2)
 
 pub took_end_part : (a b : Lines × Search) (written : List ℕ) → TookEnd a written b → TookEndPart a written
 took_end_part a b written p = λ q bytes after. end_part q bytes written b.1.is_bad (p q bytes after)
@@ -126,8 +134,12 @@ module _ (q : QueryData) (a : Lines × Search) (start : IsAfter q [] a) (bytes :
   quiet : (b : Lines × Search) (now : Moment) → Took dump_reading a begin now b → Appends begin.taken now.taken []
   quiet b now t = subst (λ l. Appends begin.taken now.taken l) t.did.does.0 t.did.writes
 
+  -- and each line that ended is an entry
+  all_good : (b : Lines × Search) (now : Moment) (t : Took dump_reading a begin now b) → ¬ EndsBadLine t.read
+  all_good b now t = let after = t.did.does.1 q [] start in ended_good t.read after.es after.values
+
   pub between : (b : Lines × Search) (now : Moment) → Took dump_reading a begin now b → WroteNone (call_bytes bytes now.left begin.taken now.taken)
-  between b now t = record { read = t.read; gives = subst (λ l. Consumes l now.left t.read) is t.gives; writes = quiet b now t }
+  between b now t = record { read = t.read; gives = subst (λ l. Consumes l now.left t.read) is t.gives; good = all_good b now t; writes = quiet b now t }
 
   module _ (mid : Lines × Search) (middle : Moment) (took : Took dump_reading a begin middle mid) where
     gave : Consumes (Some bytes) middle.left took.read
@@ -139,12 +151,26 @@ module _ (q : QueryData) (a : Lines × Search) (start : IsAfter q [] a) (bytes :
     more_written : (now : Moment) (written : List ℕ) → Appends middle.taken now.taken written → Appends begin.taken now.taken written
     more_written now written writes = appends_more begin.taken middle.taken now.taken [] written (quiet mid middle took) writes
 
+    -- what was read, with the last piece
+    read_good : (now : Moment) (xs : List ℕ) → Consumes middle.left now.left xs → length xs ≤ 4096 → ReadGood (call_bytes bytes now.left begin.taken now.taken)
+    read_good now xs gives short = record {
+      early = took.read;
+      piece = xs;
+      gives = consumes_more (Some bytes) middle.left now.left took.read xs gave gives;
+      short = short;
+      good = all_good mid middle took;
+    }
+
     module _ (b : Lines × Search) (now : Moment) where
-      refused_at : (xs : List ℕ) → Consumes middle.left now.left xs → Did dump_reading mid (piece xs) done middle.taken now.taken b → IsRefused (call_bytes bytes now.left begin.taken now.taken)
-      refused_at xs gives d =
+      refused_at : (xs : List ℕ) → Consumes middle.left now.left xs → length xs ≤ 4096 → Did dump_reading mid (piece xs) done middle.taken now.taken b → IsRefused (call_bytes bytes now.left begin.taken now.taken)
+      unfolding read_good
+      refused_at xs gives short d =
+          let ended = d.does.1.1 q took.read after in
           let left = what_is_left bytes now.left (took.read ++ xs) (consumes_more (Some bytes) middle.left now.left took.read xs gave gives) in
           record {
-            bad = subst HasBadLine (sym left.2) (bad_ended ((took.read ++ xs) ++ left.0) (bad_stays (took.read ++ xs) left.0 (d.does.1.1 q took.read after)));
+            bad = subst HasBadLine (sym left.2) (bad_ended ((took.read ++ xs) ++ left.0) (bad_stays (took.read ++ xs) left.0 ended));
+            read = read_good now xs gives short;
+            enough = inr (ends_bad (took.read ++ xs) ended);
             writes = more_written now [] (subst (λ l. Appends middle.taken now.taken l) d.does.0 d.writes);
           }
 
@@ -158,46 +184,68 @@ module _ (q : QueryData) (a : Lines × Search) (start : IsAfter q [] a) (bytes :
           → MatchBool t (IsRefused (call_bytes bytes now.left begin.taken now.taken)) (IsQueryAnswered q (call_bytes bytes now.left begin.taken now.taken))
       ended_at gives timely true written p writes =
           let w = whole gives timely in
-          record { bad = subst HasBadLine (sym w.0) p.0; writes = more_written now [] (subst (λ l. Appends middle.taken now.taken l) p.1 writes) }
+          record {
+            bad = subst HasBadLine (sym w.0) p.0;
+            read = read_good now [] gives (omega arith);
+            enough = inl w.1;
+            writes = more_written now [] (subst (λ l. Appends middle.taken now.taken l) p.1 writes);
+          }
       ended_at gives timely false written p writes =
           let w = whole gives timely in
           let answers : IsAnswerLine q bytes written = subst (λ l. IsAnswerLine q l written) (sym w.0) p in
           record { good = entries_good bytes answers.es answers.entries; ends = w.1; line = written; answers = answers; writes = more_written now written writes }
 
-      ended : (last : Given) → Consumes middle.left now.left (bytes_of last) → IsTimely last begin.left now.left → Did dump_reading mid last done middle.taken now.taken b
+      ended : (last : Given) → Consumes middle.left now.left (bytes_of last) → length (bytes_of last) ≤ 4096 → IsTimely last begin.left now.left → Did dump_reading mid last done middle.taken now.taken b
           → MatchBool b.1.is_bad (IsRefused (call_bytes bytes now.left begin.taken now.taken)) (IsQueryAnswered q (call_bytes bytes now.left begin.taken now.taken))
-      ended (piece xs) gives timely d =
-          subst (λ t. MatchBool t (IsRefused (call_bytes bytes now.left begin.taken now.taken)) (IsQueryAnswered q (call_bytes bytes now.left begin.taken now.taken))) (sym d.does.1.0) (refused_at xs gives d)
-      ended end gives timely d = ended_at gives timely b.1.is_bad d.written (d.does q took.read after) d.writes
+      ended (piece xs) gives short timely d =
+          subst (λ t. MatchBool t (IsRefused (call_bytes bytes now.left begin.taken now.taken)) (IsQueryAnswered q (call_bytes bytes now.left begin.taken now.taken))) (sym d.does.1.0) (refused_at xs gives short d)
+      ended end gives short timely d = ended_at gives timely b.1.is_bad d.written (d.does q took.read after) d.writes
 
-      begun : (last : Given) (e : ServeError) → Consumes middle.left now.left (bytes_of last) → IsTimely last begin.left now.left → Did dump_reading mid last (stops e) middle.taken now.taken b
+      begun : (last : Given) (e : ServeError) → Consumes middle.left now.left (bytes_of last) → length (bytes_of last) ≤ 4096 → IsTimely last begin.left now.left → Did dump_reading mid last (stops e) middle.taken now.taken b
           → WroteBegun q (call_bytes bytes now.left begin.taken now.taken)
-      begun (piece xs) e gives timely d = record { written = d.written; begins = inl d.does.1; writes = more_written now d.written d.writes }
-      begun end e gives timely d =
+      begun (piece xs) e gives short timely d = record { read = read_good now xs gives short; written = d.written; begins = inl d.does.1; writes = more_written now d.written d.writes }
+      begun end e gives short timely d =
           let w = whole gives timely in
           record {
+            read = read_good now [] gives short;
             written = d.written;
-            begins = subst (λ l. EndPart q l d.written) (sym w.0) (d.does.1 q took.read after);
+            begins = at_end now.left w.1 bytes d.written (subst (λ l. EndPart q l d.written) (sym w.0) (d.does.1 q took.read after));
             writes = more_written now d.written d.writes;
           }
 
-  module _ (b : Lines × Search) (now : Moment) (size : ℕ) where
-    pub done_all : TookLast dump_reading a begin now size done b → MatchBool b.1.is_bad (IsRefused (call_bytes bytes now.left begin.taken now.taken)) (IsQueryAnswered q (call_bytes bytes now.left begin.taken now.taken))
-    done_all t = ended t.mid t.middle t.took b now t.last t.gives t.timely t.did
+  module _ (b : Lines × Search) (now : Moment) where
+    pub done_all : TookLast dump_reading a begin now 4096 done b → MatchBool b.1.is_bad (IsRefused (call_bytes bytes now.left begin.taken now.taken)) (IsQueryAnswered q (call_bytes bytes now.left begin.taken now.taken))
+    done_all t = ended t.mid t.middle t.took b now t.last t.gives t.short t.timely t.did
 
-    pub begun_last : (e : ServeError) → TookLast dump_reading a begin now size (stops e) b → WroteBegun q (call_bytes bytes now.left begin.taken now.taken)
-    begun_last e t = begun t.mid t.middle t.took b now t.last e t.gives t.timely t.did
+    pub begun_last : (e : ServeError) → TookLast dump_reading a begin now 4096 (stops e) b → WroteBegun q (call_bytes bytes now.left begin.taken now.taken)
+    begun_last e t = begun t.mid t.middle t.took b now t.last e t.gives t.short t.timely t.did
 
     pub begun_between : Took dump_reading a begin now b → WroteBegun q (call_bytes bytes now.left begin.taken now.taken)
-    begun_between t = record { written = []; begins = inl refl; writes = quiet b now t }
+    begun_between t =
+        let none = between b now t in
+        record {
+          read = record { early = none.read; piece = []; gives = subst (Consumes (Some bytes) now.left) (sym (append-nil none.read)) none.gives; short = omega arith; good = none.good };
+          written = [];
+          begins = inl refl;
+          writes = none.writes;
+        }
 
     -- what was written at any error
-    pub begun_any : (e : ServeError) → (IsInStep e → TookLast dump_reading a begin now size (stops e) b) → (IsBetweenReads e → Took dump_reading a begin now b) → WroteBegun q (call_bytes bytes now.left begin.taken now.taken)
+    pub begun_any : (e : ServeError) → (IsInStep e → TookLast dump_reading a begin now 4096 (stops e) b) → (IsBetweenReads e → Took dump_reading a begin now b) → WroteBegun q (call_bytes bytes now.left begin.taken now.taken)
     begun_any ReadFault last took = begun_between (took tt)
     begun_any WriteFault last took = begun_last WriteFault (last tt)
     begun_any ReadsSpent last took = begun_between (took tt)
     begun_any (DeskSpent n) last took = begun_last (DeskSpent n) (last tt)
     begun_any NoMemory last took = begun_last NoMemory (last tt)
+
+-- nothing was read, nor written
+pub nothing_read : (words : List (String Global)) (left taken : Option (List ℕ)) → WhereAsked words left (λ q bytes. WroteBegun q (call_bytes bytes left taken taken))
+nothing_read words left taken = if_told (query_asked words) (λ q. IfSome left (λ bytes. WroteBegun q (call_bytes bytes left taken taken))) (λ q asked. if_told left _ (λ bytes is. record {
+  read = record { early = []; piece = []; gives = subst (λ o. Consumes o left []) is (consumes_none left); short = omega arith; good = ended_good [] [] refl };
+  written = [];
+  begins = inl refl;
+  writes = appends_none taken;
+}))
 
 -- whether no line is bad
 pub flipped : (bad : Bool) (P Q : Type 0) → MatchBool bad P Q → MatchBool (not bad) Q P
@@ -214,7 +262,7 @@ answer_ended q a b start count told made made_after (Ok x) last took flushed fau
     let begin : Moment = moment told.left told.taken told.flushed in
     let now : Moment = moment told.left_after told.taken_after told.flushed_after in
     record {
-      done = if_told told.left _ (λ bytes is. flipped b.1.is_bad _ _ (done_all q a start bytes begin is b now 4096 (last tt)));
+      done = if_told told.left _ (λ bytes is. flipped b.1.is_bad _ _ (done_all q a start bytes begin is b now (last tt)));
       flushed = flushed;
       faults = faults;
       within = within;
@@ -232,5 +280,5 @@ answer_ended q a b start count told made made_after (Err e) last took flushed fa
       within = within;
       no_desk = no_desk_of a b begin now 4096 e last;
       between = λ at. if_told told.left _ (λ bytes is. between q a start bytes begin is b now (took at));
-      part = if_told told.left _ (λ bytes is. begun_any q a start bytes begin is b now 4096 e last took);
+      part = if_told told.left _ (λ bytes is. begun_any q a start bytes begin is b now e last took);
     }

@@ -2,6 +2,8 @@ pub mod TableLemmas
 pub mod ReachLemmas
 pub mod KeptLemmas
 pub mod SetLemmas
+pub mod PlainLemmas
+pub mod OneLemmas
 pub mod ValueLemmas
 pub mod HoverLemmas
 pub mod LineLemmas

@@ -1,5 +1,5 @@
 -- The lines that end in bytes, and the last one.
-use Rattle.std.proofs.Common.{◌≡◌, ◌==◌, ℕ, zero, suc, ◌+◌, ◌≤◌, length, take, drop, get_or, take-append-drop, List, [], ◌∷◌, ◌++◌, Bool, true, false, cond, ◌||◌, not, Some, None, map, refl, sym, ◌∙◌, ap, subst, append_assoc, true≢false, arith}
+use Rattle.std.proofs.Common.{◌≡◌, ◌==◌, ℕ, zero, suc, ◌+◌, ◌≤◌, length, take, drop, get_or, take-append-drop, List, [], ◌∷◌, ◌++◌, Bool, true, false, cond, ◌||◌, not, Some, None, map, refl, sym, ◌∙◌, ap, subst, append_assoc, true≢false, arith, ◌⊎◌, inl, inr}
 use Rattle.std.specs.Prelude.{is_none}
 use Rattle.std.specs.List.{list_any, slice_split, onto_first}
 use Rattle.std.specs.Str.Lines.{lines, lines_of_parts, strip_carriage_return}
@@ -9,7 +9,7 @@ use Rattle.std.proofs.lemmas.List.Elements.{filter-append}
 use Rattle.std.proofs.lemmas.List.Folds.{list_any-append}
 use Rattle.memchr.specs.Find.{Nowhere, Passes, IsFirstByte, is_byte}
 use Rattle.lsp_lsif.specs.declared.entry.Entry.{Entry}
-use Rattle.lsp_index.specs.Entries.{value_of_line, entry_lines, AreEntries, HasBadLine}
+use Rattle.lsp_index.specs.Entries.{value_of_line, entry_lines, AreEntries, HasBadLine, EndsBadLine}
 use Rattle.lsp_index.specs.Reading.{ended_lines, part_after, HasNoEnd, filled, values_of, shown_all, has_bad, HasBadEnded}
 
 -- ---- bytes after bytes
@@ -166,6 +166,39 @@ pub bad_ended : (bytes : List ℕ) → HasBadEnded bytes → HasBadLine bytes
 bad_ended bytes h =
     ap has_bad (lines_are bytes) ∙ bad-append (ended_lines [] bytes) (last_of (part_after [] bytes)) ∙ ap (λ b. b || has_bad (last_of (part_after [] bytes))) h
 
+-- the last end of a line in bytes
+last_end : (bs : List ℕ) → HasNoEnd bs ⊎ ((before : List ℕ) × (later : List ℕ) × (bs ≡ before ++ 10 ∷ later) × HasNoEnd later)
+last_end [] = inl refl
+last_end (b ∷ bs) =
+    elim (last_end bs) [
+      | inl none ↦ at none (b == 10) refl
+      | inr found ↦ inr (b ∷ found.0, found.1, ap (λ l. b ∷ l) found.2, found.3)
+    ]
+  where
+    at : HasNoEnd bs → (t : Bool) → (b == 10) ≡ t → HasNoEnd (b ∷ bs) ⊎ ((before : List ℕ) × (later : List ℕ) × (b ∷ bs ≡ before ++ 10 ∷ later) × HasNoEnd later)
+    at none true is = inr ([], bs, ap (λ c. c ∷ bs) (eqb-true b 10 is), none)
+    at none false is = inl (ap (λ t. t || list_any (λ c. c == 10) bs) is ∙ none)
+
+pub ends_bad : (bytes : List ℕ) → HasBadEnded bytes → EndsBadLine bytes
+ends_bad bytes h =
+    elim (last_end bytes) [
+      | inl none ↦ absurd (true≢false (sym h ∙ ap has_bad (ended_none [] bytes none)))
+      | inr found ↦
+          let front = found.0 ++ 10 ∷ [] in
+          let parts : bytes ≡ front ++ found.1 = found.2 ∙ sym (append_assoc found.0 (10 ∷ []) found.1) in
+          let ends : ended_lines [] bytes ≡ ended_lines [] front =
+          ap (ended_lines []) parts ∙ ended-append [] front found.1 ∙ ap (λ l. ended_lines [] front ++ l) (ended_none (part_after [] front) found.1 found.3) ∙ append-nil (ended_lines [] front) in
+          (found.0, found.1, found.2, bad_ended front (sym (ap has_bad ends) ∙ h))
+    ]
+
+pub has_ended : (bytes : List ℕ) → EndsBadLine bytes → HasBadEnded bytes
+unfolding last_of
+has_ended bytes h =
+    let front = h.0 ++ 10 ∷ [] in
+    let whole : part_after [] front ≡ [] = part-append [] h.0 (10 ∷ []) in
+    let ends : lines front ≡ ended_lines [] front = lines_are front ∙ ap (λ p. ended_lines [] front ++ last_of p) whole ∙ append-nil (ended_lines [] front) in
+    subst HasBadEnded (append_assoc h.0 (10 ∷ []) h.1 ∙ sym h.2) (bad_stays front h.1 (sym (ap has_bad ends) ∙ h.3))
+
 any-values : (ls : List (List ℕ)) → list_any (λ l. is_none (value_of_line l)) ls ≡ list_any is_none (map value_of_line ls)
 any-values [] = refl
 any-values (l ∷ ls) = ap (λ b. is_none (value_of_line l) || b) (any-values ls)
@@ -174,6 +207,12 @@ none_bad : (es : List Entry) → list_any is_none (shown_all es) ≡ false
 none_bad [] = refl
 none_bad (e ∷ es) = none_bad es
 
--- where entries stand in all lines, none is bad
+-- where entries stand in lines, none is bad
+values_good : (ls : List (List ℕ)) (es : List Entry) → values_of ls ≡ shown_all es → has_bad ls ≡ true → ⊥
+values_good ls es are bad = true≢false (sym bad ∙ any-values (filled ls) ∙ ap (list_any is_none) are ∙ none_bad es)
+
 pub entries_good : (bytes : List ℕ) (es : List Entry) → AreEntries bytes es → HasBadLine bytes → ⊥
-entries_good bytes es are bad = true≢false (sym bad ∙ any-values (entry_lines bytes) ∙ ap (list_any is_none) are ∙ none_bad es)
+entries_good bytes es are bad = values_good (lines bytes) es are bad
+
+pub ended_good : (bytes : List ℕ) (es : List Entry) → values_of (ended_lines [] bytes) ≡ shown_all es → ¬ EndsBadLine bytes
+ended_good bytes es are bad = values_good (ended_lines [] bytes) es are (has_ended bytes bad)

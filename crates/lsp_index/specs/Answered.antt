@@ -1,5 +1,5 @@
 -- What a program writes for a query over the bytes of a dump.
-use Rattle.std.specs.Prelude.{◌≡◌, ◌⊎◌, ⊤, ℕ, List, [], ◌∷◌, ◌++◌, map, Option, Some, None, IfSome, String, Vec, string_bytes}
+use Rattle.std.specs.Prelude.{◌≡◌, ◌≤◌, ◌⊎◌, ⊤, ℕ, List, [], ◌∷◌, ◌++◌, length, map, Option, Some, None, IfSome, String, Vec, string_bytes}
 use Rattle.std.specs.Io.KnownBytes.{Appends, Consumes}
 use Rattle.std.specs.declared.alloc.Global.{Global}
 use Rattle.lsp_server.specs.Served.{CallBytes}
@@ -8,7 +8,7 @@ use Rattle.lsp_base.specs.declared.position.Position.{Position}
 use Rattle.lsp_lsif.specs.declared.entry.Entry.{Entry}
 use Rattle.lsp_index.specs.Graph.{Graph, graph_of}
 use Rattle.lsp_index.specs.Queries.{QueryData, IsAnswer}
-use Rattle.lsp_index.specs.Entries.{AreEntries, HasBadLine, entry_data}
+use Rattle.lsp_index.specs.Entries.{AreEntries, HasBadLine, EndsBadLine, entry_data}
 use Rattle.lsp_index.specs.Words.{query_asked}
 
 -- the line that answers a query over a dump: the text of the answer, and LF
@@ -27,16 +27,34 @@ pub record IsQueryAnswered (q : QueryData) (call : CallBytes) : Type 0 where
   pub answers : IsAnswerLine q call.bytes line
   pub writes : Appends call.taken call.taken_after line
 
--- a line is bad, and nothing was written
+-- the bytes that were read: no bad line ends in them but for a last piece, of at most 4,096 bytes, so nothing was read after a piece in which one ends
+pub record ReadGood (call : CallBytes) : Type 0 where
+  pub early : List ℕ
+  pub piece : List ℕ
+  pub gives : Consumes (Some call.bytes) call.left (early ++ piece)
+  pub short : length piece ≤ 4096
+  pub good : ¬ EndsBadLine early
+
+-- a line is bad, it ends in what was read or all was, and nothing was written
 pub record IsRefused (call : CallBytes) : Type 0 where
   pub bad : HasBadLine call.bytes
+  pub read : ReadGood call
+  pub enough : (call.left ≡ Some []) ⊎ EndsBadLine (read.early ++ read.piece)
   pub writes : Appends call.taken call.taken_after []
 
--- nothing was written, or what begins the line
+-- nothing was written, or all bytes were read and it begins the line
 pub record WroteBegun (q : QueryData) (call : CallBytes) : Type 0 where
+  pub read : ReadGood call
   pub written : List ℕ
-  pub begins : (written ≡ []) ⊎ ((line : List ℕ) × IsAnswerLine q call.bytes line × IsPrefixOf written line)
+  pub begins : (written ≡ []) ⊎ ((call.left ≡ Some []) × (line : List ℕ) × IsAnswerLine q call.bytes line × IsPrefixOf written line)
   pub writes : Appends call.taken call.taken_after written
+
+-- these bytes were read, no bad line ends in them, and nothing was written
+pub record WroteNone (call : CallBytes) : Type 0 where
+  pub read : List ℕ
+  pub gives : Consumes (Some call.bytes) call.left read
+  pub good : ¬ EndsBadLine read
+  pub writes : Appends call.taken call.taken_after []
 
 -- the words ask a query, over a source that tells its bytes: this holds of both
 abbrev pub WhereAsked : List (String Global) → Option (List ℕ) → (QueryData → List ℕ → Type 0) → Type 0
@@ -56,6 +74,12 @@ abbrev pub AreAnswers : (Position → QueryData) → List ℕ → List Position 
 AreAnswers asked bytes ps None = HasBadLine bytes
 AreAnswers asked bytes ps (Some lines) = (¬ HasBadLine bytes) × AreLines (λ p line. IsAnswerLine (asked p) bytes line) ps lines.items
 
+-- ---- a law
+
+-- over one dump a query has one answer
+abbrev pub OneAnswer : Type 0
+OneAnswer = (q : QueryData) (bytes line other : List ℕ) → IsAnswerLine q bytes line → IsAnswerLine q bytes other → line ≡ other
+
 -- ---- for private clauses
 
 -- the text of the answer over the graph, and LF
@@ -65,9 +89,3 @@ IsLine q g line = (text : List ℕ) × IsAnswer q g text × (line ≡ text ++ 10
 -- the same query at another position
 abbrev pub query_at : QueryData → Position → QueryData
 query_at q p = record q { position = p }
-
--- these bytes were read, and nothing was written
-pub record WroteNone (call : CallBytes) : Type 0 where
-  pub read : List ℕ
-  pub gives : Consumes (Some call.bytes) call.left read
-  pub writes : Appends call.taken call.taken_after []

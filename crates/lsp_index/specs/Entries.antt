@@ -1,5 +1,5 @@
 -- The entries of a dump, one a line, and what a query sees of each.
-use Rattle.std.specs.Prelude.{◌≡◌, ◌==◌, ℕ, List, length, Bool, true, false, not, Option, Some, None, option_and_then, is_none, map, filter, if◌then◌else◌}
+use Rattle.std.specs.Prelude.{◌≡◌, ◌==◌, ℕ, List, [], ◌∷◌, ◌++◌, length, Bool, true, false, not, Option, Some, None, option_and_then, is_none, map, filter, if◌then◌else◌}
 use Rattle.std.specs.List.{list_any}
 use Rattle.std.specs.Str.{is_utf8}
 use Rattle.std.specs.Str.Lines.{lines}
@@ -44,6 +44,10 @@ entry_lines bytes = filter (λ l. not (length l == 0)) (lines bytes)
 
 abbrev pub HasBadLine : List ℕ → Type 0
 HasBadLine bytes = list_any (λ l. is_none (value_of_line l)) (entry_lines bytes) ≡ true
+
+-- a bad line ends in these bytes, with its LF
+abbrev pub EndsBadLine : List ℕ → Type 0
+EndsBadLine bytes = (before : List ℕ) × (later : List ℕ) × (bytes ≡ before ++ 10 ∷ later) × HasBadLine (before ++ 10 ∷ [])
 
 -- these entries stand in the lines, one in each
 abbrev pub AreEntries : List ℕ → List Entry → Type 0

@@ -3,6 +3,7 @@
 
 mod entry;
 mod graph;
+mod law;
 mod lines;
 mod query;
 mod run;
@@ -10,5 +11,6 @@ mod search;
 mod table;
 mod words;
 
+pub use law::one_answer;
 pub use query::Request;
 pub use run::{answer, answer_each};

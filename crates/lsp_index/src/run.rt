@@ -36,11 +36,11 @@ pub fn answer<I: Source, O: Sink>(
     ensures untouched { query_asked words.now.items ≡ None
         → (source.new ≡ source.old) × (sink.new ≡ sink.old) }
 
-    // No line is bad, and the line of the answer was written.
+    // No line is bad, all bytes were read, and the line of the answer was written.
     ensures done { result ≡ 0 → WhereAsked words.now.items (I.left source.old) (λ q bytes.
         IsQueryAnswered q (call_bytes bytes (I.left source.new) (O.taken sink.old) (O.taken sink.new))) }
 
-    // A line is bad, and nothing was written.
+    // A line is bad, nothing was read after the piece in which it ends, and nothing was written.
     ensures bad { result ≡ 8 → WhereAsked words.now.items (I.left source.old) (λ q bytes.
         IsRefused (call_bytes bytes (I.left source.new) (O.taken sink.old) (O.taken sink.new))) }
 
@@ -64,7 +64,7 @@ pub fn answer<I: Source, O: Sink>(
         → ¬ CountRose (O.faults sink.old) (O.faults sink.new)
         → (result ≡ 0) ⊎ (result ≡ 6) ⊎ (result ≡ 8)) }
 
-    // What was written by then.
+    // What was read and written by then.
     ensures unwritten { (result ≡ 3) ⊎ (result ≡ 5)
         → WhereAsked words.now.items (I.left source.old) (λ q bytes.
         WroteNone (call_bytes bytes (I.left source.new) (O.taken sink.old) (O.taken sink.new))) }
