@@ -3,7 +3,7 @@ ghost use Rattle.lsp_caps_text.specs.Symbols.{document_symbol_client_capabilitie
 
 use lsp_base::{SymbolKindCapability, TagSupport};
 use lsp_kinds::SymbolTag;
-use lsp_shape::{Misfit, NoMemory, Optional, Supported, Wire, Writer, read_object};
+use lsp_shape::{Misfit, NoMemory, Reader, Wire, Writer};
 use serde_json::Value;
 use std::alloc::Global;
 
@@ -35,22 +35,14 @@ impl Wire for DocumentSymbolClientCapabilities {
         alloc: Global,
         value: &Value,
     ) -> Result<DocumentSymbolClientCapabilities, Misfit> {
-        let (dynamic_registration, symbol_kind, hierarchical_document_symbol_support, tag_support) =
-            read_object(
-                alloc,
-                value,
-                (
-                    Optional("dynamicRegistration"),
-                    Optional("symbolKind"),
-                    Optional("hierarchicalDocumentSymbolSupport"),
-                    Supported("tagSupport"),
-                ),
-            )?;
+        let object = Reader::new(alloc, value)?;
         Ok(DocumentSymbolClientCapabilities {
-            dynamic_registration,
-            symbol_kind,
-            hierarchical_document_symbol_support,
-            tag_support,
+            dynamic_registration: object.optional("dynamicRegistration")?,
+            symbol_kind: object.optional("symbolKind")?,
+            hierarchical_document_symbol_support: object.optional(
+                "hierarchicalDocumentSymbolSupport",
+            )?,
+            tag_support: object.supported("tagSupport")?,
         })
     }
 
