@@ -1,5 +1,5 @@
 // Changes of a text.
-ghost use Rattle.std.specs.Prelude.{◌≡◌, ◌≢◌, Some, None, Err, IsSome, OnOk, OnErr, length, map, string_bytes};
+ghost use Rattle.std.specs.Prelude.{◌≡◌, ◌≢◌, [], Some, None, Err, IsOk, IsSome, OnOk, OnErr, length, map, string_bytes};
 ghost use Rattle.std.specs.Str.{chars};
 ghost use Rattle.lsp_documents.specs.Documents.{change_of, changed, all_changed};
 
@@ -44,9 +44,13 @@ pub(crate) fn apply_all(
         → all_changed (map change_of changes.now) (chars (string_bytes text.old)) ≡ None }
     ensures memory { length changes.now ≡ 1 → result ≡ Err ChangeError.NoMemory
         → IsSome (all_changed (map change_of changes.now) (chars (string_bytes text.old))) }
+    ensures none { changes.now ≡ [] → IsOk result }
     ensures causes { result ≢ Err ChangeError.NotOpen }
     ensures err { OnErr result (string_bytes text.new ≡ string_bytes text.old) }
 {
+    if changes.is_empty() {
+        return Ok(());
+    }
     if let [change] = changes {
         return apply(text, change);
     }

@@ -1,4 +1,4 @@
-ghost use Rattle.std.specs.Prelude.{ℕ, ◌≡◌, ◌≢◌, ◌^◌, ◌<◌, Some, None, Err, OnOk, OnErr, IfSome, IsSome, length, map, take, string_bytes};
+ghost use Rattle.std.specs.Prelude.{ℕ, ◌≡◌, ◌≢◌, ◌^◌, ◌<◌, [], Some, None, Err, IsOk, OnOk, OnErr, IfSome, IsSome, length, map, take, string_bytes};
 ghost use Rattle.std.specs.Str.{chars, encode_utf8_all, IsCharBoundary};
 ghost use Rattle.lsp_documents.specs.Documents.{all_changed, change_of};
 ghost use Rattle.lsp_documents.specs.Lines.{place_of, IsPosition};
@@ -89,6 +89,7 @@ impl Document {
             → all_changed (map change_of changes.now) self.old.text ≡ None }
         ensures memory { length changes.now ≡ 1 → result ≡ Err ChangeError.NoMemory
             → IsSome (all_changed (map change_of changes.now) self.old.text) }
+        ensures none { changes.now ≡ [] → IsOk result }
         ensures causes { result ≢ Err ChangeError.NotOpen }
         ensures err { OnErr result (self.new ≡ self.old) }
     {

@@ -1,4 +1,4 @@
-ghost use Rattle.std.specs.Prelude.{◌≡◌, ◌↔◌, Some, None, Err, IsSome, OnOk, OnErr, IsTrue, length, map, option_map, string_bytes, true};
+ghost use Rattle.std.specs.Prelude.{◌≡◌, ◌≢◌, ◌↔◌, [], Some, None, Err, IsSome, OnOk, OnErr, IsTrue, length, map, option_map, string_bytes, true};
 ghost use Rattle.std.specs.Str.{chars};
 ghost use Rattle.std.specs.FinMap as fin;
 ghost use Rattle.lsp_documents.specs.OpenDocument.{document_of};
@@ -76,9 +76,9 @@ impl Documents {
     }
 
     /// Makes changes of an open document in order, each of the text that the one before leaves, or
-    /// none of them: `NotOpen` where no document of that URI is open, `StartBehindEnd` only where a
-    /// range has its start behind its end, and always where that is the one change. After an error
-    /// all documents are as before.
+    /// none of them: `NotOpen` where no document of that URI is open, `StartBehindEnd` only where the
+    /// place of a range's start is behind that of its end, and always where that is the one change.
+    /// No changes take no memory. After an error all documents are as before.
     pub fn change(
         &mut self,
         uri: &str,
@@ -92,6 +92,7 @@ impl Documents {
             → after_changes uri.now version (map change_of changes.now) self.old ≡ None }
         ensures memory { length changes.now ≡ 1 → result ≡ Err ChangeError.NoMemory
             → IsSome (after_changes uri.now version (map change_of changes.now) self.old) }
+        ensures none { changes.now ≡ [] → result ≢ Err ChangeError.NoMemory }
         ensures err { OnErr result (self.new ≡ self.old) }
     {
         let Some(document) = self.documents.get_mut(uri) else {
