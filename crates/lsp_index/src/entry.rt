@@ -1,6 +1,7 @@
 // The entries of a dump, as far as a query looks at them.
-ghost use Rattle.std.specs.Prelude.{◌≡◌, IfOk, IfSome, is_some, if◌then◌else◌};
+ghost use Rattle.std.specs.Prelude.{◌≡◌, true, IfOk, OnErr, IfSome, is_some, if◌then◌else◌};
 ghost use Rattle.std.specs.Str.{is_utf8};
+ghost use Rattle.lsp_rpc.specs.Ids.{IsString};
 ghost use Rattle.lsp_rpc.specs.Shown.{show_id};
 ghost use Rattle.lsp_base.specs.Position.{id_of};
 ghost use Rattle.lsp_index.specs.Entries.{vertex_data, role_of as role_of_def, hover_data};
@@ -42,8 +43,9 @@ pub(crate) fn node(alloc: Global, request: Request, vertex: &Vertex) -> Result<N
 
 // By `write_text` the crate would have the drop of a hover to prove.
 fn hover_node(alloc: Global, is_asked: bool, hover: &Hover) -> Result<Node, NoMemory>
-    ensures { IfOk result (λ n. show_node n
+    ensures node { IfOk result (λ n. show_node n
         ≡ (if is_asked then hover_data hover.now else other_vertex)) }
+    ensures memory { OnErr result (is_asked ≡ true) }
 {
     if is_asked {
         let value = hover.to_value(alloc)?;
@@ -73,7 +75,8 @@ pub(crate) fn role_of(is_definition: bool, property: Option<ItemKind>) -> Role
 
 /// The id that an entry names, as a key of the tables. Only the copy of a string takes memory.
 pub(crate) fn key_of(alloc: Global, id: &NumberOrString) -> Result<Id, NoMemory>
-    ensures { IfOk result (λ key. show_id key ≡ id_of id.now) }
+    ensures key { IfOk result (λ key. show_id key ≡ id_of id.now) }
+    ensures memory { OnErr result (IsString (id_of id.now)) }
 {
     match id {
         NumberOrString::Number(number) => Ok(Id::Number(i64::from(*number))),

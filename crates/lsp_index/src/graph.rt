@@ -1,10 +1,10 @@
 // A dump as a graph, as far as a query looks at it.
-ghost use Rattle.std.specs.Prelude.{◌≡◌, OnOk, [], map, option_map, string_bytes};
+ghost use Rattle.std.specs.Prelude.{◌≡◌, true, IsOk, OnOk, OnErr, [], map, option_map, string_bytes};
 ghost use Rattle.lsp_base.specs.Position.{id_of};
 ghost use Rattle.lsp_rpc.specs.Shown.{show_id};
 ghost use Rattle.lsp_uri.specs.Uri.{uri_text};
 ghost use Rattle.lsp_index.specs.Entries.{entry_data, entry_ids, vertex_data, edge_data, result_data, item_data};
-ghost use Rattle.lsp_index.specs.Graph.{Graph, graph_of, vertex_entry, contains_edge, next_edge};
+ghost use Rattle.lsp_index.specs.Graph.{Graph, graph_of, vertex_entry, contains_edge, next_edge, unseen_edge};
 ghost use Rattle.lsp_index.specs.Kept.{IsKept, with_entry};
 ghost use Rattle.lsp_index.specs.Queries.{document_in, range_in, hover_in, document_at, range_at, hover_at, items_from};
 ghost use Rattle.lsp_index.specs.Shown.{show_node, show_item_edge};
@@ -195,8 +195,9 @@ impl Index {
     }
 
     fn keep_edge(&mut self, request: Request, edge: Edge) -> Result<(), NoMemory>
-        ensures { OnOk result ((g : Graph) → IsKept g self.old
+        ensures kept { OnOk result ((g : Graph) → IsKept g self.old
             → IsKept (with_entry g (edge_data request edge)) self.new) }
+        ensures unseen { edge_data request edge ≡ unseen_edge → IsOk result }
     {
         match edge {
             Edge::Contains(edge) => self.keep_contained(edge),
@@ -237,8 +238,9 @@ impl Index {
 
     // Keeps an edge to a result, if its label is the one that is asked for.
     fn keep_result(&mut self, is_asked: bool, edge: EdgeData) -> Result<(), NoMemory>
-        ensures { OnOk result ((g : Graph) → IsKept g self.old
+        ensures kept { OnOk result ((g : Graph) → IsKept g self.old
             → IsKept (with_entry g (result_data is_asked edge)) self.new) }
+        ensures memory { OnErr result (is_asked ≡ true) }
     {
         if is_asked {
             put_first(&mut self.results, Id::from(edge.out_v), Id::from(edge.in_v))

@@ -1,7 +1,8 @@
 // The lines of a dump, and the index that their entries make.
-ghost use Rattle.std.specs.Prelude.{◌≡◌, ◌++◌, ◌∷◌, ℕ, List, [], ⊤, true, false, Ok, IfOk, OnOk, IfErr, OnErr, option_and_then, string_bytes};
+ghost use Rattle.std.specs.Prelude.{◌≡◌, ◌≢◌, ◌++◌, ◌∷◌, ℕ, List, [], ⊤, true, false, Ok, IfOk, OnOk, IfErr, OnErr, option_and_then, string_bytes};
 ghost use Rattle.std.specs.Result.{result_err};
 ghost use Rattle.std.specs.Io.KnownBytes.{Appends};
+ghost use Rattle.std.specs.Str.{is_utf8};
 ghost use Rattle.std.specs.Str.Lines.{strip_carriage_return};
 ghost use Rattle.serde_json.specs.Read as json_text;
 ghost use Rattle.lsp_shape.specs.Read.{read};
@@ -80,7 +81,8 @@ impl Search {
 
     // Takes a line with what precedes its LF, and says whether it is an entry or empty.
     fn take_line(&mut self, line: &[u8]) -> Result<bool, NoMemory>
-        ensures { IfOk result (λ good. TookLine self.old line.now good self.new) }
+        ensures took { IfOk result (λ good. TookLine self.old line.now good self.new) }
+        ensures memory { OnErr result ((is_utf8 line.now ≡ true) × (line.now ≢ [])) }
     {
         if line.is_empty() {
             return Ok(true);

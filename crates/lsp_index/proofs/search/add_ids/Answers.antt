@@ -8,5 +8,5 @@ use Rattle.lsp_index.proofs.search.add_ids.Goals as goal
 
 pub loop-id-preserved : goal.loop-id-preserved
 loop-id-preserved c =
-    insert-shown c.loop-id.set.keys c.insert.new.self.keys c.in_ok-key_of.field-0 (id_of c.id-item.result) c.in_ok-key_of.ensures c.in_ok-insert.ensures.keys ∙ ap (λ l. with_new_id l (id_of c.id-item.result)) c.loop-id.invariant
+    insert-shown c.loop-id.set.keys c.insert.new.self.keys c.in_ok-key_of.field-0 (id_of c.id-item.result) c.in_ok-key_of.ensures.key c.in_ok-insert.ensures.keys ∙ ap (λ l. with_new_id l (id_of c.id-item.result)) c.loop-id.invariant
     ∙ sym (fold_shown_more with_new_id id_of (map show_id c.args.set.now.keys) c.deref-id-items.result.now c.loop-id.id-index c.id-item.result (omega arith) c.id-item.is)

@@ -10,7 +10,7 @@ use Rattle.lsp_index.proofs.graph.Index.add_ranges.Goals as goal
 
 pub loop-id-preserved : goal.loop-id-preserved
 loop-id-preserved c = λ g kept.
-    c.in_ok-add_range.ensures ∙ ap (with_range (uri_text c.args.uri.now) (map show_location c.loop-id.found.keys)) (c.range.ensures g kept ∙ ap (range_at g) c.in_ok-key.ensures)
+    c.in_ok-add_range.ensures ∙ ap (with_range (uri_text c.args.uri.now) (map show_location c.loop-id.found.keys)) (c.range.ensures g kept ∙ ap (range_at g) c.in_ok-key.ensures.key)
     ∙ ap (λ l. with_range (uri_text c.args.uri.now) l (range_at g (id_of c.id-item.result))) (c.loop-id.invariant g kept)
     ∙ sym (fold_shown_more (λ ls id. with_range (uri_text c.args.uri.now) ls (range_at g id)) id_of (map show_location c.args.found.now.keys) c.deref-id-items.result.now c.loop-id.id-index c.id-item.result (omega arith) c.id-item.is)
 

@@ -13,4 +13,4 @@ returns-in-Vertex c =
 
 pub returns-in-Edge : goal.returns-in-Edge
 returns-in-Edge c =
-    subst (λ p. OnOk c.keep_edge.result ((g : Graph) → IsKept g c.args.self.now → IsKept (with_entry g (element_data c.args.request (id_of c.args.entry.id) p)) c.keep_edge.new.self)) (sym c.in-Edge.is) c.keep_edge.ensures
+    subst (λ p. OnOk c.keep_edge.result ((g : Graph) → IsKept g c.args.self.now → IsKept (with_entry g (element_data c.args.request (id_of c.args.entry.id) p)) c.keep_edge.new.self)) (sym c.in-Edge.is) c.keep_edge.ensures.kept

@@ -5,8 +5,8 @@ use Rattle.lsp_index.proofs.ValueLemmas.{on_ok}
 use Rattle.lsp_index.proofs.KeptLemmas.{first_kept_as}
 use Rattle.lsp_index.proofs.graph.Index.keep_result.Goals as goal
 
-pub returns-then-is_asked : goal.returns-then-is_asked
-returns-then-is_asked c = rw c.if-is_asked.true (on_ok c.put_first.result (λ put g kept. record {
+pub returns-then-is_asked-clause-kept : goal.returns-then-is_asked-clause-kept
+returns-then-is_asked-clause-kept c = rw c.if-is_asked.true (on_ok c.put_first.result (λ put g kept. record {
   vertices = kept.vertices;
   contained = kept.contained;
   nexts = kept.nexts;

@@ -11,7 +11,7 @@ pub returns-then-is_empty : goal.returns-then-is_empty
 returns-then-is_empty c =
     let empty : c.args.self.now.part.items ≡ [] = nil_from_length _ (sym c.args.self.now.part.ok.0 ∙ eqb-true _ 0 (sym c.is_empty.ensures ∙ c.if-is_empty.true)) in
     IfOk-weaker c.take_line.result _ _ (λ good t. took_end c.args.self.now c.args.self.now c.args.search.now c.take_line.new.self c.args.bytes.now good c.requires
-    (subst (λ l. TookLine c.args.search.now l good c.take_line.new.self) (c.without_cr.ensures ∙ ap (λ p. strip_carriage_return (p ++ c.args.bytes.now)) (sym empty)) t) empty) c.take_line.ensures
+    (subst (λ l. TookLine c.args.search.now l good c.take_line.new.self) (c.without_cr.ensures ∙ ap (λ p. strip_carriage_return (p ++ c.args.bytes.now)) (sym empty)) t) empty) c.take_line.ensures.took
 
 pub returns : goal.returns
 returns c =

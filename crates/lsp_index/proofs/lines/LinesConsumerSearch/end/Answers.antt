@@ -14,7 +14,7 @@ returns-in_err-take_line-clause-did g c =
 
 pub returns-then-not-branch-clause-did : goal.returns-then-not-branch-clause-did
 returns-then-not-branch-clause-did g c =
-    let took = rw c.if-not-branch.true at c.in_ok-take_line.ensures in
+    let took = rw c.if-not-branch.true at c.in_ok-take_line.ensures.took in
     did_bad_end c.args.self.now c.args.search.now c.take_line.new.self (g.O.Sink.taken c.args.sink.now) (subst (λ l. TookBad c.args.search.now l c.take_line.new.self) c.deref.ensures.value took)
 
 pub returns-in_err-line-clause-did : goal.returns-in_err-line-clause-did
@@ -24,7 +24,7 @@ returns-in_err-line-clause-did g c =
 
 pub returns-clause-did : goal.returns-clause-did
 returns-clause-did g c =
-    let took = rw c.if-not-branch.false at c.in_ok-take_line.ensures in
+    let took = rw c.if-not-branch.false at c.in_ok-take_line.ensures.took in
     did_sent c.args.self.now c.args.search.now c.take_line.new.self (string_bytes c.in_ok-line.line) (g.O.Sink.taken c.args.sink.now) (g.O.Sink.taken c.send.new.sink) c.send.result
     (subst (λ l. TookGood c.args.search.now l c.take_line.new.self) c.deref.ensures.value took) c.in_ok-line.ensures (rw c.as_bytes.ensures.value at c.send.ensures.ok) (rw c.as_bytes.ensures.value at c.send.ensures.part)
     c.send.ensures.others

@@ -15,4 +15,4 @@ pub returns : goal.returns
 returns c =
     let lines : Lines = record { part = c.new.result } in
     IfOk-weaker c.take_line.result _ _ (λ good t fresh. took_dump lines c.take_bytes.new.self c.args.self.now c.take_bytes.new.search c.take_line.new.self c.args.dump.now good c.new.ensures.items (rw c.if-not-branch.false at c.in_ok-take_bytes.ensures)
-    (subst (λ l. TookLine c.take_bytes.new.search l good c.take_line.new.self) c.deref.ensures.value t) fresh) c.take_line.ensures
+    (subst (λ l. TookLine c.take_bytes.new.search l good c.take_line.new.self) c.deref.ensures.value t) fresh) c.take_line.ensures.took

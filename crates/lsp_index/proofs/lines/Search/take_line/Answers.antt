@@ -10,17 +10,17 @@ use Rattle.lsp_index.specs.Reading.{TookText}
 use Rattle.lsp_index.proofs.ReadingLemmas.{took_empty, took_text, took_none}
 use Rattle.lsp_index.proofs.lines.Search.take_line.Goals as goal
 
-pub returns-then-is_empty : goal.returns-then-is_empty
-returns-then-is_empty c = took_empty c.args.self.now c.args.line.now (sym c.is_empty.ensures ∙ c.if-is_empty.true)
+pub returns-then-is_empty-clause-took : goal.returns-then-is_empty-clause-took
+returns-then-is_empty-clause-took c = took_empty c.args.self.now c.args.line.now (sym c.is_empty.ensures ∙ c.if-is_empty.true)
 
-pub returns-in-Some : goal.returns-in-Some
-returns-in-Some c =
+pub returns-in-Some-clause-took : goal.returns-in-Some-clause-took
+returns-in-Some-clause-took c =
     let line = c.args.line.now in
     let value : option_and_then (read entry_row.shape) (json_text.read c.in-Some.text.now) ≡ value_of_line line =
     ap (λ l. option_and_then (read entry_row.shape) (json_text.read l)) c.in-Some.ensures.text
     ∙ ap (λ b. cond b (option_and_then (read entry_row.shape) (json_text.read line)) None) c.in-Some.ensures.test in
     IfOk-weaker c.take_text.result _ _ (λ good t. took_text c.args.self.now c.take_text.new.self line good (sym c.is_empty.ensures ∙ c.if-is_empty.false) (subst (λ v. TookText c.args.self.now v good c.take_text.new.self) value t)) c.take_text.ensures
 
-pub returns-in-None : goal.returns-in-None
-returns-in-None c =
+pub returns-in-None-clause-took : goal.returns-in-None-clause-took
+returns-in-None-clause-took c =
     rw c.refuse.ensures.0 (took_none c.args.self.now c.refuse.new.self c.args.line.now (sym c.is_empty.ensures ∙ c.if-is_empty.false) (ap (λ b. cond b (option_and_then (read entry_row.shape) (json_text.read c.args.line.now)) None) (sym c.in-None.ensures.test)) c.refuse.ensures.1)
