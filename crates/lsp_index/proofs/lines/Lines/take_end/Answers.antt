@@ -16,4 +16,4 @@ returns-then-is_empty c =
 pub returns : goal.returns
 returns c =
     IfOk-weaker c.take_line-good.result _ _ (λ good t. took_end c.args.self.now _ c.args.search.now c.take_line-good.new.self c.args.bytes.now good c.requires
-    (subst (λ l. TookLine c.args.search.now l good c.take_line-good.new.self) (c.without_cr-2.ensures ∙ ap strip_carriage_return (c.deref.ensures.value ∙ c.in_ok-extend_from_slice.ensures.items)) t) c.clear.ensures.items) c.take_line-good.ensures
+    (subst (λ l. TookLine c.args.search.now l good c.take_line-good.new.self) (c.without_cr-2.ensures ∙ ap strip_carriage_return (c.deref.ensures.value ∙ c.in_ok-extend_from_slice.ensures.items)) t) c.clear.ensures.items) c.take_line-good.ensures.took
