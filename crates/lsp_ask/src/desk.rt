@@ -1,5 +1,5 @@
 // The calls on the desk, each with what it comes to.
-ghost use Rattle.std.specs.Prelude.{◌≡◌, false, IfOk, IfErr, OnErr, ◌∷◌, [], string_bytes};
+ghost use Rattle.std.specs.Prelude.{◌≡◌, true, false, IsOk, IfOk, IfErr, OnErr, ◌∷◌, [], string_bytes};
 ghost use Rattle.serde_json.specs.View.{view};
 ghost use Rattle.serde_json.specs.Written.{has_float};
 ghost use Rattle.lsp_rpc.specs.Message.{may_have_float};
@@ -88,6 +88,7 @@ pub fn tell<D: Caller>(
     ensures continues { Continues D.meaning client.old client.new }
     ensures unsent { OnErr result (PollsOn D.meaning client.old client.new
         (IsUnreplied (Tell (string_bytes method) (view params) gated))) }
+    ensures suppressed { has_float (view params) ≡ true → IsOk result }
 {
     if is_float_free(&params) {
         tell_clean(client, method, params, gated)
