@@ -242,7 +242,7 @@ pub fn call<D: Caller>(client: &mut D, request: Request) -> Result<ClientReply, 
     ensures failed { IfErr result (λ fault. PollFails D.meaning client.old client.new fault) }
     ensures continues { Continues D.meaning client.old client.new }
     ensures unsent { OnErr result (PollsOn D.meaning client.old client.new
-        (SendsNone (Raw (show_request request)))) }
+        (IsUnreplied (Raw (show_request request)))) }
 {
     match make_call(client, ClientCall::Raw(request)) {
         Ok(reply) => Ok(reply),
