@@ -416,7 +416,7 @@ pub trait Client: Caller {
         ensures failed { IfErr result (λ fault. PollFails Self.meaning self.old self.new fault) }
         ensures continues { Continues Self.meaning self.old self.new }
         ensures unsent { OnErr result (PollsOn Self.meaning self.old self.new
-            (SendsNone (Raw (show_request request)))) }
+            (IsUnreplied (Raw (show_request request)))) }
     {
         lsp_ask::call(self, request)
     }
