@@ -1,5 +1,5 @@
 -- Polls in a row.
-use Rattle.std.proofs.Common.{◌≡◌, List, [], ◌∷◌, ◌++◌, true, inl, inr, refl, sym, subst}
+use Rattle.std.proofs.Common.{◌≡◌, List, [], ◌∷◌, ◌++◌, true, refl, sym, subst}
 use Rattle.std.specs.Prelude.{Result, Ok, Err}
 use Rattle.lsp_desk.specs.declared.call.ClientCall.{ClientCall}
 use Rattle.lsp_desk.specs.declared.call.ClientCall.TheVariants as calls
@@ -32,7 +32,7 @@ polls_on m old mid new p q = record {
 
 adds_client : {R : Type 0} (show : R → Reply) (c : Call) (result : Result R DeskFault) (own : List DeskEntry) → is_client c ≡ true → Adds show c result own → AreClient own
 adds_client show c (Ok reply) own h is = subst AreClient (sym is) (h, tt)
-adds_client show c (Err faults.NoMemory) own h is = elim is [ inl e ↦ subst AreClient (sym e) tt | inr e ↦ subst AreClient (sym e) (h, tt) ]
+adds_client show c (Err faults.NoMemory) own h is = subst AreClient (sym is) (h, tt)
 adds_client show c (Err (faults.Spent n)) own h is = subst AreClient (sym is) tt
 
 by_a_server : (call : ClientCall) → is_client (show_client_call call) ≡ true

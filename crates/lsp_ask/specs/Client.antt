@@ -2,6 +2,8 @@
 use Rattle.std.specs.Prelude.{◌≡◌, ℕ, pos, Bool, true, false, List, [], ◌∷◌, Option, Some, None}
 use Rattle.lsp_rpc.specs.declared.code.ErrorCode.TheVariants as error_codes
 use Rattle.lsp_rpc.specs.Message.{IdData, error_with_code, number_id}
+use Rattle.lsp_desk.specs.declared.call.DeskFault.{DeskFault}
+use Rattle.lsp_desk.specs.declared.call.DeskFault.TheVariants as faults
 use Rattle.lsp_desk.specs.Call.{Call, Poll, NextId, call_has_float}
 use Rattle.lsp_desk.specs.Reply.{Reply}
 use Rattle.lsp_desk.specs.Reply as replies
@@ -65,10 +67,11 @@ abbrev pub may_lack_after : Option Reply → Bool
 may_lack_after None = true
 may_lack_after (Some reply) = may_lack reply
 
--- at most this ticket's answer was asked for, and the reply, where there was one, is one that takes memory to tell
-abbrev pub IsPollCut : ℕ → List DeskEntry → Type 0
-IsPollCut ticket [] = Unit {0}
-IsPollCut ticket (e ∷ own) = (e.call ≡ Poll ticket) × (may_lack_after e.reply ≡ true) × (own ≡ [])
+-- out of memory: this ticket's answer was asked for, and the reply, where there was one, is one that takes memory to tell;
+-- with no turn left, no call was made
+abbrev pub IsPollCut : ℕ → DeskFault → List DeskEntry → Type 0
+IsPollCut ticket faults.NoMemory own = (reply : Option Reply) × (own ≡ record { call = Poll ticket; reply = reply } ∷ []) × (may_lack_after reply ≡ true)
+IsPollCut ticket (faults.Spent n) own = own ≡ []
 
 -- ---- calls in a row
 

@@ -1,11 +1,11 @@
 // The calls on the desk, each with what it comes to.
-ghost use Rattle.std.specs.Prelude.{◌≡◌, false, IfOk, IfErr, OnErr, ◌∷◌, [], string_bytes};
+ghost use Rattle.std.specs.Prelude.{◌≡◌, true, false, Err, IsOk, IfOk, IfErr, OnErr, ◌∷◌, [], string_bytes};
 ghost use Rattle.serde_json.specs.View.{view};
 ghost use Rattle.serde_json.specs.Written.{has_float};
 ghost use Rattle.lsp_rpc.specs.Message.{may_have_float};
 ghost use Rattle.lsp_rpc.specs.Shown.{show_id, show_request};
 ghost use Rattle.lsp_desk.specs.Call.{Ask, Tell, Raw, NextId, call_has_float};
-ghost use Rattle.lsp_desk.specs.Meaning.{Calls, PollsOn};
+ghost use Rattle.lsp_desk.specs.Meaning.{Adds, Calls, PollsOn};
 ghost use Rattle.lsp_desk.specs.Reply.{reply_has_float};
 ghost use Rattle.lsp_desk.specs.Shown.{show_client_call, show_client_reply};
 ghost use Rattle.lsp_session.specs.Fails.{PollFails};
@@ -88,6 +88,7 @@ pub fn tell<D: Caller>(
     ensures continues { Continues D.meaning client.old client.new }
     ensures unsent { OnErr result (PollsOn D.meaning client.old client.new
         (IsUnreplied (Tell (string_bytes method) (view params) gated))) }
+    ensures suppressed { has_float (view params) ≡ true → IsOk result }
 {
     if is_float_free(&params) {
         tell_clean(client, method, params, gated)
@@ -202,8 +203,8 @@ pub fn poll<D: Caller, R, A: Wire>(
         answered_has_float (show_answered A.shown answered) ≡ false) }
     ensures failed { IfErr result (λ fault. PollFails D.meaning client.old client.new fault) }
     ensures continues { Continues D.meaning client.old client.new }
-    ensures once { OnErr result (PollsOn D.meaning client.old client.new
-        (IsPollCut (ticket_number ticket))) }
+    ensures once { IfErr result (λ fault. PollsOn D.meaning client.old client.new
+        (IsPollCut (ticket_number ticket) fault)) }
 {
     let number = ticket.number;
     match make_call(client, ClientCall::Poll(number)) {
@@ -220,7 +221,8 @@ pub fn next_id<D: Caller>(client: &mut D) -> Result<Id, DeskFault>
         (IsDrawn (show_id id))) }
     ensures failed { IfErr result (λ fault. PollFails D.meaning client.old client.new fault) }
     ensures continues { Continues D.meaning client.old client.new }
-    ensures once { OnErr result (PollsOn D.meaning client.old client.new (IsUnreplied NextId)) }
+    ensures once { IfErr result (λ fault. PollsOn D.meaning client.old client.new
+        (Adds show_client_reply NextId (Err fault))) }
 {
     match make_call(client, ClientCall::NextId) {
         Ok(reply) => match reply {
@@ -240,8 +242,8 @@ pub fn call<D: Caller>(client: &mut D, request: Request) -> Result<ClientReply, 
         ≡ false) }
     ensures failed { IfErr result (λ fault. PollFails D.meaning client.old client.new fault) }
     ensures continues { Continues D.meaning client.old client.new }
-    ensures unsent { OnErr result (PollsOn D.meaning client.old client.new
-        (SendsNone (Raw (show_request request)))) }
+    ensures unsent { IfErr result (λ fault. PollsOn D.meaning client.old client.new
+        (Adds show_client_reply (Raw (show_request request)) (Err fault))) }
 {
     match make_call(client, ClientCall::Raw(request)) {
         Ok(reply) => Ok(reply),

@@ -1,12 +1,12 @@
 // What a server asks of its client.
-ghost use Rattle.std.specs.Prelude.{◌≡◌, false, true, IfOk, IfErr, OnErr, ◌∷◌, [], codes};
+ghost use Rattle.std.specs.Prelude.{◌≡◌, false, true, Err, IfOk, IfErr, OnErr, ◌∷◌, [], codes};
 ghost use Rattle.serde_json.specs.View.{view};
 ghost use Rattle.lsp_rpc.specs.Message.{may_have_float};
 ghost use Rattle.lsp_rpc.specs.Shown.{show_id, show_request};
 ghost use Rattle.lsp_shape.specs.Write.{write};
 ghost use Rattle.lsp_desk.specs.Call.{Ask, Tell, Raw, Poll, NextId};
 ghost use Rattle.lsp_desk.specs.Reply.{reply_has_float};
-ghost use Rattle.lsp_desk.specs.Meaning.{PollsOn};
+ghost use Rattle.lsp_desk.specs.Meaning.{Adds, PollsOn};
 ghost use Rattle.lsp_desk.specs.Shown.{show_client_reply};
 ghost use Rattle.lsp_session.specs.Fails.{PollFails};
 ghost use Rattle.lsp_session.specs.Run.{replied};
@@ -389,8 +389,8 @@ pub trait Client: Caller {
             answered_has_float (show_answered R.Result.shown answered) ≡ false) }
         ensures failed { IfErr result (λ fault. PollFails Self.meaning self.old self.new fault) }
         ensures continues { Continues Self.meaning self.old self.new }
-        ensures once { OnErr result (PollsOn Self.meaning self.old self.new
-            (IsPollCut (ticket_number ticket))) }
+        ensures once { IfErr result (λ fault. PollsOn Self.meaning self.old self.new
+            (IsPollCut (ticket_number ticket) fault)) }
     {
         poll(alloc, self, ticket)
     }
@@ -401,7 +401,8 @@ pub trait Client: Caller {
             (IsDrawn (show_id id))) }
         ensures failed { IfErr result (λ fault. PollFails Self.meaning self.old self.new fault) }
         ensures continues { Continues Self.meaning self.old self.new }
-        ensures once { OnErr result (PollsOn Self.meaning self.old self.new (IsUnreplied NextId)) }
+        ensures once { IfErr result (λ fault. PollsOn Self.meaning self.old self.new
+            (Adds show_client_reply NextId (Err fault))) }
     {
         next_id(self)
     }
@@ -415,8 +416,8 @@ pub trait Client: Caller {
             ≡ false) }
         ensures failed { IfErr result (λ fault. PollFails Self.meaning self.old self.new fault) }
         ensures continues { Continues Self.meaning self.old self.new }
-        ensures unsent { OnErr result (PollsOn Self.meaning self.old self.new
-            (SendsNone (Raw (show_request request)))) }
+        ensures unsent { IfErr result (λ fault. PollsOn Self.meaning self.old self.new
+            (Adds show_client_reply (Raw (show_request request)) (Err fault))) }
     {
         lsp_ask::call(self, request)
     }

@@ -7,7 +7,7 @@ ghost use Rattle.lsp_session.specs.Fails.{PollFails};
 ghost use Rattle.lsp_shape.specs.Write.{write};
 ghost use Rattle.lsp_ask.specs.Client.{Continues, IsAsked, IsTold, IsUnreplied, SendsNone};
 ghost use Rattle.lsp_ask.specs.Shown.{show_asked};
-ghost use Rattle.lsp_client.specs.Methods.{telemetry_params as telemetry_data};
+ghost use Rattle.lsp_client.specs.Methods.{in_array, telemetry_params as telemetry_data};
 
 use lsp_ask::{Asked, Told};
 use lsp_desk::{Caller, DeskFault};
@@ -21,7 +21,8 @@ use std::alloc::Global;
 // The params of a telemetry event: null, an array or an object is sent as it is, anything else as
 // the one item of an array.
 pub(crate) fn telemetry_params(alloc: Global, event: Value) -> Result<Value, NoMemory>
-    ensures { IfOk result (λ params. view params ≡ telemetry_data (view event)) }
+    ensures data { IfOk result (λ params. view params ≡ telemetry_data (view event)) }
+    ensures memory { OnErr result (telemetry_data (view event) ≡ in_array (view event)) }
 {
     match event {
         Value::Null | Value::Array(_) | Value::Object(_) => Ok(event),

@@ -1,5 +1,5 @@
 -- What the calls of a socket on its desk come to.
-use Rattle.std.proofs.Common.{◌≡◌, ◌^◌, ◌-◌, ℕ, refl, inl, inr, List, [], ◌∷◌, ◌++◌, true, false, sym, ◌∙◌, ap, subst}
+use Rattle.std.proofs.Common.{◌≡◌, ◌^◌, ◌-◌, ℕ, refl, List, [], ◌∷◌, ◌++◌, true, false, sym, ◌∙◌, ap, subst}
 use Rattle.std.specs.Prelude.{Option, Some, None, Result, Ok, Err, IfErr, IsErrAnd}
 use Rattle.std.specs.Option.{option_map}
 use Rattle.lsp_rpc.specs.declared.request.Request.{Request}
@@ -63,8 +63,7 @@ spends_by m new faults.NoMemory says = tt
 spends_by m new (faults.Spent n) says = says n refl
 
 cut_one : {R : Type 0} (show : R → Reply) (call : Call) (fault : DeskFault) (own : List DeskEntry) → Adds show call (Err fault) own → AreCut (call ∷ []) own
-cut_one show call faults.NoMemory own (inl none) = subst (AreCut (call ∷ [])) (sym none) tt
-cut_one show call faults.NoMemory own (inr one) = subst (AreCut (call ∷ [])) (sym one) (refl, refl)
+cut_one show call faults.NoMemory own one = subst (AreCut (call ∷ [])) (sym one) (refl, refl)
 cut_one show call (faults.Spent n) own none = subst (AreCut (call ∷ [])) (sym none) tt
 
 -- the only call failed

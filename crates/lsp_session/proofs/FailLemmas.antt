@@ -1,5 +1,5 @@
 -- What a failing call leaves of the life.
-use Rattle.std.proofs.Common.{◌≡◌, ◌^◌, ◌-◌, ℕ, refl, inl, inr, List, [], true, sym, ◌∙◌, ap, subst}
+use Rattle.std.proofs.Common.{◌≡◌, ◌^◌, ◌-◌, ℕ, refl, List, [], true, sym, ◌∙◌, ap, subst}
 use Rattle.std.specs.Prelude.{Result, Ok, Err, IfOk, IfErr}
 use Rattle.lsp_desk.specs.declared.life.Life.{Life}
 use Rattle.lsp_desk.specs.declared.call.DeskFault.{DeskFault}
@@ -16,8 +16,7 @@ use Rattle.lsp_session.proofs.PollLemmas.{client_along}
 -- ---- a call that failed
 
 none_along : {R : Type 0} (show : R → Reply) (call : Call) (fault : DeskFault) (own : List DeskEntry) (life : Life) → Adds show call (Err fault) own → life_along life own ≡ life
-none_along show _ faults.NoMemory own life (inl is) = ap (life_along life) is
-none_along show _ faults.NoMemory own life (inr is) = ap (life_along life) is
+none_along show _ faults.NoMemory own life is = ap (life_along life) is
 none_along show _ (faults.Spent n) own life is = ap (life_along life) is
 
 pub failed_life : {D R : Type 0} (m : Meaning D) (show : R → Reply) (old new : D) (call : Call) (fault : DeskFault) → m.chief old ≡ true → Calls m show old call (Err fault) new → KeepsLife m old new
@@ -41,8 +40,7 @@ call_failed {R = R} m show old new call fault chief p says = record {
 -- ---- a poll that failed
 
 asks_of : {R : Type 0} (show : R → Reply) (call : Call) (fault : DeskFault) (own : List DeskEntry) → is_client call ≡ true → Adds show call (Err fault) own → AreClient own
-asks_of show _ faults.NoMemory own is (inl none) = subst AreClient (sym none) tt
-asks_of show _ faults.NoMemory own is (inr one) = subst AreClient (sym one) (is, tt)
+asks_of show _ faults.NoMemory own is one = subst AreClient (sym one) (is, tt)
 asks_of show _ (faults.Spent n) own is none = subst AreClient (sym none) tt
 
 -- the poll's only call failed

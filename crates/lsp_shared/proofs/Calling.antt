@@ -1,5 +1,5 @@
 -- A call through a seat is one of the desk's, at its place in the history.
-use Rattle.std.proofs.Common.{◌≡◌, ℕ, ◌+◌, Bool, true, List, [], ◌∷◌, ◌++◌, map, length, refl, sym, ap, ◌∙◌, subst, Option, Some, None, Result, Ok, Err, inr, arith, append_assoc, append-nil, length-append, true≢false}
+use Rattle.std.proofs.Common.{◌≡◌, ℕ, ◌+◌, Bool, true, List, [], ◌∷◌, ◌++◌, map, length, refl, sym, ap, ◌∙◌, subst, Option, Some, None, Result, Ok, Err, arith, append_assoc, append-nil, length-append, true≢false}
 use Rattle.std.proofs.lemmas.List.{map-append, length-map}
 use Rattle.lsp_desk.specs.declared.call.DeskFault.{DeskFault}
 use Rattle.lsp_desk.specs.declared.call.DeskFault.TheVariants as faults
@@ -113,7 +113,7 @@ module _ {D R : Type 0} (rested : D → Rested) (view : R → Reply) (wrap : R �
   seat_calls old new note (Err faults.NoMemory) t same spent = record {
     trace = marks_of t.between (item_for wrap note (Err faults.NoMemory));
     grows = turn_grows rested old new _ t same spent;
-    adds = inr (owns_marks t.between _);
+    adds = owns_marks t.between _;
     own_last = own_last t.between _;
   }
   seat_calls old new note (Err (faults.Spent n)) p same spent = record {
