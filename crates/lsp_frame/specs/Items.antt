@@ -4,6 +4,7 @@ use Rattle.lsp_frame.specs.Transitions.{Item, message, fault, Transition, stop, 
 use Rattle.lsp_text.specs.declared.floats.Floats.TheVariants.{Refused}
 use Rattle.lsp_frame.specs.declared.limits.Limits.{Limits}
 use Rattle.lsp_frame.specs.declared.settings.CodecSettings.{CodecSettings}
+use Rattle.lsp_frame.specs.declared.parse_error.ParseError.{ParseError}
 use Rattle.lsp_frame.specs.declared.parse_error.ParseError.TheVariants.{Headers, MissingContentLength, InvalidContentType, InvalidContentLength, Utf8, Body, Rest, HeadTooLong, BodyTooLong}
 use Rattle.lsp_frame.specs.declared.decode_state.DecodeState.{DecodeState}
 use Rattle.lsp_frame.specs.declared.decode_state.DecodeState.TheVariants as states
@@ -131,3 +132,16 @@ default_limits = record { head = 8192; body = 67108864 }
 -- a codec that is told no other settings has these
 abbrev pub default_settings : CodecSettings
 default_settings = strict default_limits
+
+-- ---- what is told first
+
+-- a body's own fault
+abbrev pub IsBodyFault : ParseError → Type 0
+IsBodyFault (Body f) = ⊤
+IsBodyFault _ = ⊥
+
+-- a body tells the first item: a message, or why a text gives none
+abbrev pub IsOfBody : List Item → Type 0
+IsOfBody [] = ⊥
+IsOfBody (message m ∷ xs) = ⊤
+IsOfBody (fault e ∷ xs) = IsBodyFault e

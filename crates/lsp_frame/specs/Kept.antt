@@ -1,5 +1,6 @@
 -- What a codec keeps from one call to the next: how far it has looked, and what it may need.
-use Rattle.std.specs.Prelude.{◌≡◌, ◌≢◌, ℕ, zero, suc, ◌-◌, ◌<◌, ◌≤◌, ◌==◌, List, length, get_or, Bool, false, ⊤}
+use Rattle.std.specs.Prelude.{◌≡◌, ◌≢◌, ℕ, zero, suc, ◌-◌, ◌<◌, ◌≤◌, ◌==◌, List, length, take, get_or, Bool, false, true, ⊤}
+use Rattle.std.specs.Str.{is_utf8}
 use Rattle.lsp_frame.specs.declared.limits.Limits.{Limits}
 use Rattle.lsp_frame.specs.declared.decode_state.DecodeState.{DecodeState}
 use Rattle.lsp_frame.specs.declared.decode_state.DecodeState.TheVariants.{Frame, Search, Body, Skip}
@@ -39,9 +40,9 @@ without_needed Search len = Search
 without_needed (Body n) len = Body n
 without_needed (Skip n) len = Skip (n - len)
 
--- a body that isn't empty is here, whole
+-- a body that isn't empty is here, whole, and is a text
 abbrev pub IsBodyHere : DecodeState → List ℕ → Type 0
 IsBodyHere Frame bs = ⊥
 IsBodyHere Search bs = ⊥
-IsBodyHere (Body n) bs = (0 < n) × (n ≤ length bs)
+IsBodyHere (Body n) bs = (0 < n) × (n ≤ length bs) × (is_utf8 (take n bs) ≡ true)
 IsBodyHere (Skip n) bs = ⊥

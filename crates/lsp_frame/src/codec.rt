@@ -5,7 +5,7 @@ ghost use Rattle.lsp_rpc.specs.Message.{message_has_float};
 ghost use Rattle.lsp_rpc.specs.Shown.{show_message};
 ghost use Rattle.lsp_frame.specs.declared.limits.Limits.{Limits as AnyLimits};
 ghost use Rattle.lsp_frame.specs.Transitions.{fault, message as message_item};
-ghost use Rattle.lsp_frame.specs.Items.{start, start_by, more, items, items_at, told_at, with_item, IsWaiting, most_held, AreLimits, default_limits};
+ghost use Rattle.lsp_frame.specs.Items.{start, start_by, more, items, items_at, told_at, with_item, IsOfBody, IsWaiting, most_held, AreLimits, default_limits};
 ghost use Rattle.lsp_frame.specs.Places.{ComesTo, HoldsEnd, IsStateAfter};
 ghost use Rattle.lsp_frame.specs.Frames.{frame_text, IsWithin, IsReadBack};
 ghost use Rattle.lsp_frame.specs.Shown.{shown, show_found, DecodedIsFloatFree, IsFoundFloatFree};
@@ -167,8 +167,10 @@ impl LanguageServerCodec {
         ensures floats { IfOk result (λ d. DecodedIsFloatFree d) }
         ensures settings { OnOk result (self.new.settings ≡ self.old.settings) }
         ensures err { OnErr result (self.new ≡ self.old) }
-        // Memory is taken for an item alone.
+        // Memory is taken for an item alone, and that is a message or a text's fault, so no faulty
+        // head and no body that isn't UTF-8 asks for any.
         ensures memory { OnErr result (told_at self.old ≢ []) }
+        ensures body { OnErr result (IsOfBody (told_at self.old)) }
     {
         let next = find_next(
             self.alloc,

@@ -1,7 +1,7 @@
 // The transitions up to the next item.
 ghost use Rattle.std.specs.Prelude.{◌≡◌, ◌≢◌, ◌≤◌, ◌+◌, ◌++◌, ◌-◌, ◌⊎◌, [], ℕ, List, length, drop, option_map, IfOk, OnErr, None, if◌then◌else◌};
 ghost use Rattle.lsp_frame.specs.Transitions.{Item, transition as transition_of};
-ghost use Rattle.lsp_frame.specs.Items.{all_from, with_item, GoesNowhere, IsTrimmed};
+ghost use Rattle.lsp_frame.specs.Items.{all_from, with_item, GoesNowhere, IsOfBody, IsTrimmed};
 ghost use Rattle.lsp_frame.specs.Kept.{IsLooked, IsAllowed, IsBodyHere, unneeded, without_needed as waiting_state};
 ghost use Rattle.lsp_frame.specs.Places.{codec_at, ComesTo};
 ghost use Rattle.lsp_frame.specs.Shown.{show_found, show_transition, IsWithinBytes, IsItemFloatFree, IsFoundFloatFree};
@@ -94,6 +94,7 @@ pub(crate) fn find_next(
     ensures clear { IfOk result (λ r. IsLooked (drop r.consumed bytes.now) r.looked) }
     ensures floats { IfOk result (λ r. IsFoundFloatFree r.item) }
     ensures memory { OnErr result (all_from settings [] state bytes.now ≢ []) }
+    ensures body { OnErr result (IsOfBody (all_from settings [] state bytes.now)) }
 {
     let mut at = state;
     let mut place = 0;

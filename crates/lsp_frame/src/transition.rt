@@ -1,5 +1,6 @@
 // One transition of decoding.
-ghost use Rattle.std.specs.Prelude.{◌≡◌, ◌<◌, ◌≤◌, ℕ, length, take, codes, IfOk, OnErr, Some};
+ghost use Rattle.std.specs.Prelude.{◌≡◌, ◌<◌, ◌≤◌, ℕ, length, take, codes, IfOk, OnErr, Some, true};
+ghost use Rattle.std.specs.Str.{is_utf8};
 ghost use Rattle.lsp_frame.specs.Blocks.{headers_in};
 ghost use Rattle.lsp_frame.specs.Kept.{IsLooked, IsBodyHere};
 ghost use Rattle.lsp_frame.specs.Transitions.{transition as transition_of, at_frame as frame_transition, at_head as head_transition, at_body as body_transition, at_skip as skip_transition, at_place as search_transition, at_length as length_transition, first_place, go, fault as fault_item};
@@ -50,7 +51,8 @@ fn at_body(
     bytes: &[u8],
 ) -> Result<Transition, NoMemory>
     ensures value { IfOk result (λ t. show_transition t ≡ body_transition floats len bytes.now) }
-    ensures memory { OnErr result ((0 < len) × (len ≤ length bytes.now)) }
+    ensures memory { OnErr result ((0 < len) × (len ≤ length bytes.now)
+        × (is_utf8 (take len bytes.now) ≡ true)) }
     ensures within { IfOk result (λ t. IsWithinBytes (length bytes.now) t) }
     ensures floats { IfOk result (λ t. IsItemFloatFree t) }
 {

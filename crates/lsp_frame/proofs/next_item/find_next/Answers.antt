@@ -1,6 +1,7 @@
-use Rattle.std.proofs.Common.{◌∙◌, ◌+◌, ◌-◌, ◌≤◌, ℕ, subst, sym, ap, drop, length, option_map, arith, Result, Ok, Err}
+use Rattle.std.proofs.Common.{◌∙◌, ◌+◌, ◌-◌, ◌≤◌, ℕ, [], subst, sym, ap, drop, length, option_map, arith, Result, Ok, Err}
 use Rattle.std.specs.Prelude.{OnErr}
 use Rattle.lsp_frame.specs.Transitions.{go}
+use Rattle.lsp_frame.specs.Items.{all_from}
 use Rattle.lsp_frame.specs.Kept.{IsLooked}
 use Rattle.lsp_frame.specs.Places.{codec_at}
 use Rattle.lsp_frame.specs.Shown.{show_transition, show_found, IsWithinBytes}
@@ -8,7 +9,7 @@ use Rattle.lsp_frame.proofs.ItemsByTransition.{last_at_unfinished, after_go, aft
 use Rattle.lsp_frame.proofs.PlacesCome.{one_more_silent, comes_with_item, comes_to_stop, comes_unfinished}
 use Rattle.lsp_frame.proofs.WaitingItems.{items_stopped, none_stopped, waits_stopped, waits_unfinished}
 use Rattle.lsp_frame.proofs.HeldBytes.{goes_to_allowed}
-use Rattle.lsp_frame.proofs.BodyHere.{told_before}
+use Rattle.lsp_frame.proofs.BodyHere.{some_told, told_before}
 use Rattle.lsp_frame.proofs.ClearPlaces.{looked_further}
 use Rattle.lsp_frame.proofs.next_item.find_next.Goals as goal
 
@@ -19,10 +20,16 @@ on_err : {T E P : Type 0} (r : Result T E) → P → OnErr r P
 on_err (Ok x) holds = tt
 on_err (Err e) holds = holds
 
+pub returns-in_err-transition_from-clause-body : goal.returns-in_err-transition_from-clause-body
+returns-in_err-transition_from-clause-body c =
+    on_err c.from_residual.result
+    (told_before c.args.settings c.args.state c.transitions.at c.args.bytes.now (drop c.transitions.place c.args.bytes.now) c.transitions.invariant.same c.in_err-transition_from.ensures.memory)
+
 pub returns-in_err-transition_from-clause-memory : goal.returns-in_err-transition_from-clause-memory
 returns-in_err-transition_from-clause-memory c =
     on_err c.from_residual.result
-    (told_before c.args.settings c.args.state c.transitions.at c.args.bytes.now (drop c.transitions.place c.args.bytes.now) c.transitions.invariant.same c.in_err-transition_from.ensures.memory)
+    (some_told (all_from c.args.settings [] c.args.state c.args.bytes.now)
+    (told_before c.args.settings c.args.state c.transitions.at c.args.bytes.now (drop c.transitions.place c.args.bytes.now) c.transitions.invariant.same c.in_err-transition_from.ensures.memory))
 
 pub returns-in-Stop-clause-place : goal.returns-in-Stop-clause-place
 returns-in-Stop-clause-place c =
