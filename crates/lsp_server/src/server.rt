@@ -1,11 +1,11 @@
 // The server.
-ghost use Rattle.std.specs.Prelude.{◌≡◌, ◌≤◌, [], ◌∷◌, true, false, IfOk, IfErr};
+ghost use Rattle.std.specs.Prelude.{◌≡◌, ◌≤◌, [], ◌∷◌, true, false, IfOk, IfErr, IsOk};
 ghost use Rattle.std.specs.Result.{result_err};
 ghost use Rattle.lsp_desk.specs.Meaning.{IsOpening};
 ghost use Rattle.lsp_frame.specs.Codec.{AreLimits, default_limits};
 ghost use Rattle.lsp_session.specs.Item.{show_item, item_has_float, tick};
 ghost use Rattle.lsp_session.specs.Run.{order_by};
-ghost use Rattle.lsp_session.specs.State.{opening_by};
+ghost use Rattle.lsp_session.specs.State.{live, opening_by};
 ghost use Rattle.lsp_session.specs.SessionView.{session_view, has_stopped, desk_of};
 ghost use Rattle.lsp_server.specs.Course.{course};
 ghost use Rattle.lsp_server.specs.Served.{handed_back};
@@ -317,6 +317,8 @@ pub fn hand_back<D: Desk + Drop, H: Handlers<D>>(
         ≡ handed_back (session_view H.semantics D.meaning session)) }
     ensures stopped { IfErr result (λ stopped. (stopped.error ≡ ServeError.NoMemory)
         × (stopped.desk ≡ (session_view H.semantics D.meaning session).desk)) }
+    // Where each request is answered, it takes no memory.
+    ensures none { live (session_view H.semantics D.meaning session).state ≡ [] → IsOk result }
 {
     let exited = session.exited();
     match session.unanswered() {

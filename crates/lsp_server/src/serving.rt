@@ -214,6 +214,9 @@ pub fn next_item(codec: &mut LanguageServerCodec) -> Result<Option<Item>, NoMemo
     ensures waits { IfOk result (λ item. item ≡ None → told_at codec.new ≡ []) }
     ensures float_free { IfOk result (λ item. IfSome item (λ x. item_has_float (show_item x)
         ≡ false)) }
+    ensures err { OnErr result (codec.new ≡ codec.old) }
+    // Memory is taken for an item alone.
+    ensures memory { OnErr result (told_at codec.old ≢ []) }
 {
     match codec.decode()? {
         Decoded::Item(message) => Ok(Some(Item::Message(message))),

@@ -1,5 +1,5 @@
 -- One work moves up.
-use Rattle.std.proofs.Common.{◌≡◌, ◌<◌, ◌∷◌, ◌∙◌, ap, sym, rules, length}
+use Rattle.std.proofs.Common.{◌≡◌, ◌<◌, ◌∷◌, ◌∙◌, ap, sym, rules, arith, length}
 use Rattle.lsp_session.proofs.SlotLemmas.{up_slots, up_queue, up_one}
 use Rattle.lsp_session.proofs.works.Works.move_up.Goals as goal
 
@@ -15,4 +15,5 @@ loop-self-preserved g c =
       slots = ap (λ l. up_slots max l rest) c.in_ok-push.ensures.items ∙ one.0 ∙ ap (up_slots max slots) (sym pops) ∙ c.loop-self.invariant.slots;
       limits = c.loop-self.invariant.limits;
       queue = ap (λ l. up_queue max l rest) c.in_ok-push.ensures.items ∙ one.1 ∙ ap (up_queue max slots) (sym pops) ∙ c.loop-self.invariant.queue;
+      none = λ h. absurd (omega (arith, ap length (sym pops ∙ c.loop-self.invariant.none h)));
     }
