@@ -3,6 +3,7 @@ ghost use Rattle.std.specs.Prelude.{◌≡◌, ◌≢◌, ◌++◌, [], ◌∷�
 ghost use Rattle.lsp_desk.specs.Shown.{show_client_call};
 ghost use Rattle.lsp_shared.specs.Desks.{desk_id};
 ghost use Rattle.lsp_shared.specs.Seats.{seat_view, seat_desk, seat_meaning};
+ghost use Rattle.lsp_shared.specs.Steps.{HasTurn};
 ghost use Rattle.lsp_callers.specs.Said.{call_said, entry_said, said_by, EndsUnsent, StopsShort};
 ghost use Rattle.lsp_callers.specs.Made.{entries_made, KeepsSeat};
 ghost use Rattle.lsp_callers.specs.Callers.{IsIdleOn, ComesOf};
@@ -78,6 +79,9 @@ fn say_all<R: Wait + Sync>(
         (seat_desk client.new) (seat_view client.new) }
     ensures spent { (n : ℕ) → result ≡ Err (DeskFault.Spent n) → seat_meaning.spent client.new
         ≡ true }
+    // A desk that is spent is told as one, and as no other fault.
+    ensures spent_stays { HasTurn result (seat_meaning.spent client.new
+        ≡ seat_meaning.spent client.old) }
 {
     let mut sent = 0;
     while sent < plan.messages {
@@ -103,6 +107,8 @@ fn say<R: Wait + Sync>(
         (seat_desk client.new) (seat_view client.new) }
     ensures spent { (m : ℕ) → result ≡ Err (DeskFault.Spent m) → seat_meaning.spent client.new
         ≡ true }
+    ensures spent_stays { HasTurn result (seat_meaning.spent client.new
+        ≡ seat_meaning.spent client.old) }
 {
     let call = message(alloc, caller, n)?;
     let reply = client.client(call)?;

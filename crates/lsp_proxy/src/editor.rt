@@ -1,5 +1,5 @@
 //! What editors send, row by row.
-ghost use Rattle.std.specs.Prelude.{◌≡◌, ◌<◌, ◌+◌, ◌^◌, length, Some, not, IfOk, OnOk, OnErr};
+ghost use Rattle.std.specs.Prelude.{◌≡◌, ◌<◌, ◌+◌, ◌^◌, [], length, Some, not, true, IfOk, OnOk, OnErr, IsOk};
 ghost use Rattle.std.specs.List.{filter};
 ghost use Rattle.lsp_rpc.specs.Shown.{show_id, show_message, show_request, show_response};
 ghost use Rattle.lsp_proxy.specs.Proxy.{begin_initialize, initialize, initialized_heard, shut_down, pass_request, ask, leave, cancel_heard, note, request_heard, notification_heard, call_heard, reply_heard, with_waiting, answers_internal, last_message, last_id, closing_drawn, left, is_asked_by, lowest, AreOf, IsPresent};
@@ -86,7 +86,9 @@ impl Proxy {
     // The first `initialized` is passed on.
     #[tactic(auto, unfolding(crate::specs::Proxy::initialized_heard))]
     fn initialized(&mut self, request: Request) -> Result<Sent, NoMemory>
-        ensures { MakesOrKeeps self.old self.new (initialized_heard (show_request request)) result }
+        ensures makes { MakesOrKeeps self.old self.new
+            (initialized_heard (show_request request)) result }
+        ensures ready { (show_proxy self.old).announced ≡ true → IsOk result }
     {
         if self.announced {
             return Ok(Vec::new(self.alloc));
@@ -215,7 +217,10 @@ impl Proxy {
 
     #[tactic(auto, unfolding(crate::specs::Proxy::cancel_heard))]
     fn cancel(&self, k: u32, request: Request) -> Result<Sent, NoMemory>
-        ensures { IfOk result (MakesSent self.now self.now (cancel_heard k (show_request request))) }
+        ensures sent { IfOk result (MakesSent self.now self.now
+            (cancel_heard k (show_request request))) }
+        ensures ready { (cancel_heard k (show_request request) (show_proxy self.now)).1 ≡ []
+            → IsOk result }
     {
         let (_, _, params) = request.into_parts();
         let place = match cancelled_id(params) {
@@ -227,7 +232,9 @@ impl Proxy {
 
     #[tactic(auto, unfolding(crate::specs::Proxy::note))]
     fn note(&self, k: u32, request: Request) -> Result<Sent, NoMemory>
-        ensures { IfOk result (MakesSent self.now self.now (note k (show_request request))) }
+        ensures sent { IfOk result (MakesSent self.now self.now (note k (show_request request))) }
+        ensures ready { (note k (show_request request) (show_proxy self.now)).1 ≡ []
+            → IsOk result }
     {
         match presence_of(&self.editors, k) {
             Presence::Here => {
@@ -282,7 +289,11 @@ impl Proxy {
     // Passes the response to a request of the server on, under the server's id.
     #[tactic(auto, unfolding(crate::specs::Proxy::reply_heard))]
     pub(crate) fn replied(&mut self, k: u32, reply: Response) -> Result<Sent, NoMemory>
-        ensures { MakesOrKeeps self.old self.new (reply_heard k (show_response reply)) result }
+        ensures makes { MakesOrKeeps self.old self.new
+            (reply_heard k (show_response reply)) result }
+        // A response that isn't passed on takes no memory.
+        ensures ready { (reply_heard k (show_response reply) (show_proxy self.old)).1 ≡ []
+            → IsOk result }
     {
         let (id, body) = reply.into_parts();
         let Some(n) = answered_id(&id) else {

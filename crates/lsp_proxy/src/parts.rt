@@ -1,5 +1,5 @@
 //! The messages that a proxy makes, and what it reads of the ones that it is given.
-ghost use Rattle.std.specs.Prelude.{◌≡◌, ◌<◌, [], ◌∷◌, Err, IfOk, option_map};
+ghost use Rattle.std.specs.Prelude.{◌≡◌, ◌<◌, [], ◌∷◌, Err, IfOk, IsOk, option_map};
 ghost use Rattle.serde_json.specs.View.{view};
 ghost use Rattle.lsp_rpc.specs.Message.{error_with_code};
 ghost use Rattle.lsp_rpc.specs.Shown.{show_id, show_body, show_request, show_message};
@@ -97,7 +97,9 @@ fn cancel(alloc: Global, n: u64) -> Result<Message, NoMemory>
 /// The cancel of the request that was passed on under this id, if there is one and a cancel can
 /// name it.
 pub(crate) fn cancels(alloc: Global, side: Side, place: Option<u64>) -> Result<Sent, NoMemory>
-    ensures { IfOk result (λ sent. all_sent sent.items ≡ cancel_passed side place) }
+    ensures sent { IfOk result (λ sent. all_sent sent.items ≡ cancel_passed side place) }
+    // No cancel takes no memory.
+    ensures ready { cancel_passed side place ≡ [] → IsOk result }
 {
     match place {
         Some(n) if n < CANCEL_LIMIT => one(alloc, side, cancel(alloc, n)?),

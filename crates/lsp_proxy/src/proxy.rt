@@ -1,5 +1,5 @@
 //! The proxy, and what it makes of each message.
-ghost use Rattle.std.specs.Prelude.{IsTrue, ◌≡◌, ◌<◌, ◌≤◌, ◌^◌, length, replicate, IfOk};
+ghost use Rattle.std.specs.Prelude.{IsTrue, ◌≡◌, ◌<◌, ◌≤◌, ◌^◌, length, replicate, true, IfOk, IsOk};
 ghost use Rattle.lsp_proxy.specs.Entries.{are_below};
 ghost use Rattle.lsp_proxy.specs.Proxy.{opening_state, last_id, lowest, are_of};
 
@@ -56,7 +56,7 @@ fn all_here(alloc: Global, n: u32) -> Result<Vec<Presence>, NoMemory>
 impl Proxy {
     ghost use Rattle.lsp_rpc.specs.Shown.{show_message};
     ghost use Rattle.lsp_proxy.specs.Outgoing.{GivesOrKeeps};
-    ghost use Rattle.lsp_proxy.specs.Proxy.{from_editor, from_server};
+    ghost use Rattle.lsp_proxy.specs.Proxy.{from_editor, from_server, presence, is_gone};
     ghost use Rattle.lsp_proxy.specs.Shown.{show_proxy, MakesOrKeeps};
 
     /// A proxy for that many editors, at least one. They are numbered from 0.
@@ -83,7 +83,10 @@ impl Proxy {
     /// the number of editors is as one that is gone. Out of memory changes nothing.
     #[tactic(auto, unfolding(crate::specs::Proxy::from_editor))]
     pub fn editor(&mut self, k: u32, message: Message) -> Result<Sent, NoMemory>
-        ensures { MakesOrKeeps self.old self.new (from_editor k (show_message message)) result }
+        ensures makes { MakesOrKeeps self.old self.new
+            (from_editor k (show_message message)) result }
+        // An editor that is gone takes no memory.
+        ensures gone { is_gone (presence k (show_proxy self.old)) ≡ true → IsOk result }
     {
         if presence_of(&self.editors, k).is_gone() {
             return Ok(Vec::new(self.alloc));

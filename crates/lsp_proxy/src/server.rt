@@ -1,9 +1,9 @@
 //! What the server sends, row by row.
-ghost use Rattle.std.specs.Prelude.{◌≡◌, ◌<◌, ◌^◌, [], ◌∷◌, length, Some, IfOk, option_map, map, if◌then◌else◌};
+ghost use Rattle.std.specs.Prelude.{◌≡◌, ◌<◌, ◌^◌, [], ◌∷◌, length, Some, None, false, IfOk, IsOk, option_map, map, if◌then◌else◌};
 ghost use Rattle.lsp_rpc.specs.Message.{request};
 ghost use Rattle.lsp_rpc.specs.Shown.{show_id, show_body, show_request, show_response};
 ghost use Rattle.std.specs.List.{filter};
-ghost use Rattle.lsp_proxy.specs.Proxy.{waiting_sent, opening_after, initialize_answered, answer_heard, server_response, pass_to, server_request, first_requested, cancel_entry, server_cancel, broadcast, lowest, last_id, response_to, internal, server_called, here_from, is_here_in, answered_to};
+ghost use Rattle.lsp_proxy.specs.Proxy.{waiting_sent, opening_after, initialize_answered, answer_heard, server_response, pass_to, server_request, first_requested, cancel_entry, server_cancel, broadcast, lowest, last_id, response_to, internal, server_called, here_from, is_here_in, answered_to, drawn_of};
 ghost use Rattle.lsp_proxy.specs.Outgoing.{GivesOutgoing, GivesOrKeeps};
 ghost use Rattle.lsp_proxy.specs.Sent.{all_sent};
 ghost use Rattle.lsp_proxy.specs.Tables.{show_asker};
@@ -48,9 +48,10 @@ fn answer_if_here(
     asker: &Asker,
     body: Result<Value, Error>,
 ) -> Result<Sent, NoMemory>
-    ensures { IfOk result (λ sent. all_sent sent.items
+    ensures sent { IfOk result (λ sent. all_sent sent.items
         ≡ (if is_here_in editors.now (show_asker asker.now)
         then answered_to (show_body body) (show_asker asker.now) ∷ [] else [])) }
+    ensures ready { is_here_in editors.now (show_asker asker.now) ≡ false → IsOk result }
 {
     if presence_of(editors, asker.editor).is_gone() {
         return Ok(Vec::new(alloc));
@@ -104,7 +105,10 @@ impl Proxy {
     // The response to an editor's request goes to that editor, under its own id.
     #[tactic(auto, unfolding(crate::specs::Proxy::answer_heard))]
     fn answered(&mut self, n: u64, body: Result<Value, Error>) -> Result<Sent, NoMemory>
-        ensures { MakesOrKeeps self.old self.new (answer_heard n (show_body body)) result }
+        ensures makes { MakesOrKeeps self.old self.new (answer_heard n (show_body body)) result }
+        // A response that isn't passed on takes no memory.
+        ensures ready { (answer_heard n (show_body body) (show_proxy self.old)).1 ≡ []
+            → IsOk result }
     {
         let Some(asker) = self.asked.asker(n) else {
             return Ok(Vec::new(self.alloc));
@@ -116,7 +120,10 @@ impl Proxy {
 
     #[tactic(auto, unfolding(crate::specs::Proxy::server_response))]
     pub(crate) fn server_response(&mut self, reply: Response) -> Result<Sent, NoMemory>
-        ensures { MakesOrKeeps self.old self.new (server_response (show_response reply)) result }
+        ensures makes { MakesOrKeeps self.old self.new
+            (server_response (show_response reply)) result }
+        // One under an id that is never drawn takes no memory.
+        ensures unasked { drawn_of (show_response reply).id ≡ None → IsOk result }
     {
         let (id, body) = reply.into_parts();
         let Some(n) = answered_id(&id) else {
@@ -173,8 +180,10 @@ impl Proxy {
     // The cancel of the server's first request of that id. All of its requests are of the lowest
     // editor.
     fn cancels_of(&self, id: Id) -> Result<Sent, NoMemory>
-        ensures { IfOk result (λ sent. all_sent sent.items
+        ensures sent { IfOk result (λ sent. all_sent sent.items
             ≡ cancel_entry (first_requested (show_id id) (show_proxy self.now).requested)) }
+        ensures ready { cancel_entry (first_requested (show_id id) (show_proxy self.now).requested)
+            ≡ [] → IsOk result }
     {
         match lowest_of(&self.editors) {
             Some(k) => {
@@ -187,7 +196,10 @@ impl Proxy {
 
     #[tactic(auto, unfolding(crate::specs::Proxy::server_cancel))]
     fn server_cancel(&self, request: Request) -> Result<Sent, NoMemory>
-        ensures { IfOk result (MakesSent self.now self.now (server_cancel (show_request request))) }
+        ensures sent { IfOk result (MakesSent self.now self.now
+            (server_cancel (show_request request))) }
+        ensures ready { (server_cancel (show_request request) (show_proxy self.now)).1 ≡ []
+            → IsOk result }
     {
         let (_, _, params) = request.into_parts();
         match cancelled_id(params) {

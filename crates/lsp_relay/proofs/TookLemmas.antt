@@ -1,5 +1,5 @@
 -- Items that were taken, one list after another.
-use Rattle.std.proofs.Common.{◌≡◌, ◌<◌, ◌+◌, ◌^◌, ℕ, List, [], ◌∷◌, ◌++◌, length, refl, sym, ◌∙◌, ap, subst, append_assoc, length-append, arith, Some, None}
+use Rattle.std.proofs.Common.{◌≡◌, ◌≢◌, ◌<◌, ◌+◌, ◌^◌, ℕ, List, [], ◌∷◌, ◌++◌, length, refl, sym, ◌∙◌, ap, subst, append_assoc, length-append, arith, Some, None}
 use Rattle.std.proofs.lemmas.List.{append-nil}
 use Rattle.lsp_frame.specs.Codec.{Item, At, told_at}
 use Rattle.lsp_server.specs.Items.{Decodes}
@@ -106,3 +106,11 @@ told_more a codec0 b codec1 c codec2 p q = record {
 -- an item that a codec gave is told no more
 pub fewer_told : (a b : At) (x : Item) → Decodes a (x ∷ []) b → length (told_at b) < length (told_at a)
 fewer_told a b x decodes = let e = ap length (told_now a b (x ∷ []) decodes) in omega (arith, e)
+
+nothing_after : (xs ys : List Item) → xs ++ ys ≡ [] → ys ≡ []
+nothing_after [] ys none = none
+nothing_after (x ∷ xs) ys none = absurd (cc)
+
+-- where something is told later, something was told before
+pub told_before : (a : RelayPlace) (codec0 : At) (b : RelayPlace) (codec1 : At) → TookTold a codec0 b codec1 → told_at codec1 ≢ [] → told_at codec0 ≢ []
+told_before a codec0 b codec1 p later none = later (nothing_after p.given (told_at codec1) (sym (told_now codec0 codec1 p.given p.decodes) ∙ none))

@@ -1,5 +1,5 @@
 //! A proxy that takes its messages from the items of a stream, and frames what it sends.
-ghost use Rattle.std.specs.Prelude.{◌≡◌, ◌<◌, ◌^◌, ◌++◌, [], ◌∷◌, true, false, length, IfOk, OnOk};
+ghost use Rattle.std.specs.Prelude.{◌≡◌, ◌≢◌, ◌<◌, ◌^◌, ◌++◌, [], ◌∷◌, None, true, false, length, IfOk, OnOk, OnErr, IsOk};
 ghost use Rattle.lsp_frame.specs.Codec.{message as message_item, items_at, told_at};
 ghost use Rattle.lsp_rpc.specs.Message.{message_has_float};
 ghost use Rattle.lsp_rpc.specs.Shown.{show_message};
@@ -8,6 +8,7 @@ ghost use Rattle.lsp_proxy.specs.Outgoing.{expanded};
 ghost use Rattle.lsp_proxy.specs.Sent.{all_sent};
 ghost use Rattle.lsp_proxy.specs.Shown.{show_proxy};
 ghost use Rattle.lsp_relay.specs.Floats.{AreFloatFree, opening_has_float};
+ghost use Rattle.lsp_relay.specs.Notes.{event_of_message};
 ghost use Rattle.lsp_relay.specs.Relay.{opening_place, TookItems, sent_frames, events};
 ghost use Rattle.lsp_relay.specs.Sends.{SendsBytes};
 
@@ -98,8 +99,11 @@ impl Carrier {
     // Takes the item that is this message.
     fn take(&mut self, message: Message) -> Result<(), NoMemory>
         requires { message_has_float (show_message message) ≡ false }
-        ensures { OnOk result (TookItems (show_carrier self.old)
+        ensures took { OnOk result (TookItems (show_carrier self.old)
             (message_item (show_message message) ∷ []) (show_carrier self.new)) }
+        // One that tells no message of a side takes no memory.
+        ensures dropped { event_of_message self.old.editors (show_message message) ≡ None
+            → IsOk result }
     {
         match event(self.alloc, self.editors, message) {
             Some((side, message)) => {
@@ -121,6 +125,8 @@ impl Carrier {
         ensures fewer { IfOk result (λ more. more ≡ true
             → length (told_at codec.new) < length (told_at codec.old)) }
         ensures all { IfOk result (λ more. more ≡ false → told_at codec.new ≡ []) }
+        // Memory is taken for an item alone.
+        ensures memory { OnErr result (told_at codec.old ≢ []) }
     {
         match codec.decode()? {
             Decoded::Item(message) => {
@@ -139,6 +145,7 @@ impl Carrier {
     pub(crate) fn take_told(&mut self, codec: &mut LanguageServerCodec) -> Result<(), NoMemory>
         ensures took { OnOk result (TakesTold self.old codec.old self.new codec.new) }
         ensures all { OnOk result (told_at codec.new ≡ []) }
+        ensures memory { OnErr result (told_at codec.old ≢ []) }
     {
         'items: while self.take_next(codec)? {}
         Ok(())
@@ -150,6 +157,8 @@ impl Carrier {
         ensures took { OnOk result
             (TookItems (show_carrier self.old) (items_at codec.old) (show_carrier self.new)) }
         ensures silent { OnOk result (events self.old.editors (items_at codec.old) ≡ []) }
+        // No memory is taken.
+        ensures memory { IsOk result }
     {
         match codec.finish()? {
             Some(_) => {

@@ -65,6 +65,7 @@ pub fn write_all<O: Sink>(sink: &mut O, bytes: &[u8]) -> Result<(), Refused>
     ensures part { OnErr result ((written : List ℕ) × IsPrefixOf written bytes.now
         × Appends (O.taken sink.old) (O.taken sink.new) written) }
     ensures sink { OnlyTakes O.flushed O.faults O.beside sink.old sink.new result }
+    ensures none { bytes.now ≡ [] → IsOk result }
 {
     let mut at = 0;
     while at < bytes.len() {

@@ -31,9 +31,9 @@ returns-in-Server-clause-kept c =
 pub returns-in_ok-editor-in-Editor-clause-float_free : goal.returns-in_ok-editor-in-Editor-clause-float_free
 returns-in_ok-editor-in-Editor-clause-float_free c =
     let clean = free (Editor c.in-Editor.k, show_message c.args.message) (show_proxy c.args.proxy.now) c.requires.float_free c.requires.kept in
-    subst (λ (l : Sent). AreFloatFree l) (sym c.in_ok-editor-in-Editor.ensures.ok.1) clean.0
+    subst (λ (l : Sent). AreFloatFree l) (sym c.in_ok-editor-in-Editor.ensures.makes.ok.1) clean.0
 
 pub returns-in_ok-editor-in-Editor-clause-kept : goal.returns-in_ok-editor-in-Editor-clause-kept
 returns-in_ok-editor-in-Editor-clause-kept c =
     let clean = free (Editor c.in-Editor.k, show_message c.args.message) (show_proxy c.args.proxy.now) c.requires.float_free c.requires.kept in
-    kept _ _ c.in_ok-editor-in-Editor.ensures.ok.0 clean.1
+    kept _ _ c.in_ok-editor-in-Editor.ensures.makes.ok.0 clean.1

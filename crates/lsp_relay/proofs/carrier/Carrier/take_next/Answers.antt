@@ -10,7 +10,7 @@ pub returns-in_ok-take-in-Item-clause-took : goal.returns-in_ok-take-in-Item-cla
 returns-in_ok-take-in-Item-clause-took c = record {
   given = message (show_message c.in-Item.message) ∷ [];
   decodes = record { items = rw c.in-Item.is at c.in_ok-message.ensures.items; told = rw c.in-Item.is at c.in_ok-message.ensures.told };
-  took = c.in_ok-take-in-Item.ensures;
+  took = c.in_ok-take-in-Item.ensures.took;
 }
 
 pub returns-in_ok-take-in-Item-clause-fewer : goal.returns-in_ok-take-in-Item-clause-fewer
