@@ -1,5 +1,6 @@
 -- What the code's typed calls come to. A lemma (proofs/ShownLemmas.antt) says that it is `docs_turn` of the calls that they show.
-use Rattle.std.specs.Prelude.{option_map, Result, Ok, Err, map, string_bytes}
+use Rattle.std.specs.Prelude.{Bool, false, option_map, Result, Ok, Err, map, string_bytes}
+use Rattle.std.specs.FinMap as fin
 use Rattle.std.specs.Str.{chars}
 use Rattle.serde_json.specs.View.{view}
 use Rattle.lsp_rpc.specs.declared.code.ErrorCode.TheVariants.{MethodNotFound}
@@ -52,6 +53,11 @@ call_turn ds (calls.Life c) = life_turn c
 call_turn ds (calls.Sync c) = sync_turn c
 call_turn ds (calls.Custom n params) = replies (custom_answer (text_answer ds (requested_uri (option_map view params))))
 call_turn ds c = unknown_turn
+
+-- a close of an open document
+abbrev pub closes_open : DocsTurn → DocumentMap → Bool
+closes_open (tells (Closed uri)) ds = fin.contains_key ds uri
+closes_open turn ds = false
 
 -- the reply that was made, or an error, whatever was asked
 abbrev pub reply_or_error : {A : Type 0} → (A → MethodReply) → Result A Error → MethodReply

@@ -1,17 +1,19 @@
 // The server.
-ghost use Rattle.std.specs.Prelude.{◌≡◌, ◌≢◌, IfErr, IfOk, IsSome, None, OnErr, OnOk, Some, option_map, true};
+ghost use Rattle.std.specs.Prelude.{◌≡◌, ◌≢◌, IfErr, IfOk, IsSome, None, Ok, OnErr, OnOk, Some, false, option_map, true};
 ghost use Rattle.std.specs.FinMap as map;
 ghost use Rattle.std.specs.Str.{encode_utf8_all};
+ghost use Rattle.serde_json.specs.Data.{null};
 ghost use Rattle.serde_json.specs.View.{view};
 ghost use Rattle.lsp_rpc.specs.Shown.{show_body};
 ghost use Rattle.lsp_desk.specs.Meaning.{PollsOn};
 ghost use Rattle.lsp_session.specs.Fails.{PollFails};
 ghost use Rattle.lsp_service.specs.Replies.{initialize_data, show_life_reply, show_offer};
 ghost use Rattle.lsp_service.specs.Data.{noted};
+ghost use Rattle.lsp_service.specs.declared.call.Call.TheVariants as calls;
 ghost use Rattle.lsp_service.specs.declared.call.LifeCall.TheVariants as life_calls;
 ghost use Rattle.lsp_uri.specs.Uri.{uri_text};
 ghost use Rattle.lsp_docs.specs.Docs.{requested_uri as requested_uri_def, text_answer, found_data, offered, replies, Heeded, LogsRefusal, TakesTurn};
-ghost use Rattle.lsp_docs.specs.Typed.{opening_of, changes_of, closing_of, life_turn, sync_turn, reply_or_error};
+ghost use Rattle.lsp_docs.specs.Typed.{opening_of, changes_of, closing_of, call_turn, life_turn, sync_turn, closes_open, reply_or_error};
 
 use lsp_client::Client;
 use lsp_desk::{Caller, DeskFault};
@@ -116,6 +118,7 @@ impl DocsServer {
         ensures failed { IfErr result (λ fault. PollFails D.meaning client.old client.new fault) }
         ensures closes { OnErr result (map.get self.old.documents
             (uri_text params.text_document.uri) ≡ None) }
+        ensures err { OnErr result (self.new ≡ self.old) }
     {
         match self.documents.close(params.text_document.uri.as_str()) {
             Some(_) => Ok(()),
@@ -134,6 +137,8 @@ impl DocsServer {
             (TakesTurn (sync_turn call) self.old.documents self.new.documents
             (reply_or_error (λ _. noted) reply))) }
         ensures failed { IfErr result (λ fault. PollFails D.meaning client.old client.new fault) }
+        ensures closes { OnErr result (closes_open (sync_turn call) self.old.documents ≡ false) }
+        ensures err { OnErr result (self.new ≡ self.old) }
     {
         match call {
             SyncCall::DidOpen(params) => match self.open(alloc, Box::into_inner(params), client) {
@@ -168,8 +173,10 @@ impl DocsServer {
         alloc: Global,
         params: Option<Value>,
     ) -> Result<Result<Value, Error>, NoMemory>
-        ensures { IfOk result (λ body. show_body body
+        ensures body { IfOk result (λ body. show_body body
             ≡ text_answer self.now.documents (requested_uri_def (option_map view params))) }
+        ensures memory { OnErr result (text_answer self.now.documents
+            (requested_uri_def (option_map view params)) ≢ Ok null) }
     {
         let uri = match &params {
             Some(params) => requested_uri(params),
@@ -183,7 +190,10 @@ impl DocsServer {
 }
 
 impl<D: Caller> LanguageServer<D> for DocsServer {
-    ghost use Rattle.lsp_docs.specs.Docs.{docs_semantics};
+    ghost use Rattle.lsp_service.specs.Calls.{show_call};
+    ghost use Rattle.lsp_service.specs.Data.{custom_answer};
+    ghost use Rattle.lsp_service.specs.Started.{show_started};
+    ghost use Rattle.lsp_docs.specs.Docs.{docs_semantics, DocsPoll};
     ghost use Rattle.lsp_docs.specs.DocsLaws.{docs_laws};
 
     type Task = NoTask;
@@ -192,12 +202,25 @@ impl<D: Caller> LanguageServer<D> for DocsServer {
 
     ghost laws = { docs_laws };
 
+    /// A fault leaves all documents as they were. `shutdown`, the close of an open document and
+    /// `docs/text` of one that isn't open come to none.
     fn call(
         &mut self,
         alloc: Global,
         call: Call,
         client: &mut D,
-    ) -> Result<Started<NoTask>, DeskFault> {
+    ) -> Result<Started<NoTask>, DeskFault>
+        ensures called { IfOk result (λ started. PollsOn D.meaning client.old client.new
+            (λ asked. DocsPoll self.old (show_call call) asked self.new
+            (show_started docs_semantics started))) }
+        ensures failed { IfErr result (λ fault. PollFails D.meaning client.old client.new fault) }
+        ensures shutdown { OnErr result (call ≢ calls.Life life_calls.Shutdown) }
+        ensures closes { OnErr result (closes_open (call_turn self.old.documents call)
+            self.old.documents ≡ false) }
+        ensures text { OnErr result (call_turn self.old.documents call
+            ≢ replies (custom_answer (Ok null))) }
+        ensures err { OnErr result (self.new ≡ self.old) }
+    {
         match call {
             Call::Life(call) => match life_reply(alloc, call) {
                 Ok(Ok(reply)) => Ok(Started::Now(Reply::Life(reply))),

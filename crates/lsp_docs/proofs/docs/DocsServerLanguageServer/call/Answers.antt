@@ -1,13 +1,22 @@
 -- Each call takes the turn of its group; want of memory comes before any call on the desk.
-use Rattle.std.proofs.Common.{sym, ap, ◌∙◌, refl, subst}
+use Rattle.std.proofs.Common.{◌≡◌, sym, ap, ◌∙◌, refl, subst}
+use Rattle.std.specs.Prelude.{Result}
+use Rattle.serde_json.specs.Data.{Data}
+use Rattle.lsp_rpc.specs.Message.{ErrorData, error_with_code}
+use Rattle.lsp_rpc.specs.declared.code.ErrorCode.TheVariants.{MethodNotFound}
 use Rattle.lsp_rpc.specs.Shown.{show_error}
 use Rattle.lsp_desk.specs.Meaning.{PollsOn}
+use Rattle.lsp_session.proofs.FailLemmas.{poll_fails_still}
 use Rattle.lsp_service.specs.Data.{custom_answer, refusal, noted}
+use Rattle.lsp_service.specs.declared.call.LifeCall.TheVariants as life_calls
 use Rattle.lsp_service.specs.Replies.{show_life_reply}
 use Rattle.lsp_docs.specs.Docs.{replies, TakesTurn}
-use Rattle.lsp_docs.specs.Typed.{call_turn, sync_turn, reply_or_error}
+use Rattle.lsp_docs.specs.Typed.{call_turn, sync_turn, closes_open, reply_or_error}
 use Rattle.lsp_docs.proofs.TurnLemmas.{takes_reply, polls_turn, unknown_group}
 use Rattle.lsp_docs.proofs.docs.DocsServerLanguageServer.call.Goals as goal
+
+no_text : {b : Result Data ErrorData} → replies (refusal (error_with_code MethodNotFound)) ≡ replies (custom_answer b) → ⊥
+no_text e = cc
 
 pub returns-in-Ok-Ok-clause-called : goal.returns-in-Ok-Ok-clause-called
 returns-in-Ok-Ok-clause-called g c =
@@ -34,7 +43,7 @@ pub returns-in-Ok-clause-called : goal.returns-in-Ok-clause-called
 returns-in-Ok-clause-called g c =
     let s = c.args.self.now in
     polls_turn g.D.Caller.meaning c.args.client.now c.args.client.now s s c.args.call _ _ (ap (call_turn s.documents) c.in-Custom.is)
-    (takes_reply g.D.Caller.meaning c.args.client.now _ s.documents s.documents _ (ap (λ b. replies (custom_answer b)) (sym c.in-Ok.ensures)) refl)
+    (takes_reply g.D.Caller.meaning c.args.client.now _ s.documents s.documents _ (ap (λ b. replies (custom_answer b)) (sym c.in-Ok.ensures.body)) refl)
 
 pub returns-in-Ok-not_found_for : goal.returns-in-Ok-not_found_for
 returns-in-Ok-not_found_for g c =
@@ -43,4 +52,21 @@ returns-in-Ok-not_found_for g c =
       called = polls_turn g.D.Caller.meaning c.args.client.now c.args.client.now s s c.args.call _ _ (unknown_group s.documents c.args.call c.in_default.not-Life c.in_default.not-Sync c.in_default.not-Custom)
           (takes_reply g.D.Caller.meaning c.args.client.now _ s.documents s.documents _ (ap replies (sym c.in-Ok-not_found_for.ensures)) refl);
       failed = tt;
+      shutdown = tt;
+      closes = tt;
+      text = tt;
+      err = tt;
+    }
+
+pub returns-in-Err-not_found_for : goal.returns-in-Err-not_found_for
+returns-in-Err-not_found_for g c =
+    let ds = c.args.self.now.documents in
+    let unknown = unknown_group ds c.args.call c.in_default.not-Life c.in_default.not-Sync c.in_default.not-Custom in
+    record {
+      called = tt;
+      failed = poll_fails_still g.D.Caller.meaning c.args.client.now;
+      shutdown = λ e. c.in_default.not-Life life_calls.Shutdown e;
+      closes = ap (λ t. closes_open t ds) unknown;
+      text = λ e. no_text (sym unknown ∙ e);
+      err = refl;
     }
