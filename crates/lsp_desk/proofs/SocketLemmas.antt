@@ -62,9 +62,9 @@ spends_by : {R D : Type 0} (m : Meaning D) (new : D) (fault : DeskFault) → Tel
 spends_by m new faults.NoMemory says = tt
 spends_by m new (faults.Spent n) says = says n refl
 
-cut_one : {R : Type 0} (show : R → Reply) (call : Call) (fault : DeskFault) (own : List DeskEntry) → Adds show call (Err fault) own → AreCut (call ∷ []) own
-cut_one show call faults.NoMemory own one = subst (AreCut (call ∷ [])) (sym one) (refl, refl)
-cut_one show call (faults.Spent n) own none = subst (AreCut (call ∷ [])) (sym none) tt
+cut_one : {R : Type 0} (show : R → Reply) (call : Call) (fault : DeskFault) (own : List DeskEntry) → Adds show call (Err fault) own → AreCut fault (call ∷ []) own
+cut_one show call faults.NoMemory own one = subst (AreCut faults.NoMemory (call ∷ [])) (sym one) (refl, (refl, refl))
+cut_one show call (faults.Spent n) own none = subst (AreCut (faults.Spent n) (call ∷ [])) (sym none) tt
 
 -- the only call failed
 pub call_cut : {D R : Type 0} (m : Meaning D) (show : R → Reply) (old new : D) (call : Call) (fault : DeskFault) → Calls m show old call (Err fault) new
@@ -77,7 +77,7 @@ pub cut_second : {D : Type 0} (m : Meaning D) (old mid new : D) (life : Life) (d
 cut_second m old mid new life d fault p q = record {
   trace = p.trace ++ q.trace;
   grows = grows_on m old mid new p.trace q.trace p.grows q.grows;
-  cut = subst (AreCut (Look ∷ d ∷ [])) (sym (owns-append p.trace q.trace ∙ ap (λ l. l ++ owns q.trace) p.holds)) (refl, q.cut);
+  cut = subst (AreCut fault (Look ∷ d ∷ [])) (sym (owns-append p.trace q.trace ∙ ap (λ l. l ++ owns q.trace) p.holds)) (refl, q.cut);
   spends = q.spends;
 }
 

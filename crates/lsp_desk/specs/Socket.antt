@@ -4,6 +4,7 @@ use Rattle.lsp_rpc.specs.declared.request.Request.{Request}
 use Rattle.lsp_rpc.specs.Message.{RequestData, may_have_float}
 use Rattle.lsp_rpc.specs.Shown.{show_request}
 use Rattle.lsp_desk.specs.declared.call.DeskFault.{DeskFault}
+use Rattle.lsp_desk.specs.declared.call.DeskFault.TheVariants as faults
 use Rattle.lsp_desk.specs.declared.life.Life.{Life}
 use Rattle.lsp_desk.specs.declared.life.Life.TheVariants.{Exited}
 use Rattle.lsp_desk.specs.declared.socket.SocketFault.{SocketFault}
@@ -45,17 +46,22 @@ next_has_float Pending = false
 abbrev pub HasNotExited : List DeskEntry → Type 0
 HasNotExited own = (life : Life) × (is_exited life ≡ false) × (own ≡ looked life ∷ [])
 
--- the first of these calls were made and replied to; the next one was out of memory, or it was not made
-abbrev pub AreCut : List Call → List DeskEntry → Type 0
-AreCut [] own = ⊥
-AreCut (c ∷ cs) [] = Unit {0}
-AreCut (c ∷ cs) (e ∷ own) = (e.call ≡ c) × MatchOption e.reply (own ≡ []) (λ reply. AreCut cs own)
+-- a call that comes to this fault is not made
+abbrev pub IsUnmade : DeskFault → Type 0
+IsUnmade faults.NoMemory = ⊥
+IsUnmade (faults.Spent n) = Unit {0}
+
+-- the first of these calls were made and replied to; the next one was out of memory, or, where the desk is spent, not made
+abbrev pub AreCut : DeskFault → List Call → List DeskEntry → Type 0
+AreCut fault [] own = ⊥
+AreCut fault (c ∷ cs) [] = IsUnmade fault
+AreCut fault (c ∷ cs) (e ∷ own) = (e.call ≡ c) × MatchOption e.reply ((fault ≡ faults.NoMemory) × (own ≡ [])) (λ reply. AreCut fault cs own)
 
 -- these calls were begun, and then this fault came in place of a reply
 pub record CutShort {D : Type 0} (m : Meaning D) (old new : D) (calls : List Call) (fault : DeskFault) : Type 0 where
   pub trace : List TraceEntry
   pub grows : Grows m old trace new
-  pub cut : AreCut calls (owns trace)
+  pub cut : AreCut fault calls (owns trace)
   pub spends : Spends m new fault
 
 -- why no answer is taken: the session has exited, or the desk did not say
