@@ -1,5 +1,5 @@
 -- What params are read as, by the row of their method.
-use Rattle.std.specs.Prelude.{◌≡◌, ◌-◌, ℕ, nat_lt, if◌then◌else◌, Option, Some, None, IsSome}
+use Rattle.std.specs.Prelude.{◌≡◌, ◌-◌, ℕ, nat_lt, if◌then◌else◌, Option, Some, None}
 use Rattle.serde_json.specs.Data.{Data}
 use Rattle.lsp_session.specs.declared.handlers.CallMisfit.{CallMisfit}
 use Rattle.lsp_session.specs.declared.handlers.CallMisfit.TheVariants as misfits
@@ -55,7 +55,7 @@ abbrev pub IsRefused : {C : Type 0} → Option Data → Reading C → CallMisfit
 IsRefused params r misfits.Missing = r ≡ missing
 IsRefused params r misfits.Unexpected = r ≡ unexpected
 IsRefused params r misfits.Unfit = r ≡ unfit
-IsRefused params r misfits.NoMemory = IsSome params × MayLackMemory r
+IsRefused params r misfits.NoMemory = MayLackMemory params r
 
 -- the params of a method are refused so
 abbrev pub Refuses : Method → Option Data → CallMisfit → Type 0
