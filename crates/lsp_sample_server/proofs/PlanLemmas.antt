@@ -1,6 +1,6 @@
 -- What a call is taken for.
 use Rattle.std.proofs.Common.{◌≡◌, ◌∙◌, [], refl, ap, subst}
-use Rattle.std.specs.Prelude.{None, Box}
+use Rattle.std.specs.Prelude.{None, Result, Ok, Err, OnErr, Box}
 use Rattle.std.specs.declared.alloc.Global.{Global}
 use Rattle.lsp_desk.specs.Meaning.{Meaning, PollsOn}
 use Rattle.lsp_desk.proofs.TraceLemmas.{grows_none}
@@ -55,6 +55,12 @@ begins_replied m d s c r turn = record {
   grows = grows_none m d;
   holds = record { same = refl; begins = subst (λ t. BeginsTurn t [] (Now r)) turn (refl, refl) };
 }
+
+-- ---- what holds where memory lacks
+
+pub on_fault : {A E : Type 0} {P : Type 0} (r : Result A E) → P → OnErr r P
+on_fault (Ok x) p = tt
+on_fault (Err e) p = p
 
 -- ---- the others
 

@@ -1,5 +1,5 @@
 -- What the polls of a command of the sample come to.
-use Rattle.std.specs.Prelude.{◌≡◌, ◌==◌, ◌-◌, ℕ, List, [], if◌then◌else◌, Result, Ok, Err}
+use Rattle.std.specs.Prelude.{◌≡◌, ◌==◌, ◌-◌, ℕ, Bool, true, false, List, [], if◌then◌else◌, Result, Ok, Err}
 use Rattle.serde_json.specs.Data.{Data, number, unsigned}
 use Rattle.lsp_rpc.specs.declared.code.ErrorCode.TheVariants.{InvalidParams}
 use Rattle.lsp_rpc.specs.Message.{ErrorData, error_with_code}
@@ -78,6 +78,13 @@ Executes params Echo asked start = Quietly (Now (command_reply (Ok (argument_in 
 Executes params (Wait polls) asked start = Quietly (waits params polls polls) asked start
 Executes params Ask asked start = Asks params asked start
 Executes params Unknown asked start = Quietly (Now (command_reply (Err (error_with_code InvalidParams)))) asked start
+
+-- a poll fails only where it asks the client, or where its reply is an error
+abbrev pub may_fail : Command → Bool
+may_fail Echo = false
+may_fail (Wait polls) = false
+may_fail Ask = true
+may_fail Unknown = true
 
 abbrev pub ResumesLeft : Plain → LeftData → List DeskEntry → Start TaskData → Type 0
 ResumesLeft params (waiting left polls) asked start = Quietly (waits params left polls) asked start

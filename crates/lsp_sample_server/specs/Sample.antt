@@ -1,5 +1,5 @@
 -- What the sample does: its relations are a function of the calls, of what was asked and of the desk's replies.
-use Rattle.std.specs.Prelude.{◌≡◌, ℕ, zero, suc, pos, List, [], codes, Option, Some, Result, Ok, Err}
+use Rattle.std.specs.Prelude.{◌≡◌, ℕ, zero, suc, pos, Bool, true, false, List, [], codes, Option, Some, Result, Ok, Err}
 use Rattle.serde_json.specs.Data.{Data, number, unsigned, object, no_members, member}
 use Rattle.lsp_rpc.specs.declared.code.ErrorCode.TheVariants.{InvalidParams, MethodNotFound}
 use Rattle.lsp_rpc.specs.Message.{ErrorData, error_with_code}
@@ -82,6 +82,12 @@ method_turn m params = replies (other_reply (targets.Typed m))
 abbrev pub sample_turn : MethodCall → SampleTurn
 sample_turn (typed m params) = method_turn m params
 sample_turn (custom n params) = replies (other_reply (targets.Custom Request))
+
+-- memory is taken where something is written for the reply, and where it is an error; the others are at hand
+abbrev pub takes_memory : SampleTurn → Bool
+takes_memory (replies (written m r)) = true
+takes_memory (replies (refusal e)) = true
+takes_memory turn = false
 
 -- ---- polls
 

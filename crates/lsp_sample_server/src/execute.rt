@@ -1,5 +1,5 @@
 // How a command goes on.
-ghost use Rattle.std.specs.Prelude.{◌≡◌, true, IfOk, IfErr};
+ghost use Rattle.std.specs.Prelude.{◌≡◌, true, IfOk, IfErr, OnErr};
 ghost use Rattle.serde_json.specs.View.{view};
 ghost use Rattle.lsp_shape.specs.Row.{maybe, list};
 ghost use Rattle.lsp_base.specs.Document.{workspace_folder_row};
@@ -9,7 +9,8 @@ ghost use Rattle.lsp_session.specs.Fails.{PollFails};
 ghost use Rattle.lsp_client.specs.Methods.{written_by_row};
 ghost use Rattle.lsp_ask.specs.Shown.{ticket_number};
 ghost use Rattle.lsp_sample_server.specs.Command.{command_in};
-ghost use Rattle.lsp_sample_server.specs.Execute.{Asks, Executes, ResumesCommand, PollsAnswer, waits as waits_def};
+ghost use Rattle.lsp_sample_server.specs.Execute.{Asks, Executes, ResumesCommand, PollsAnswer, may_fail, waits as waits_def};
+ghost use Rattle.lsp_sample_server.specs.Left.{command_left, show_left};
 ghost use Rattle.lsp_sample_server.specs.Shown.{show_outcome, show_task};
 
 use crate::command::{Command, echoed, read_command};
@@ -41,6 +42,8 @@ pub(crate) fn execute<D: Caller>(
         (λ asked. Executes (execute_command_params_row.shown params)
         (command_in (execute_command_params_row.shown params)) asked (show_outcome outcome))) }
     ensures failed { IfErr result (λ fault. PollFails D.meaning client.old client.new fault) }
+    ensures memory { OnErr result
+        (may_fail (command_in (execute_command_params_row.shown params)) ≡ true) }
 {
     match read_command(&params) {
         Command::Echo => Ok(Outcome::Ended(Ok(echoed(params)))),
@@ -60,6 +63,7 @@ pub(crate) fn go_on<D: Caller>(
     ensures resumed { IfOk result (λ outcome. PollsOn D.meaning client.old client.new
         (λ asked. ResumesCommand (show_task task) asked (show_outcome outcome))) }
     ensures failed { IfErr result (λ fault. PollFails D.meaning client.old client.new fault) }
+    ensures memory { OnErr result (command_left (show_left task.left) ≡ Command.Ask) }
 {
     match task.left {
         Left::Waiting { left, polls } => Ok(waits(task.params, left, polls)),

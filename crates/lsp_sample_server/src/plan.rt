@@ -1,10 +1,10 @@
 // What is done of a call.
-ghost use Rattle.std.specs.Prelude.{◌≡◌, IfOk};
+ghost use Rattle.std.specs.Prelude.{◌≡◌, true, IfOk, OnErr};
 ghost use Rattle.lsp_initialize.specs.Server.{server_capabilities_row};
 ghost use Rattle.lsp_service.specs.Calls.{show_call, target_of};
 ghost use Rattle.lsp_service.specs.Replies.{show_offer, show_reply};
 ghost use Rattle.lsp_sample_server.specs.Plan.{show_plan};
-ghost use Rattle.lsp_sample_server.specs.Sample.{bare_data, no_capabilities_shown, sample_turn, other_reply as other_reply_def};
+ghost use Rattle.lsp_sample_server.specs.Sample.{bare_data, no_capabilities_shown, replies, sample_turn, takes_memory, other_reply as other_reply_def};
 
 use lsp_initialize::ServerCapabilities;
 use lsp_rpc::NoMemory;
@@ -28,7 +28,8 @@ pub(crate) enum Plan {
 
 // What is to be done of a call: it asks nothing of the client yet.
 pub(crate) fn plan_of(alloc: Global, call: Call) -> Result<Plan, NoMemory>
-    ensures { IfOk result (λ plan. show_plan plan ≡ sample_turn (show_call call)) }
+    ensures plan { IfOk result (λ plan. show_plan plan ≡ sample_turn (show_call call)) }
+    ensures memory { OnErr result (takes_memory (sample_turn (show_call call)) ≡ true) }
 {
     match call {
         Call::Life(call) => match call {
@@ -66,8 +67,10 @@ fn no_capabilities() -> ServerCapabilities
 
 // A request of another method isn't known, and another notification is taken note of.
 fn other_reply(alloc: Global, call: Call) -> Result<Reply, NoMemory>
-    ensures { IfOk result (λ r. show_reply r
+    ensures reply { IfOk result (λ r. show_reply r
         ≡ other_reply_def (target_of (show_call call) Kind.Request)) }
+    ensures memory { OnErr result (takes_memory
+        (replies (other_reply_def (target_of (show_call call) Kind.Request))) ≡ true) }
 {
     let kind = match call.target(Kind::Request) {
         Target::Typed(method) => method.kind(),

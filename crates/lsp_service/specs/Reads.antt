@@ -50,9 +50,13 @@ of_kind kind unfit = unfit
 abbrev pub reading_entry : Entry → Option Data → Reading IncomingCall
 reading_entry entry params = of_kind entry.kind (reading_at entry.place params)
 
--- params are refused so
-abbrev pub Refuses : {C : Type 0} → Reading C → CallMisfit → Type 0
-Refuses r misfits.Missing = r ≡ missing
-Refuses r misfits.Unexpected = r ≡ unexpected
-Refuses r misfits.Unfit = r ≡ unfit
-Refuses r misfits.NoMemory = MayLackMemory r
+-- what is read of these params is refused so; memory may lack only where there are some
+abbrev pub IsRefused : {C : Type 0} → Option Data → Reading C → CallMisfit → Type 0
+IsRefused params r misfits.Missing = r ≡ missing
+IsRefused params r misfits.Unexpected = r ≡ unexpected
+IsRefused params r misfits.Unfit = r ≡ unfit
+IsRefused params r misfits.NoMemory = MayLackMemory params r
+
+-- the params of a method are refused so
+abbrev pub Refuses : Method → Option Data → CallMisfit → Type 0
+Refuses m params misfit = IsRefused params (reading m params) misfit

@@ -1,5 +1,6 @@
 // What a reply of a server comes to.
-ghost use Rattle.std.specs.Prelude.{◌≡◌, IfOk, IsOk};
+ghost use Rattle.std.specs.Prelude.{◌≡◌, true, IfOk, OnErr, IsOk};
+ghost use Rattle.lsp_rpc.specs.Message.{body_has_float};
 ghost use Rattle.lsp_rpc.specs.Shown.{show_body};
 ghost use Rattle.lsp_methods.specs.Shapes.{result_shape};
 ghost use Rattle.lsp_service.specs.Data.{answer, written as written_def, custom_answer as custom_answer_of, noted as noted_def, outcome_by, result_shown, write_body, mismatch as mismatch_def, kind_of, unless_float as unless_float_def};
@@ -123,7 +124,8 @@ pub(crate) fn unless_float(
     alloc: Global,
     body: Result<Value, Error>,
 ) -> Result<Result<Value, Error>, NoMemory>
-    ensures { IfOk result (λ sent. show_body sent ≡ unless_float_def (show_body body)) }
+    ensures sent { IfOk result (λ sent. show_body sent ≡ unless_float_def (show_body body)) }
+    ensures memory { OnErr result (body_has_float (show_body body) ≡ true) }
 {
     let clean = match &body {
         Ok(value) => is_float_free(value),

@@ -1,5 +1,5 @@
 // Params of a method, read by its shape.
-ghost use Rattle.std.specs.Prelude.{◌≡◌, true, IfOk, OnOk, IfErr, IfSome, Some, None, is_some, option_map};
+ghost use Rattle.std.specs.Prelude.{◌≡◌, true, IfOk, OnOk, IfErr, IfSome, IsErrOf, Some, None, is_some, option_map};
 ghost use Rattle.serde_json.specs.View.{view};
 ghost use Rattle.lsp_session.specs.Semantics.{call as call_read};
 ghost use Rattle.lsp_methods.specs.Shapes.{params_shape};
@@ -25,8 +25,8 @@ pub(crate) fn params_of<T: Wire>(
     requires { params_shape method ≡ Some T.shape }
     ensures ok { IfOk result (λ x. reading method (option_map (λ v. view v.now) params.entry)
         ≡ call_read (typed method (Some (T.shown x)))) }
-    ensures err { IfErr result (λ e. Refuses (reading method (option_map (λ v. view v.now)
-        params.entry)) e) }
+    ensures err { IfErr result (λ e. Refuses method
+        (option_map (λ v. view v.now) params.entry) e) }
 {
     match params {
         None => Err(CallMisfit::Missing),
@@ -46,8 +46,8 @@ pub(crate) fn initialize_call(
     ensures ok { IfOk result (λ c. reading (Method.Life LifeMethod.Initialize)
         (option_map (λ v. view v.now) params.entry)
         ≡ call_read (typed (Method.Life LifeMethod.Initialize) (Some (show_initialize c)))) }
-    ensures err { IfErr result (λ e. Refuses (reading (Method.Life LifeMethod.Initialize)
-        (option_map (λ v. view v.now) params.entry)) e) }
+    ensures err { IfErr result (λ e. Refuses (Method.Life LifeMethod.Initialize)
+        (option_map (λ v. view v.now) params.entry) e) }
 {
     match params {
         None => Err(CallMisfit::Missing),
@@ -76,8 +76,9 @@ pub(crate) fn no_params(method: Method, params: Option<&Value>) -> Result<(), Ca
     requires { params_shape method ≡ None }
     ensures ok { OnOk result (reading method (option_map (λ v. view v.now) params.entry)
         ≡ call_read (typed method None)) }
-    ensures err { IfErr result (λ e. Refuses (reading method (option_map (λ v. view v.now)
-        params.entry)) e) }
+    ensures err { IfErr result (λ e. Refuses method
+        (option_map (λ v. view v.now) params.entry) e) }
+    ensures memory { ¬ IsErrOf result CallMisfit.NoMemory }
 {
     match params {
         None => Ok(()),

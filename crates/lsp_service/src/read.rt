@@ -24,8 +24,8 @@ fn read_life(
 ) -> Result<LifeCall, CallMisfit>
     ensures ok { IfOk result (λ c. reading (Method.Life method)
         (option_map (λ v. view v.now) params.entry) ≡ call_read (show_life c)) }
-    ensures err { IfErr result (λ e. Refuses (reading (Method.Life method)
-        (option_map (λ v. view v.now) params.entry)) e) }
+    ensures err { IfErr result (λ e. Refuses (Method.Life method)
+        (option_map (λ v. view v.now) params.entry) e) }
 {
     match method {
         LifeMethod::Initialize => match initialize_call(alloc, params) {
@@ -54,8 +54,8 @@ fn read_sync(
 ) -> Result<SyncCall, CallMisfit>
     ensures ok { IfOk result (λ c. reading (Method.Sync method)
         (option_map (λ v. view v.now) params.entry) ≡ call_read (show_sync c)) }
-    ensures err { IfErr result (λ e. Refuses (reading (Method.Sync method)
-        (option_map (λ v. view v.now) params.entry)) e) }
+    ensures err { IfErr result (λ e. Refuses (Method.Sync method)
+        (option_map (λ v. view v.now) params.entry) e) }
 {
     match method {
         SyncMethod::DidOpen => match params_of(alloc, Method::Sync(SyncMethod::DidOpen), params) {
@@ -100,8 +100,8 @@ fn read_goto(
 ) -> Result<GotoCall, CallMisfit>
     ensures ok { IfOk result (λ c. reading (Method.Goto method)
         (option_map (λ v. view v.now) params.entry) ≡ call_read (show_goto c)) }
-    ensures err { IfErr result (λ e. Refuses (reading (Method.Goto method)
-        (option_map (λ v. view v.now) params.entry)) e) }
+    ensures err { IfErr result (λ e. Refuses (Method.Goto method)
+        (option_map (λ v. view v.now) params.entry) e) }
 {
     match method {
         GotoMethod::GotoDeclaration => match params_of(
@@ -162,8 +162,8 @@ fn read_hierarchy(
 ) -> Result<HierarchyCall, CallMisfit>
     ensures ok { IfOk result (λ c. reading (Method.Hierarchy method)
         (option_map (λ v. view v.now) params.entry) ≡ call_read (show_hierarchy c)) }
-    ensures err { IfErr result (λ e. Refuses (reading (Method.Hierarchy method)
-        (option_map (λ v. view v.now) params.entry)) e) }
+    ensures err { IfErr result (λ e. Refuses (Method.Hierarchy method)
+        (option_map (λ v. view v.now) params.entry) e) }
 {
     match method {
         HierarchyMethod::PrepareCallHierarchy => match params_of(
@@ -224,8 +224,8 @@ fn read_show(
 ) -> Result<ShowCall, CallMisfit>
     ensures ok { IfOk result (λ c. reading (Method.Show method)
         (option_map (λ v. view v.now) params.entry) ≡ call_read (show_show c)) }
-    ensures err { IfErr result (λ e. Refuses (reading (Method.Show method)
-        (option_map (λ v. view v.now) params.entry)) e) }
+    ensures err { IfErr result (λ e. Refuses (Method.Show method)
+        (option_map (λ v. view v.now) params.entry) e) }
 {
     match method {
         ShowMethod::DocumentLink => match params_of(
@@ -298,8 +298,8 @@ fn read_token(
 ) -> Result<TokenCall, CallMisfit>
     ensures ok { IfOk result (λ c. reading (Method.Token method)
         (option_map (λ v. view v.now) params.entry) ≡ call_read (show_token c)) }
-    ensures err { IfErr result (λ e. Refuses (reading (Method.Token method)
-        (option_map (λ v. view v.now) params.entry)) e) }
+    ensures err { IfErr result (λ e. Refuses (Method.Token method)
+        (option_map (λ v. view v.now) params.entry) e) }
 {
     match method {
         TokenMethod::SemanticTokensFull => match params_of(
@@ -360,8 +360,8 @@ fn read_edit(
 ) -> Result<EditCall, CallMisfit>
     ensures ok { IfOk result (λ c. reading (Method.Edit method)
         (option_map (λ v. view v.now) params.entry) ≡ call_read (show_edit c)) }
-    ensures err { IfErr result (λ e. Refuses (reading (Method.Edit method)
-        (option_map (λ v. view v.now) params.entry)) e) }
+    ensures err { IfErr result (λ e. Refuses (Method.Edit method)
+        (option_map (λ v. view v.now) params.entry) e) }
 {
     match method {
         EditMethod::Completion => match params_of(
@@ -466,8 +466,8 @@ fn read_work(
 ) -> Result<WorkCall, CallMisfit>
     ensures ok { IfOk result (λ c. reading (Method.Work method)
         (option_map (λ v. view v.now) params.entry) ≡ call_read (show_work c)) }
-    ensures err { IfErr result (λ e. Refuses (reading (Method.Work method)
-        (option_map (λ v. view v.now) params.entry)) e) }
+    ensures err { IfErr result (λ e. Refuses (Method.Work method)
+        (option_map (λ v. view v.now) params.entry) e) }
 {
     match method {
         WorkMethod::WorkspaceDiagnostic => match params_of(
@@ -581,8 +581,8 @@ pub(crate) fn read_call(
 ) -> Result<Call, CallMisfit>
     ensures ok { IfOk result (λ c. reading method (option_map (λ v. view v.now) params.entry)
         ≡ call_read (show_call c)) }
-    ensures err { IfErr result (λ e. Refuses (reading method
-        (option_map (λ v. view v.now) params.entry)) e) }
+    ensures err { IfErr result (λ e. Refuses method
+        (option_map (λ v. view v.now) params.entry) e) }
 {
     match method {
         Method::Life(method) => match read_life(alloc, method, params) {

@@ -1,7 +1,8 @@
 // What a reply comes to.
-ghost use Rattle.std.specs.Prelude.{◌≡◌, IfOk};
-ghost use Rattle.lsp_rpc.specs.Shown.{show_body};
-ghost use Rattle.lsp_service.specs.Data.{outcome_by};
+ghost use Rattle.std.specs.Prelude.{◌≡◌, false, IfOk, IsOk};
+ghost use Rattle.lsp_rpc.specs.Message.{may_have_float};
+ghost use Rattle.lsp_rpc.specs.Shown.{show_body, show_error};
+ghost use Rattle.lsp_service.specs.Data.{kind_of, outcome_by};
 ghost use Rattle.lsp_service.specs.Replies.{show_reply, show_life_reply, show_sync_reply, show_goto_reply, show_hierarchy_reply, show_show_reply, show_token_reply, show_edit_reply, show_work_reply};
 
 use crate::answer::{answered, custom_answered, initialize_answered, noted, unless_float};
@@ -15,6 +16,7 @@ use lsp_methods::{
     TokenMethod, WorkMethod,
 };
 use lsp_rpc::{Error, NoMemory};
+use lsp_session::Kind;
 use serde_json::Value;
 use std::alloc::Global;
 
@@ -394,7 +396,12 @@ pub(crate) fn outcome(
     target: Target,
     reply: Reply,
 ) -> Result<Result<Value, Error>, NoMemory>
-    ensures { IfOk result (λ body. show_body body ≡ outcome_by target (show_reply reply)) }
+    ensures written { IfOk result (λ body. show_body body
+        ≡ outcome_by target (show_reply reply)) }
+    ensures notification { reply ≡ Reply.Noted → kind_of target ≡ Kind.Notification
+        → IsOk result }
+    ensures refusal { (e : Error) → reply ≡ Reply.Error e
+        → may_have_float (show_error e).payload ≡ false → IsOk result }
 {
     match reply {
         Reply::Life(reply) => write_life(alloc, target, reply),
