@@ -51,12 +51,12 @@ abbrev pub reading_entry : Entry → Option Data → Reading IncomingCall
 reading_entry entry params = of_kind entry.kind (reading_at entry.place params)
 
 -- what is read of these params is refused so; memory may lack only where there are some
-abbrev pub IsRefused : {C : Type 0} → Option Data → Reading C → CallMisfit → Type 0
-IsRefused params r misfits.Missing = r ≡ missing
-IsRefused params r misfits.Unexpected = r ≡ unexpected
-IsRefused params r misfits.Unfit = r ≡ unfit
-IsRefused params r misfits.NoMemory = MayLackMemory params r
+abbrev pub IsMisfitOf : {C : Type 0} → Option Data → Reading C → CallMisfit → Type 0
+IsMisfitOf params r misfits.Missing = r ≡ missing
+IsMisfitOf params r misfits.Unexpected = r ≡ unexpected
+IsMisfitOf params r misfits.Unfit = r ≡ unfit
+IsMisfitOf params r misfits.NoMemory = MayLackMemory params r
 
 -- the params of a method are refused so
 abbrev pub Refuses : Method → Option Data → CallMisfit → Type 0
-Refuses m params misfit = IsRefused params (reading m params) misfit
+Refuses m params misfit = IsMisfitOf params (reading m params) misfit

@@ -6,7 +6,7 @@ ghost use Rattle.lsp_methods.specs.Methods.{method_at};
 ghost use Rattle.lsp_service.specs.Calls.{target_of};
 ghost use Rattle.lsp_service.specs.Data.{custom};
 ghost use Rattle.lsp_service.specs.Incoming.{show_incoming};
-ghost use Rattle.lsp_service.specs.Reads.{reading_custom, IsRefused};
+ghost use Rattle.lsp_service.specs.Reads.{reading_custom, IsMisfitOf};
 
 use crate::call::{Call, Target};
 use crate::incoming::Incoming;
@@ -129,7 +129,7 @@ impl<D: Caller, S: LanguageServer<D>> Handlers<D> for LspService<S> {
 fn read_custom(place: u64, params: Option<&Value>) -> Result<(u64, Option<Value>), CallMisfit>
     ensures ok { IfOk result (λ c. reading_custom place (option_map (λ v. view v.now) params.entry)
         ≡ call_read (custom c.0 (option_map view c.1))) }
-    ensures err { IfErr result (λ e. IsRefused (option_map (λ v. view v.now) params.entry)
+    ensures err { IfErr result (λ e. IsMisfitOf (option_map (λ v. view v.now) params.entry)
         (reading_custom place (option_map (λ v. view v.now) params.entry)) e) }
     ensures memory { IsErrOf result CallMisfit.NoMemory → IsSome params.entry }
 {
