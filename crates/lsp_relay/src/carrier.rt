@@ -173,6 +173,7 @@ impl Carrier {
     pub(crate) fn send<O: Sink>(&mut self, sink: &mut O) -> Result<(), ServeError>
         ensures sent { SendsBytes O.taken O.flushed O.faults O.beside sink.old sink.new
             self.old.waiting.items result }
+        ensures none { self.old.waiting.items ≡ [] → IsOk result }
         ensures rest { OnOk result
             (show_carrier self.new ≡ record (show_carrier self.old) { waiting = [] }) }
     {
