@@ -3,6 +3,7 @@ ghost use Rattle.std.specs.Prelude.{◌≡◌, ◌≢◌, [], ◌∷◌, ℕ, tr
 ghost use Rattle.std.specs.Result.{result_err};
 ghost use Rattle.lsp_desk.specs.Meaning.{Grown};
 ghost use Rattle.lsp_frame.specs.Codec.{AreLimits, items_at, told_at};
+ghost use Rattle.lsp_frame.specs.Items.{IsOfBody};
 ghost use Rattle.lsp_session.specs.Item.{show_item, item_has_float};
 ghost use Rattle.lsp_session.specs.Run.{Step, order_by, served};
 ghost use Rattle.lsp_session.specs.SessionView.{session_view, desk_of, life_of};
@@ -215,8 +216,8 @@ pub fn next_item(codec: &mut LanguageServerCodec) -> Result<Option<Item>, NoMemo
     ensures float_free { IfOk result (λ item. IfSome item (λ x. item_has_float (show_item x)
         ≡ false)) }
     ensures err { OnErr result (codec.new ≡ codec.old) }
-    // Memory is taken for an item alone.
-    ensures memory { OnErr result (told_at codec.old ≢ []) }
+    // Memory is taken for a body alone.
+    ensures memory { OnErr result (IsOfBody (told_at codec.old)) }
 {
     match codec.decode()? {
         Decoded::Item(message) => Ok(Some(Item::Message(message))),
