@@ -113,7 +113,8 @@ pub(crate) fn session_at<R: Wait + Sync>(
 
 // Nothing fails in memory, and there are more reads than bytes.
 fn fault_of(error: ServeError) -> DeskFault
-    ensures { (n : ℕ) → result ≡ DeskFault.Spent n → error ≡ ServeError.DeskSpent n }
+    ensures spent { (n : ℕ) → result ≡ DeskFault.Spent n → error ≡ ServeError.DeskSpent n }
+    ensures told { (n : ℕ) → error ≡ ServeError.DeskSpent n → result ≡ DeskFault.Spent n }
 {
     match error {
         ServeError::DeskSpent(n) => DeskFault::Spent(n),
