@@ -1,5 +1,5 @@
 //! A made-up session that is served in memory, and its summary.
-ghost use Rattle.std.specs.Prelude.{◌≡◌, ◌⊎◌, ◌≤◌, ◌<◌, ◌+◌, ◌++◌, IfOk, OnOk, OnErr, Some, is_some, string_bytes, count_by};
+ghost use Rattle.std.specs.Prelude.{◌≡◌, ◌⊎◌, ◌≤◌, ◌<◌, ◌+◌, ◌++◌, IfOk, OnOk, OnErr, IsOk, Some, None, is_some, string_bytes, count_by};
 ghost use Rattle.lsp_rpc.specs.Shown.{show_message};
 ghost use Rattle.lsp_sample_run.specs.Tally.{IsCounted};
 ghost use Rattle.lsp_frame.specs.Codec.{shown, message as message_item};
@@ -210,6 +210,8 @@ fn count_all(alloc: Global, written: &[u8]) -> Result<Tally, NoMemory>
 fn count_next(tally: &mut Tally, told: Decoded) -> Result<bool, NoMemory>
     ensures told { IfOk result (λ some. some ≡ is_some (shown told)) }
     ensures counted { OnOk result (IsCounted tally.old (shown told) tally.new) }
+    // Where nothing was told, no memory is taken.
+    ensures memory { shown told ≡ None → IsOk result }
 {
     let some = count_told(tally, &told);
     drop(told);
@@ -220,6 +222,7 @@ fn count_next(tally: &mut Tally, told: Decoded) -> Result<bool, NoMemory>
 fn count_told(tally: &mut Tally, told: &Decoded) -> Result<bool, NoMemory>
     ensures told { IfOk result (λ some. some ≡ is_some (shown told.now)) }
     ensures counted { OnOk result (IsCounted tally.old (shown told.now) tally.new) }
+    ensures memory { shown told.now ≡ None → IsOk result }
 {
     match told {
         Decoded::Item(message) => {
