@@ -98,7 +98,7 @@ fn cancel(alloc: Global, n: u64) -> Result<Message, NoMemory>
 /// name it.
 pub(crate) fn cancels(alloc: Global, side: Side, place: Option<u64>) -> Result<Sent, NoMemory>
     ensures sent { IfOk result (λ sent. all_sent sent.items ≡ cancel_passed side place) }
-    // No cancel takes no memory.
+    // A cancel that isn't sent takes no memory.
     ensures ready { cancel_passed side place ≡ [] → IsOk result }
 {
     match place {
