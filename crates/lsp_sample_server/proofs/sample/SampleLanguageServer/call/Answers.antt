@@ -13,4 +13,4 @@ returns-in_err-reply-clause-failed g c = on_gives c.from_residual.result _ _ c.f
 
 pub returns-in-Reply-clause-called : goal.returns-in-Reply-clause-called
 returns-in-Reply-clause-called g c =
-    begins_replied g.D.Caller.meaning c.args.client.now c.args.self.now (show_call c.args.call) (show_reply c.in-Reply.reply) (ap show_plan (sym c.in-Reply.is) ∙ c.in_ok-reply.ensures)
+    begins_replied g.D.Caller.meaning c.args.client.now c.args.self.now (show_call c.args.call) (show_reply c.in-Reply.reply) (ap show_plan (sym c.in-Reply.is) ∙ c.in_ok-reply.ensures.plan)
