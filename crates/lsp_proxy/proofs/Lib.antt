@@ -4,6 +4,7 @@ pub mod HereLemmas
 pub mod IdLemmas
 pub mod OriginLemmas
 pub mod ProxyLemmas
+pub mod ReadyLemmas
 pub mod RowLemmas
 pub mod SentLemmas
 pub mod TableLemmas

@@ -8,7 +8,7 @@ use Rattle.lsp_proxy.specs.declared.proxy.Proxy.{Proxy}
 use Rattle.lsp_proxy.specs.declared.side.Side.TheVariants.{Editor}
 use Rattle.lsp_proxy.specs.Proxy.{ProxyState, Sent, Outcome}
 use Rattle.lsp_proxy.specs.Sent.{all_sent}
-use Rattle.lsp_proxy.specs.Shown.{show_proxy, IsSame}
+use Rattle.lsp_proxy.specs.Shown.{show_proxy, IsSame, TakesNoMemory}
 
 -- the list that it stands for: each message with the side that it goes to
 abbrev pub expanded : Outgoing → Sent
@@ -32,3 +32,4 @@ pub record GivesOrKeeps {E : Type 0} (old new : Proxy) (rows : ProxyState → Ou
   pub ok : IfOk result (GivesOutgoing old new rows)
   pub broadcast : IfOk result (KeepsAtBroadcast old new)
   pub err : OnErr result (IsSame old new)
+  pub ready : TakesNoMemory old rows result

@@ -65,7 +65,7 @@ impl Proxy {
         Ok(sent)
     }
 
-    #[tactic(auto, unfolding(crate::specs::Proxy::initialize))]
+    #[tactic(auto, unfolding(crate::specs::Proxy::initialize), using(crate::proofs::ReadyLemmas::one_more_waits))]
     fn initialize(&mut self, k: u32, request: Request, id: Id) -> Result<Sent, NoMemory>
         ensures { MakesOrKeeps self.old self.new
             (initialize k (show_request request) (show_id id)) result }
@@ -150,8 +150,9 @@ impl Proxy {
 
     // The responses to the server's requests of an editor that leaves.
     fn answers_internal(&self, k: u32) -> Result<Sent, NoMemory>
-        ensures { IfOk result (λ sent. all_sent sent.items
+        ensures sent { IfOk result (λ sent. all_sent sent.items
             ≡ answers_internal k (show_proxy self.now).requested) }
+        ensures ready { answers_internal k (show_proxy self.now).requested ≡ [] → IsOk result }
     {
         if is_lowest(&self.editors, k) {
             self.requested.answers(self.alloc)

@@ -1,5 +1,5 @@
 //! What is sent for a message of the server, where a notification to several editors stands once.
-ghost use Rattle.std.specs.Prelude.{◌≡◌, ◌<◌, ◌^◌, length, map, IfOk};
+ghost use Rattle.std.specs.Prelude.{◌≡◌, ◌<◌, ◌^◌, [], length, map, IfOk, IsOk};
 ghost use Rattle.lsp_rpc.specs.Message.{request};
 ghost use Rattle.lsp_rpc.specs.Shown.{show_request};
 ghost use Rattle.lsp_proxy.specs.Proxy.{here_from};
@@ -22,7 +22,8 @@ pub enum Outgoing {
 /// The editors that are still here.
 pub(crate) fn here(alloc: Global, editors: &[Presence]) -> Result<Vec<u32>, NoMemory>
     requires { length editors.now < 2 ^ 32 }
-    ensures { IfOk result (λ here. here.items ≡ here_from 0 editors.now) }
+    ensures here { IfOk result (λ here. here.items ≡ here_from 0 editors.now) }
+    ensures ready { here_from 0 editors.now ≡ [] → IsOk result }
 {
     let mut here = Vec::new(alloc);
     let mut k = 0;
@@ -37,8 +38,9 @@ pub(crate) fn here(alloc: Global, editors: &[Presence]) -> Result<Vec<u32>, NoMe
 
 /// The notification for each of the editors.
 pub(crate) fn to_each(alloc: Global, editors: &[u32], note: Request) -> Result<Sent, NoMemory>
-    ensures { IfOk result (λ sent. all_sent sent.items
+    ensures sent { IfOk result (λ sent. all_sent sent.items
         ≡ map (λ k. (Side.Editor k, request (show_request note))) editors.now) }
+    ensures ready { editors.now ≡ [] → IsOk result }
 {
     let mut sent = Vec::new(alloc);
     // The last of them gets the notification itself, and the others a copy.

@@ -1,5 +1,5 @@
 //! What the server sends, row by row.
-ghost use Rattle.std.specs.Prelude.{◌≡◌, ◌<◌, ◌^◌, [], ◌∷◌, length, Some, None, false, IfOk, IsOk, option_map, map, if◌then◌else◌};
+ghost use Rattle.std.specs.Prelude.{◌≡◌, ◌<◌, ◌^◌, [], ◌∷◌, length, Some, None, false, IfOk, IsOk, option_map, unwrap_or, map, if◌then◌else◌};
 ghost use Rattle.lsp_rpc.specs.Message.{request};
 ghost use Rattle.lsp_rpc.specs.Shown.{show_id, show_body, show_request, show_response};
 ghost use Rattle.std.specs.List.{filter};
@@ -28,9 +28,11 @@ fn answers(
     askers: &[Asker],
     body: &Result<Value, Error>,
 ) -> Result<Sent, NoMemory>
-    ensures { IfOk result (λ sent. all_sent sent.items
+    ensures sent { IfOk result (λ sent. all_sent sent.items
         ≡ map (answered_to (show_body body.now)) (filter (is_here_in editors.now)
         (map show_asker askers.now))) }
+    ensures ready { map (answered_to (show_body body.now)) (filter (is_here_in editors.now)
+        (map show_asker askers.now)) ≡ [] → IsOk result }
 {
     let mut sent = Vec::new(alloc);
     for asker in askers {
@@ -72,9 +74,11 @@ fn opening_of(body: Result<Value, Error>) -> Opening
 impl Proxy {
     // The responses to all that wait for `initialize` under this id.
     fn waiting_sent(&self, n: u64, body: &Result<Value, Error>) -> Result<Option<Sent>, NoMemory>
-        ensures { IfOk result (λ o. option_map (λ sent. all_sent sent.items) o
+        ensures sent { IfOk result (λ o. option_map (λ sent. all_sent sent.items) o
             ≡ waiting_sent (show_proxy self.now).opening n (show_body body.now)
             (show_proxy self.now).editors) }
+        ensures ready { unwrap_or (waiting_sent (show_proxy self.now).opening n
+            (show_body body.now) (show_proxy self.now).editors) [] ≡ [] → IsOk result }
     {
         match &self.opening {
             Opening::Awaited(m, askers) => {
@@ -89,7 +93,7 @@ impl Proxy {
     }
 
     // The response to `initialize`, or to an editor's request.
-    #[tactic(auto, unfolding(crate::specs::Proxy::initialize_answered))]
+    #[tactic(auto, unfolding(crate::specs::Proxy::initialize_answered), using(crate::proofs::ReadyLemmas::none_to_waiting))]
     fn initialize_answered(&mut self, n: u64, body: Result<Value, Error>) -> Result<Sent, NoMemory>
         ensures { MakesOrKeeps self.old self.new (initialize_answered n (show_body body)) result }
     {
@@ -210,7 +214,10 @@ impl Proxy {
 
     #[tactic(auto, unfolding(crate::specs::Proxy::broadcast))]
     fn broadcast(&self, note: Request) -> Result<Outgoing, NoMemory>
-        ensures { IfOk result (GivesOutgoing self.now self.now (broadcast (show_request note))) }
+        ensures sent { IfOk result (GivesOutgoing self.now self.now
+            (broadcast (show_request note))) }
+        ensures ready { (broadcast (show_request note) (show_proxy self.now)).1 ≡ []
+            → IsOk result }
     {
         let editors = here(self.alloc, &self.editors)?;
         Ok(Outgoing::Broadcast(editors, note))

@@ -1,5 +1,5 @@
 //! The requests that wait for a response, found by their drawn ids and by who asked.
-ghost use Rattle.std.specs.Prelude.{◌≡◌, ◌++◌, [], ◌∷◌, map, IfOk, OnOk, OnErr, option_map};
+ghost use Rattle.std.specs.Prelude.{◌≡◌, ◌++◌, [], ◌∷◌, map, IfOk, IsOk, OnOk, OnErr, option_map};
 ghost use Rattle.std.specs.Cmp.{on_equiv, on_per, partial_equiv_from_equiv};
 ghost use Rattle.lsp_proxy.specs.Entries.{asker_at, place_of, without_entry, AreBelow, same_asker_equiv, asker_writes, asker_writes_alike};
 ghost use Rattle.lsp_proxy.specs.Proxy.{refused};
@@ -126,7 +126,8 @@ impl Table {
 
     /// The responses that refuse each of the requests, in order.
     pub(crate) fn answers(&self, alloc: Global) -> Result<Sent, NoMemory>
-        ensures { IfOk result (λ sent. all_sent sent.items ≡ map refused self.now) }
+        ensures sent { IfOk result (λ sent. all_sent sent.items ≡ map refused self.now) }
+        ensures ready { map refused self.now ≡ [] → IsOk result }
     {
         answers_to(alloc, self.keyed.entries())
     }
@@ -140,8 +141,9 @@ impl Table {
 }
 
 fn answers_to(alloc: Global, entries: &BTreeMap<u64, (Asker, ())>) -> Result<Sent, NoMemory>
-    ensures { IfOk result
+    ensures sent { IfOk result
         (λ sent. all_sent sent.items ≡ map refused (table_entries entries.now.entries)) }
+    ensures ready { map refused (table_entries entries.now.entries) ≡ [] → IsOk result }
 {
     let mut sent = Vec::new(alloc);
     for (_, (asker, ())) in entries.iter() {

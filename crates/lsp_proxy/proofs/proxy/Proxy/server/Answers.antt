@@ -4,6 +4,7 @@ use Rattle.std.specs.Prelude.{Result, Ok, Err, IfOk, OnErr}
 use Rattle.lsp_rpc.specs.Shown.{show_message}
 use Rattle.lsp_proxy.specs.Outgoing.{GivesOutgoing, KeepsAtBroadcast}
 use Rattle.lsp_proxy.specs.Proxy.{from_server}
+use Rattle.lsp_proxy.proofs.ReadyLemmas.{none_mapped}
 use Rattle.lsp_proxy.proofs.proxy.Proxy.server.Goals as goal
 
 if_ok : {T E : Type 0} (r : Result T E) {P Q : T → Type 0} → ((x : T) → P x → Q x) → IfOk r P → IfOk r Q
@@ -21,6 +22,7 @@ returns-in-Broadcast c =
     let broadcast = rw c.in-Broadcast.is at gives.1 in
     let same = rw c.in-Broadcast.is at keeps in
     record {
-      ok = if_ok c.to_each.result (λ sent each. (gives.0, each ∙ rw c.deref.ensures.value broadcast)) c.to_each.ensures;
+      ok = if_ok c.to_each.result (λ sent each. (gives.0, each ∙ rw c.deref.ensures.value broadcast)) c.to_each.ensures.sent;
       err = on_err c.to_each.result (same refl);
+      ready = λ none waits. c.to_each.ensures.ready (rw c.deref.ensures.value (none_mapped _ _ (broadcast ∙ none)));
     }
