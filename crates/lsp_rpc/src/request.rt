@@ -45,6 +45,17 @@ impl Request {
         }
     }
 
+    /// The call of that method, with these params and this id, where there are any.
+    pub fn from_parts(method: String, params: Option<Value>, id: Option<Id>) -> Request
+        ensures { show_request result ≡ record {
+          method = string_bytes method;
+          params = option_map view params;
+          id = option_map show_id id;
+        } }
+    {
+        Request { method, params, id }
+    }
+
     /// The name of the method.
     pub fn method(&self) -> &str
         ensures { result.now ≡ (show_request self.now).method }

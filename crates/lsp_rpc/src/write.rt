@@ -1,7 +1,5 @@
 //! From the parts of a message to their text.
-ghost use Rattle.std.specs.Prelude.{◌≡◌, ◌++◌, All, IsTrue, OnOk, false, codes, option_map, FitsSigned};
-ghost use Rattle.std.specs.Fmt.{signed_decimal};
-ghost use Rattle.std.specs.Int.{w64};
+ghost use Rattle.std.specs.Prelude.{◌≡◌, ◌++◌, All, IsTrue, OnOk, false, codes, option_map};
 ghost use Rattle.serde_json.specs.Data.{string};
 ghost use Rattle.serde_json.specs.View.{view};
 ghost use Rattle.serde_json.specs.Written.{compact_text, has_float};
@@ -55,14 +53,6 @@ pub(crate) fn push_text(alloc: Global, out: &mut String, text: &str) -> Result<(
     }
 }
 
-fn push_number(out: &mut String, number: i64) -> Result<(), AllocError>
-    ensures text { OnOk result (Appends out.old out.new (signed_decimal number)) }
-    ensures fits { FitsSigned w64 number }
-{
-    let mut buffer = itoa::Buffer::new();
-    out.push_str(buffer.format(number))
-}
-
 pub(crate) fn push_member(
     alloc: Global,
     out: &mut String,
@@ -88,7 +78,10 @@ pub(crate) fn push_id(alloc: Global, out: &mut String, id: &Id) -> Result<(), Al
     ensures fits { OnOk result (IdFits (show_id id.now)) }
 {
     match id {
-        Id::Number(n) => push_number(out, *n),
+        Id::Number(n) => {
+            let mut buffer = itoa::Buffer::new();
+            out.push_str(buffer.format(*n))
+        }
         Id::String(text) => push_text(alloc, out, text.as_str()),
         Id::Null => out.push_str("null"),
     }
@@ -118,7 +111,8 @@ fn push_error(alloc: Global, out: &mut String, error: &Error) -> Result<(), Allo
     ensures back { OnOk result (ErrorReadsBack (show_error error.now)) }
 {
     out.push_str("{\"code\":")?;
-    push_number(out, error.code.code())?;
+    let mut buffer = itoa::Buffer::new();
+    out.push_str(buffer.format(error.code.code()))?;
     out.push_str(",\"message\":")?;
     push_text(alloc, out, error.message.as_str())?;
     push_member(alloc, out, ",\"data\":", &error.payload)?;
@@ -137,7 +131,8 @@ pub(crate) fn push_body(
     match body {
         Ok(value) => {
             out.push_str(",\"result\":")?;
-            push_value(alloc, out, value)
+            let text = value.to_string(alloc)?;
+            out.push_str(text.as_str())
         }
         Err(error) => {
             out.push_str(",\"error\":")?;
