@@ -13,7 +13,7 @@ use Rattle.std.proofs.lemmas.Bool.{eqb-true, eq-eqb}
 use Rattle.std.proofs.lemmas.Grind.{common_steps}
 use Rattle.lsp_keyed.specs.declared.keyed.Numbers.{Numbers}
 use Rattle.lsp_keyed.specs.Items.{has_number, without, IsAbove, next_number}
-use Rattle.lsp_keyed.specs.Index.{listed, first, rest, without_number, AreLess, AreAbove, AreRising, numbers_of, IsIndexed}
+use Rattle.lsp_keyed.specs.Index.{listed, first, without_number, AreLess, AreAbove, AreRising, numbers_of, IsIndexed}
 
 -- ---- a number among numbers
 
@@ -60,6 +60,20 @@ some_listed (Some ns) = refl
 pub oldest_listed : (o : Option Numbers) → option_map (λ ns. ns.oldest) o ≡ first (listed o)
 oldest_listed None = refl
 oldest_listed (Some ns) = refl
+
+-- what is listed once the numbers of a key are others
+pub listed_updated : {K S : Type 0} (eq : K → K → Bool) (old new : HashMap K Numbers S) (k : K) (o : Option Numbers) (ns : List ℕ)
+    → ((q : K) → get eq new q ≡ cond (eq k q) o (get eq old q)) → listed o ≡ ns
+    → (q : K) → listed (get eq new q) ≡ cond (eq k q) ns (listed (get eq old q))
+listed_updated eq old new k o ns updates is q = ap listed (updates q) ∙ go (eq k q)
+  where
+    go : (b : Bool) → listed (cond b o (get eq old q)) ≡ cond b ns (listed (get eq old q))
+    go true = is
+    go false = refl
+
+pub cond_again : {A : Type 0} (b : Bool) (x y z : A) → cond b x (cond b y z) ≡ cond b x z
+cond_again true x y z = refl
+cond_again false x y z = refl
 
 module _ {K V : Type 0} where
   -- ---- what is found
@@ -301,6 +315,15 @@ module _ {K V : Type 0} where
   -- ---- the index after a change
 
   module _ {S : Type 0} {eq : K → K → Bool} (laws : IsEquivalence eq) where
+    -- keys that are equal have the same numbers
+    pub listed_alike : (es : List (ℕ × (K × V))) (old : HashMap K Numbers S) (k : K) → IsIndexed eq es old
+        → (q : K) → listed (get eq old q) ≡ cond (eq k q) (listed (get eq old k)) (listed (get eq old q))
+    listed_alike es old k was q = go (eq k q) refl
+      where
+        go : (b : Bool) → eq k q ≡ b → listed (get eq old q) ≡ cond b (listed (get eq old k)) (listed (get eq old q))
+        go true h = was.found q ∙ sym (was.found k ∙ numbers_of-alike (eq k) (eq q) es (λ x. laws.congr k q x h))
+        go false h = refl
+
     pub indexed_pushed : (es es2 : List (ℕ × (K × V))) (old new : HashMap K Numbers S) (n : ℕ) (key same : K) (v : V) → IsIndexed eq es old → IsAbove n es → eq same key ≡ true
         → es2 ≡ es ++ (n, (key, v)) ∷ []
         → ((q : K) → listed (get eq new q) ≡ cond (eq same q) (listed (get eq old same) ++ n ∷ []) (listed (get eq old q))) → IsIndexed eq es2 new

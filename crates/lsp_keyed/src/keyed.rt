@@ -79,7 +79,7 @@ impl<K: Eq + Hash + Drop, V: Drop> Keyed<K, V> {
     pub fn oldest(&self, key: &K) -> Option<u64>
         ensures { result ≡ option_map (λ e. e.0) (find (has_key K.eq key.now) self.now) }
     {
-        oldest_of(&self.numbers, key)
+        self.numbers.get(key).map(|numbers| numbers.oldest)
     }
 
     /// The key and the value of the entry of the number.
@@ -120,22 +120,33 @@ impl<K: Eq + Hash + Drop, V: Drop> Keyed<K, V> {
         }
     }
 
-    /// Puts an entry after the others. `same` is equal to its key.
+    /// Puts an entry after the others, unless there is no memory for it or to find it by its key.
+    /// `same` is equal to its key.
     pub fn push(&mut self, number: u64, key: K, same: K, value: V) -> Result<(), NoMemory>
         requires above { IsAbove number self.old }
         requires same { K.eq same key ≡ true }
         ensures ok { OnOk result (self.new ≡ self.old ++ (number, (key, value)) ∷ []) }
         ensures err { OnErr result (self.new ≡ self.old) }
     {
-        push_entry(
-            self.alloc,
-            &mut self.entries,
-            &mut self.numbers,
-            number,
-            key,
-            same,
-            value,
-        )
+        self.entries.insert(number, (key, value))?;
+        match self.numbers.get_mut(&same) {
+            Some(known) => {
+                if push_number(&mut known.later, number).is_ok() {
+                    return Ok(());
+                }
+            }
+            None => {
+                let numbers = Numbers {
+                    oldest: number,
+                    later: BTreeSet::new(self.alloc),
+                };
+                if self.numbers.insert(same, numbers).is_ok() {
+                    return Ok(());
+                }
+            }
+        }
+        drop(self.entries.remove(&number));
+        Err(NoMemory)
     }
 
     /// Takes the oldest entry of the key out. It takes no memory.
@@ -144,7 +155,8 @@ impl<K: Eq + Hash + Drop, V: Drop> Keyed<K, V> {
         ensures rest { self.new ≡ before_first (has_key K.eq key.now) self.old
             ++ after_first (has_key K.eq key.now) self.old }
     {
-        take_entry(&mut self.entries, &mut self.numbers, key)
+        let number = self.numbers.get(key)?.oldest;
+        self.remove(number).map(|(_, value)| value)
     }
 
     /// Takes the entry of the number out. It takes no memory.
@@ -152,7 +164,17 @@ impl<K: Eq + Hash + Drop, V: Drop> Keyed<K, V> {
         ensures entry { result ≡ option_map (λ e. e.1) (find (has_number_def number) self.old) }
         ensures rest { self.new ≡ without number self.old }
     {
-        remove_entry(&mut self.entries, &mut self.numbers, number)
+        let entry = self.entries.remove(&number)?;
+        if let Some(known) = self.numbers.get_mut(&entry.0) {
+            if number != known.oldest {
+                remove_number(&mut known.later, number);
+            } else if let Some(next) = known.later.pop_first() {
+                known.oldest = next;
+            } else {
+                drop(self.numbers.remove(&entry.0));
+            }
+        }
+        Some(entry)
     }
 
     /// Takes all entries out. It takes no memory.
@@ -175,67 +197,6 @@ impl<K: Eq + Hash + Drop, V: Drop> Keyed<K, V> {
     }
 }
 
-type Entries<K, V> = BTreeMap<u64, (K, V)>;
-
-// Puts an entry after the others, unless there is no memory to find it by its key.
-fn push_entry<K: Eq + Hash + Drop, V: Drop>(
-    alloc: Global,
-    entries: &mut Entries<K, V>,
-    numbers: &mut HashMap<K, Numbers>,
-    number: u64,
-    key: K,
-    same: K,
-    value: V,
-) -> Result<(), NoMemory>
-    requires indexed { IsIndexed K.eq entries.old.entries numbers.old }
-    requires above { IsAbove number entries.old.entries }
-    requires same { K.eq same key ≡ true }
-    ensures indexed { IsIndexed K.eq entries.new.entries numbers.new }
-    ensures ok { OnOk result (entries.new.entries ≡ entries.old.entries
-        ++ (number, (key, value)) ∷ []) }
-    ensures err { OnErr result (entries.new.entries ≡ entries.old.entries) }
-{
-    entries.insert(number, (key, value))?;
-    match note(alloc, numbers, same, number) {
-        Ok(()) => return Ok(()),
-        Err(NoMemory) => {}
-    }
-    drop(entries.remove(&number));
-    Err(NoMemory)
-}
-
-// Lists the number after the others of the key.
-fn note<K: Eq + Hash + Drop>(
-    alloc: Global,
-    numbers: &mut HashMap<K, Numbers>,
-    key: K,
-    number: u64,
-) -> Result<(), NoMemory>
-    requires { AreLess number (listed (get K.eq numbers.old key)) }
-    ensures ok { OnOk result ((q : K) → listed (get K.eq numbers.new q)
-        ≡ (if K.eq key q then listed (get K.eq numbers.old key)
-        ++ number ∷ [] else listed (get K.eq numbers.old q))) }
-    ensures err { OnErr result ((q : K) → listed (get K.eq numbers.new q)
-        ≡ listed (get K.eq numbers.old q)) }
-{
-    match numbers.get_mut(&key) {
-        Some(known) => {
-            push_number(&mut known.later, number)?;
-        }
-        None => {
-            let later = BTreeSet::new(alloc);
-            numbers.insert(
-                key,
-                Numbers {
-                    oldest: number,
-                    later,
-                },
-            )?;
-        }
-    }
-    Ok(())
-}
-
 // Puts a number after the others.
 fn push_number(numbers: &mut BTreeSet<u64>, number: u64) -> Result<(), NoMemory>
     requires { AreLess number numbers.old.keys }
@@ -246,83 +207,15 @@ fn push_number(numbers: &mut BTreeSet<u64>, number: u64) -> Result<(), NoMemory>
     Ok(())
 }
 
-// Takes the least number out.
-fn pop_number(numbers: &mut BTreeSet<u64>) -> Option<u64>
-    ensures least { result ≡ first numbers.old.keys }
-    ensures others { numbers.new.keys ≡ rest numbers.old.keys }
-{
-    numbers.pop_first()
-}
-
+// Takes the number out.
 fn remove_number(numbers: &mut BTreeSet<u64>, number: u64)
     ensures { numbers.new.keys ≡ without_number number numbers.old.keys }
 {
     numbers.remove(&number);
 }
 
-fn oldest_of<K: Eq + Hash + Drop>(numbers: &HashMap<K, Numbers>, key: &K) -> Option<u64>
-    ensures { result ≡ first (listed (get K.eq numbers.now key.now)) }
-{
-    numbers.get(key).map(|numbers| numbers.oldest)
-}
-
-fn take_entry<K: Eq + Hash + Drop, V: Drop>(
-    entries: &mut Entries<K, V>,
-    numbers: &mut HashMap<K, Numbers>,
-    key: &K,
-) -> Option<V>
-    requires { IsIndexed K.eq entries.old.entries numbers.old }
-    ensures indexed { IsIndexed K.eq entries.new.entries numbers.new }
-    ensures value { result
-        ≡ option_map (λ e. e.1.1) (find (has_key K.eq key.now) entries.old.entries) }
-    ensures rest { entries.new.entries ≡ before_first (has_key K.eq key.now) entries.old.entries
-        ++ after_first (has_key K.eq key.now) entries.old.entries }
-{
-    let Some(number) = oldest_of(numbers, key) else {
-        return None;
-    };
-    remove_entry(entries, numbers, number).map(|(_, value)| value)
-}
-
-// Takes the entry of the number out.
-fn remove_entry<K: Eq + Hash + Drop, V: Drop>(
-    entries: &mut Entries<K, V>,
-    numbers: &mut HashMap<K, Numbers>,
-    number: u64,
-) -> Option<(K, V)>
-    requires { IsIndexed K.eq entries.old.entries numbers.old }
-    ensures indexed { IsIndexed K.eq entries.new.entries numbers.new }
-    ensures entry { result ≡ option_map (λ e. e.1) (find (has_number_def number) entries.old.entries) }
-    ensures rest { entries.new.entries ≡ without number entries.old.entries }
-{
-    let Some(entry) = entries.remove(&number) else {
-        return None;
-    };
-    unlist(numbers, &entry.0, number);
-    Some(entry)
-}
-
-// Takes a number of the key out.
-fn unlist<K: Eq + Hash + Drop>(numbers: &mut HashMap<K, Numbers>, key: &K, number: u64)
-    ensures { (q : K) → listed (get K.eq numbers.new q)
-        ≡ (if K.eq key.now q then without_number number (listed (get K.eq numbers.old key.now))
-        else listed (get K.eq numbers.old q)) }
-{
-    let Some(known) = numbers.get_mut(key) else {
-        return;
-    };
-    if number == known.oldest {
-        match pop_number(&mut known.later) {
-            Some(next) => known.oldest = next,
-            None => drop(numbers.remove(key)),
-        }
-    } else {
-        remove_number(&mut known.later, number);
-    }
-}
-
 // Puts the keys after those of the list.
-fn move_keys<K: Eq + Hash + Drop, V: Drop>(mut entries: Entries<K, V>, keys: &mut Vec<K>)
+fn move_keys<K: Eq + Hash + Drop, V: Drop>(mut entries: BTreeMap<u64, (K, V)>, keys: &mut Vec<K>)
     requires { vec_len keys.old + length entries.entries ≤ vec_capacity keys.old }
     ensures { keys.new.items ≡ keys.old.items ++ map (λ e. e.1.0) entries.entries }
 {
