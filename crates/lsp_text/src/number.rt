@@ -1,7 +1,7 @@
 //! Numbers from their texts, without a float.
 ghost use Rattle.std.specs.Prelude.{◌≡◌, true, false, Some, option_map, IfSome};
 ghost use Rattle.fast_float.specs.Text.{scan};
-ghost use Rattle.serde_json.specs.Read.{number_from, number_of, float_of};
+ghost use Rattle.serde_json.specs.Read.{number_of, float_of};
 ghost use Rattle.serde_json.specs.View.{view};
 ghost use Rattle.serde_json.specs.Written.{has_float};
 ghost use Rattle.lsp_text.specs.Floats.{integer_or_null as integer_or_null_def, number_by};
@@ -50,35 +50,7 @@ fn float_in(floats: Floats, negative: bool, digits: &[u8]) -> Option<Value>
     }
 }
 
-// The number without a sign that the text is.
-fn natural(floats: Floats, digits: &[u8]) -> Option<Value>
-    ensures value { IfSome result (λ v. option_map (number_by floats)
-        (number_from false (scan digits.now)) ≡ Some (view v)) }
-    ensures clean { IfSome result (λ v. has_float (view v) ≡ false) }
-{
-    let numeral = Numeral::scan(digits);
-    match numeral.to_u64() {
-        Some(n) => Some(Value::from(n)),
-        None => float_in(floats, false, digits),
-    }
-}
-
-// The number that the text is after its minus. One that is zero is a float.
-fn negative(floats: Floats, digits: &[u8]) -> Option<Value>
-    ensures value { IfSome result (λ v. option_map (number_by floats)
-        (number_from true (scan digits.now)) ≡ Some (view v)) }
-    ensures clean { IfSome result (λ v. has_float (view v) ≡ false) }
-{
-    let numeral = Numeral::scan(digits);
-    if let Some(n) = numeral.to_i64(true) {
-        if n < 0 {
-            return Some(Value::from(n));
-        }
-    }
-    float_in(floats, true, digits)
-}
-
-// The number that the text is, without a float.
+// The number that the text is, without a float. A zero after a minus is one.
 #[tactic(auto, unfolding(serde_json::specs::Read::number_of))]
 pub(crate) fn number(floats: Floats, text: &str) -> Option<Value>
     ensures value { IfSome result
@@ -87,8 +59,17 @@ pub(crate) fn number(floats: Floats, text: &str) -> Option<Value>
 {
     let bytes = text.as_bytes();
     if !bytes.is_empty() && bytes[0] == b'-' {
-        negative(floats, &bytes[1..])
+        let digits = &bytes[1..];
+        let numeral = Numeral::scan(digits);
+        match numeral.to_i64(true) {
+            Some(n) if n < 0 => Some(Value::from(n)),
+            _ => float_in(floats, true, digits),
+        }
     } else {
-        natural(floats, bytes)
+        let numeral = Numeral::scan(bytes);
+        match numeral.to_u64() {
+            Some(n) => Some(Value::from(n)),
+            None => float_in(floats, false, bytes),
+        }
     }
 }

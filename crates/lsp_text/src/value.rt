@@ -1,9 +1,9 @@
 //! A value from tokens.
-ghost use Rattle.std.specs.Prelude.{◌≡◌, ◌<◌, ◌∷◌, ℕ, List, length, Some, false, string_bytes, IfOk, OnOk};
+ghost use Rattle.std.specs.Prelude.{◌≡◌, ◌<◌, ◌∷◌, ℕ, List, length, Some, false, IfOk, OnOk};
 ghost use Rattle.json.specs.Json.{value};
 ghost use Rattle.json.specs.Reads.{token_of};
 ghost use Rattle.json.specs.Token.{Token as SpecToken, begin_array, begin_object};
-ghost use Rattle.serde_json.specs.Data.{array, object, put};
+ghost use Rattle.serde_json.specs.Data.{array, object};
 ghost use Rattle.serde_json.specs.Read.{converted};
 ghost use Rattle.serde_json.specs.View.{view, items_view, members_view};
 ghost use Rattle.serde_json.specs.Written.{has_float, items_have_float, members_have_float};
@@ -32,15 +32,6 @@ fn single(alloc: Global, floats: Floats, token: Token<'_>) -> Result<Value, Unre
         Token::String(text) => Ok(Value::String(String::from_str(alloc, text)?)),
         _ => Err(Unread),
     }
-}
-
-// Gives the name this value, in place of the one that it may have.
-fn put_member(members: &mut Map<String, Value>, name: String, member: Value) -> Result<(), Unread>
-    ensures { OnOk result (members_view members.new.entries
-        ≡ put (string_bytes name) (view member) (members_view members.old.entries)) }
-{
-    drop(members.insert(name, member)?);
-    Ok(())
 }
 
 /// The value whose tokens come next, where arrays and objects nest at most so deep in it, and what
@@ -112,7 +103,7 @@ fn read_members(
     'members: while let Some(name) = reader.next_key()? {
         let key = String::from_str(alloc, name)?;
         let member = read_value(alloc, reader, floats, depth - 1)?;
-        put_member(&mut members, key, member)?;
+        drop(members.insert(key, member)?);
     }
     Ok(members)
 }

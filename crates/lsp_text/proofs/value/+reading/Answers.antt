@@ -3,6 +3,7 @@ use Rattle.json.specs.Json.{value, items, members, parse_map, after_end_array, r
 use Rattle.json.proofs.Grammar.{read_key-shorter}
 use Rattle.serde_json.specs.Data.{put}
 use Rattle.serde_json.specs.Read.{converted}
+use Rattle.serde_json.proofs.Views.{members_view-insert_entry}
 use Rattle.lsp_text.specs.Floats.{of_json_by, of_items_by}
 use Rattle.serde_json.specs.View.{view, items_view, members_view}
 use Rattle.lsp_text.proofs.Clean.{push_clean, put_clean}
@@ -49,7 +50,9 @@ read_members-members-preserved t c =
     let less = read_key-shorter l.reader (Some k) s named in
     let lesser = c.in_ok-member.ensures.shorter in
     let same : string_bytes c.in_ok-key.key ≡ k = search rules in
-    let more : members_view c.put_member.new.members.entries ≡ put k (view v) old = c.in_ok-put_member.ensures ∙ ap (λ name. put name (view v) old) same in (
+    let put_in : members_view c.insert.new.self.entries ≡ put (string_bytes c.in_ok-key.key) (view v) old
+    = ap members_view c.in_ok-insert.ensures.entries ∙ members_view-insert_entry l.members.entries c.in_ok-key.key v in
+    let more : members_view c.insert.new.self.entries ≡ put k (view v) old = put_in ∙ ap (λ name. put name (view v) old) same in (
       n - 1,
       omega (arith, l.invariant.1),
       omega (arith, l.invariant.2),
