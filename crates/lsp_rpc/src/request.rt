@@ -45,15 +45,15 @@ impl Request {
         }
     }
 
-    /// The call of that method, with these params and this id, where there are any.
-    pub fn from_parts(method: String, params: Option<Value>, id: Option<Id>) -> Request
+    /// The call of that method, with this id and these params, where there are any.
+    pub fn from_parts(method: String, id: Option<Id>, params: Option<Value>) -> Request
         ensures { show_request result ≡ record {
           method = string_bytes method;
           params = option_map view params;
           id = option_map show_id id;
         } }
     {
-        Request { method, params, id }
+        Request { method, id, params }
     }
 
     /// The name of the method.

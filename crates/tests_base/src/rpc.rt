@@ -115,6 +115,9 @@ fn parts_of_a_request(rt: HostRuntime) -> Result<(), Fail> {
     trial.is_true("no params", request.params().is_none());
     let shown = "Request { method: \"exit\", params: None, id: None }";
     trial.text("the request", debugged(alloc, &request), shown);
+    let (method, id, params) = request.into_parts();
+    let request = Request::from_parts(method, id, params);
+    trial.text("the same again", request.to_text(alloc), EXIT);
     let (method, _, _) = request.into_parts();
     let shown = "RequestBuilder { method: \"exit\", params: None, id: None }";
     trial.shows("the builder", Request::build(method), shown);
