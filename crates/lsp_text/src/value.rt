@@ -1,8 +1,7 @@
 //! A value from tokens.
-ghost use Rattle.std.specs.Prelude.{◌≡◌, ◌<◌, ◌∷◌, ℕ, List, length, Some, false, IfOk, OnOk};
+ghost use Rattle.std.specs.Prelude.{◌≡◌, ◌<◌, ◌∷◌, length, Some, false, IfOk, OnOk};
 ghost use Rattle.json.specs.Json.{value};
-ghost use Rattle.json.specs.Reads.{token_of};
-ghost use Rattle.json.specs.Token.{Token as SpecToken, begin_array, begin_object};
+ghost use Rattle.json.specs.Token.{begin_array, begin_object};
 ghost use Rattle.serde_json.specs.Data.{array, object};
 ghost use Rattle.serde_json.specs.Read.{converted};
 ghost use Rattle.serde_json.specs.View.{view, items_view, members_view};
@@ -15,24 +14,6 @@ use crate::unread::Unread;
 use json::{Reader, Scratch, Token};
 use serde_json::{Map, Value};
 use std::alloc::Global;
-
-// The value that is this token alone, at any depth.
-fn single(alloc: Global, floats: Floats, token: Token<'_>) -> Result<Value, Unread>
-    ensures value { IfOk result (λ v. (depth : ℕ) (rest : List SpecToken)
-        → converted (of_json_by floats) (value depth (token_of token.entry ∷ rest)) ≡ Some (view v, rest)) }
-    ensures clean { IfOk result (λ v. has_float (view v) ≡ false) }
-{
-    match token {
-        Token::Null => Ok(Value::Null),
-        Token::Bool(truth) => Ok(Value::Bool(truth)),
-        Token::Number(text) => match number(floats, text) {
-            Some(value) => Ok(value),
-            None => Err(Unread),
-        },
-        Token::String(text) => Ok(Value::String(String::from_str(alloc, text)?)),
-        _ => Err(Unread),
-    }
-}
 
 /// The value whose tokens come next, where arrays and objects nest at most so deep in it, and what
 /// becomes of floats is said. After an error the reader stands anywhere in the text.
@@ -48,11 +29,17 @@ pub fn read_value(
     ensures shorter { OnOk result (length reader.new < length reader.old) }
     ensures clean { IfOk result (λ v. has_float (view v) ≡ false) }
 {
-    let token = reader.next().ok_or(Unread)?;
-    match token {
+    match reader.next().ok_or(Unread)? {
+        Token::Null => Ok(Value::Null),
+        Token::Bool(truth) => Ok(Value::Bool(truth)),
+        Token::Number(text) => match number(floats, text) {
+            Some(value) => Ok(value),
+            None => Err(Unread),
+        },
+        Token::String(text) => Ok(Value::String(String::from_str(alloc, text)?)),
         Token::BeginArray => Ok(Value::Array(read_items(alloc, reader, floats, depth)?)),
         Token::BeginObject => Ok(Value::Object(read_members(alloc, reader, floats, depth)?)),
-        _ => single(alloc, floats, token),
+        _ => Err(Unread),
     }
 }
 

@@ -1,14 +1,52 @@
-use Rattle.std.proofs.Common.{◌≡◌, ◌∷◌, ◌++◌, [], ◌-◌, ◌<◌, length, Some, None, string_bytes, sym, ap, ◌∙◌, arith, rules}
+use Rattle.std.proofs.Common.{◌≡◌, Bool as Truth, String as Text, Global, ◌∷◌, ◌++◌, [], ◌-◌, ◌<◌, length, Some, None, string_bytes, sym, ap, ◌∙◌, arith, rules}
 use Rattle.json.specs.Json.{value, items, members, parse_map, after_end_array, read_key}
+use Rattle.json.specs.Reads.{token_of}
 use Rattle.json.proofs.Grammar.{read_key-shorter}
-use Rattle.serde_json.specs.Data.{put}
+use Rattle.serde_json.specs.Data.{null, boolean, string, put}
+use Rattle.serde_json.specs.declared.value.Value.{Null, Bool, String, the_lemmas}
 use Rattle.serde_json.specs.Read.{converted}
 use Rattle.serde_json.proofs.Views.{members_view-insert_entry}
 use Rattle.lsp_text.specs.Floats.{of_json_by, of_items_by}
 use Rattle.serde_json.specs.View.{view, items_view, members_view}
 use Rattle.lsp_text.proofs.Clean.{push_clean, put_clean}
-use Rattle.lsp_text.proofs.Tokens.{after_values, members_after, item_read, items_over, array_read, member_read, members_over, object_read}
+use Rattle.lsp_text.proofs.Tokens.{some_with, null_read, boolean_read, number_read, string_read, after_values, members_after, item_read, items_over, array_read, member_read, members_over, object_read}
 use Rattle.lsp_text.proofs.value.+reading.Goals as goal
+
+null_view : null ≡ view Null
+null_view = search (rules, the_lemmas)
+
+boolean_view : (b : Truth) → boolean b ≡ view (Bool b)
+boolean_view b = search (rules, the_lemmas)
+
+string_view : (s : Text Global) → string (string_bytes s) ≡ view (String s)
+string_view s = search (rules, the_lemmas)
+
+pub read_value-returns-in-Null-clause-value : goal.read_value-returns-in-Null-clause-value
+read_value-returns-in-Null-clause-value t c =
+    let rest = c.next.new.self in
+    let taken : c.args.reader.now ≡ token_of c.in_ok-ok_or.field-0 ∷ rest = search rules in
+    rw taken (rw c.in-Null.is (null_read c.args.floats c.args.depth rest ∙ ap (λ d. some_with d rest) null_view))
+
+pub read_value-returns-in-Bool-clause-value : goal.read_value-returns-in-Bool-clause-value
+read_value-returns-in-Bool-clause-value t c =
+    let rest = c.next.new.self in
+    let b = c.in-Bool.truth in
+    let taken : c.args.reader.now ≡ token_of c.in_ok-ok_or.field-0 ∷ rest = search rules in
+    rw taken (rw c.in-Bool.is (boolean_read c.args.floats b c.args.depth rest ∙ ap (λ d. some_with d rest) (boolean_view b)))
+
+pub read_value-returns-in-Some-clause-value : goal.read_value-returns-in-Some-clause-value
+read_value-returns-in-Some-clause-value t c =
+    let rest = c.next.new.self in
+    let taken : c.args.reader.now ≡ token_of c.in_ok-ok_or.field-0 ∷ rest = search rules in
+    rw taken (rw c.in-Number.is (number_read c.args.floats c.in-Number.text.now (view c.in-Some.value) c.in-Some.ensures.value c.args.depth rest))
+
+pub read_value-returns-in_ok-from_str-in-String-clause-value : goal.read_value-returns-in_ok-from_str-in-String-clause-value
+read_value-returns-in_ok-from_str-in-String-clause-value t c =
+    let rest = c.next.new.self in
+    let s = c.in_ok-from_str-in-String.field-0 in
+    let same : string_bytes s ≡ c.in-String.text.now = search rules in
+    let taken : c.args.reader.now ≡ token_of c.in_ok-ok_or.field-0 ∷ rest = search rules in
+    rw taken (rw c.in-String.is (string_read c.args.floats c.in-String.text.now c.args.depth rest ∙ ap (λ d. some_with d rest) (ap string (sym same) ∙ string_view s)))
 
 pub read_items-items-preserved : goal.read_items-items-preserved
 read_items-items-preserved t c =
