@@ -1,8 +1,9 @@
 -- An admission is a change of the life and then a verdict, by which a call may begin.
-use Rattle.std.proofs.Common.{◌≡◌, refl, sym, ◌∙◌, ap, subst, ◌++◌, [], Bool, true}
-use Rattle.std.specs.Prelude.{Option, option_map}
+use Rattle.std.proofs.Common.{◌≡◌, refl, sym, ◌∙◌, ap, subst, List, ◌++◌, ◌∷◌, [], Bool, true, false, not}
+use Rattle.std.specs.Prelude.{Option, None, Some, option_map, if◌then◌else◌}
 use Rattle.std.proofs.lemmas.List.{append-nil}
 use Rattle.lsp_rpc.specs.declared.id.Id.{Id}
+use Rattle.lsp_rpc.specs.Message.{IdData}
 use Rattle.lsp_rpc.specs.Shown.{show_id}
 use Rattle.lsp_desk.proofs.TraceLemmas.{grows_none}
 use Rattle.lsp_desk.specs.declared.call.DeskFault.{DeskFault}
@@ -15,9 +16,9 @@ use Rattle.lsp_session.specs.declared.works.Phase.TheVariants as phases
 use Rattle.lsp_session.specs.declared.works.Works.{Works}
 use Rattle.lsp_session.specs.Item.{ItemData}
 use Rattle.lsp_session.specs.Semantics.{Semantics, Fresh}
-use Rattle.lsp_session.specs.Admission.{Admission, Occasion, reads_by, admission}
+use Rattle.lsp_session.specs.Admission.{Admission, Occasion, RespectsLive, is_live, reads_by, admission}
 use Rattle.lsp_session.specs.Verdict.{show_verdict, occasion_of}
-use Rattle.lsp_session.specs.State.{State, Work, nothing, with_id}
+use Rattle.lsp_session.specs.State.{State, Work, live, nothing, with_id}
 use Rattle.lsp_session.specs.Run.{Admits, Admitting, Applies, Applying, Changes, Changing, admission_of, reads_in}
 use Rattle.lsp_session.specs.PendingView.{live_ids}
 use Rattle.lsp_session.specs.WorksView.{works_of, are_crowded, entered_works}
@@ -66,6 +67,31 @@ module _ {H D C T : Type 0} (semantics : Semantics H C T) (m : Meaning D) (old :
           puts = part_verdict semantics m item before between after a is changed (record { trace = broken.failed.trace; grows = broken.failed.grows }) broken.puts;
           life = broken.life;
         }
+
+-- ---- a call begins
+
+-- but for its live ids the session is as it was
+abbrev pub OnlyLive : {H D C T : Type 0} → Running H D C T → Running H D C T → Type 0
+OnlyLive old mid = mid ≡ record old { live = mid.live }
+
+pub only_live : {H D C T : Type 0} (old mid : Running H D C T) (live : Pending) → mid ≡ record old { live = live } → OnlyLive old mid
+only_live old mid live is = is ∙ ap (λ (l : Pending). record old { live = l }) (sym (ap (λ (r : Running _ _ _ _). r.live) is))
+
+-- a notification has no id that could be live
+pub no_id : (live : List IdData) (id : Option Id) → ((x : Id) → id ≡ Some x → ⊥) → live ≡ live ++ with_id (option_map show_id id) []
+no_id live None none = sym (append-nil live)
+no_id live (Some x) none = absurd (none x refl)
+
+-- the id of a request is live
+pub id_began : {H D C T : Type 0} (semantics : Semantics H C T) (m : Meaning D) (old : Running H D C T) (id : Option Id) (entry : Entry) (call : C) → MayDo semantics m old (Start id entry call)
+    → (x copy : Id) (fresh : Bool) (new : List IdData) → id ≡ Some x → show_id copy ≡ show_id x → fresh ≡ not (is_live (show_id copy) (live_ids old.live))
+    → new ≡ (if fresh then live_ids old.live ++ show_id copy ∷ [] else live_ids old.live) → new ≡ live_ids old.live ++ with_id (option_map show_id id) []
+id_began semantics m old id entry call may x copy fresh new is same tells ids =
+    let begun = subst (λ (i : Option Id). RespectsLive (live (running_view semantics m old).state) (show_verdict semantics (Start i entry call))) is may.fresh in
+    let other : is_live (show_id copy) (live_ids old.live) ≡ false = ap (λ (i : IdData). is_live i (live_ids old.live)) same ∙ ap (is_live (show_id x)) may.keeps.live_are ∙ begun in
+    let yes : fresh ≡ true = tells ∙ ap not other in
+    ids ∙ ap (λ (b : Bool). if b then live_ids old.live ++ show_id copy ∷ [] else live_ids old.live) yes ∙ ap (λ (i : IdData). live_ids old.live ++ i ∷ []) same
+    ∙ ap (λ (i : Option Id). live_ids old.live ++ with_id (option_map show_id i) []) (sym is)
 
 -- its id is live, and its work has entered a slot or the queue
 pub call_began : {H D C T : Type 0} (semantics : Semantics H C T) (m : Meaning D) (old : Running H D C T) (live : Pending) (works : Works C T) (id : Option Id) (entry : Entry) (call : C) → MayDo semantics m old (Start id entry call)
