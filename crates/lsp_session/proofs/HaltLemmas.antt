@@ -1,6 +1,7 @@
 -- What the end of a session's call says.
 use Rattle.std.proofs.Common.{◌≡◌, ◌^◌, ◌-◌, ℕ, true, ap, subst}
 use Rattle.std.specs.Prelude.{Result, Ok, Err, OnOk, OnErr, IfErr}
+use Rattle.std.specs.Result.{IsErrAnd}
 use Rattle.lsp_desk.specs.declared.desk.Caller.{Ghosts as CallerGhosts}
 use Rattle.lsp_desk.specs.declared.call.DeskFault.{DeskFault}
 use Rattle.lsp_desk.specs.declared.call.DeskFault.TheVariants as faults
@@ -31,6 +32,11 @@ module _ {H D C T : Type 0} {h : HandlersGhosts H D C T} {d : CallerGhosts D} (o
     spent = spent_at d.meaning (desk_of new) fault f is b.failed.spends;
     others = stops_all fault f is;
   }
+
+  -- and so does one whose fault a `?` made an error
+  pub halts_at : {A : Type 0} (r : Result A SessionFault) (fault : DeskFault) → IsErrAnd r (λ f. IsStop fault f) → has_stopped new ≡ true → Breaks h.semantics d.meaning old.running P new.running fault → SessionEnds old P new r
+  halts_at (Ok x) fault is stopped b = absurd is
+  halts_at (Err f) fault is stopped b = halts fault f stopped is b
 
   module _ {A : Type 0} (r : Result A SessionFault) where
     -- what follows at Ok, and at an error

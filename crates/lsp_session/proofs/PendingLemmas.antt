@@ -1,5 +1,5 @@
 -- The live ids after one is put in or taken out.
-use Rattle.std.proofs.Common.{◌≡◌, ◌≤◌, ◌+◌, ℕ, List, [], ◌∷◌, ◌++◌, Bool, true, false, cond, not, Some, option_map, refl, sym, ap, ◌∙◌, subst, arith, map, filter, length, take, drop}
+use Rattle.std.proofs.Common.{◌≡◌, ◌≤◌, ◌+◌, ℕ, List, [], ◌∷◌, ◌++◌, Bool, true, false, cond, not, Some, option_map, refl, sym, ap, ◌∙◌, subst, arith, map, filter, length, length-append, take, drop}
 use Rattle.std.specs.Prelude.{is_some, ◌||◌, Result, Ok, Err, OnOk, OnErr}
 use Rattle.std.specs.List.{find, list_any, before_first, after_first, position_or_len}
 use Rattle.std.proofs.lemmas.Grind.{common_steps}
@@ -8,7 +8,7 @@ use Rattle.lsp_rpc.specs.Ids.{same_id, same_id-Decides, same_id_equiv}
 use Rattle.lsp_rpc.specs.Shown.{show_id}
 use Rattle.lsp_rpc.specs.declared.id.Id.{Id}
 use Rattle.lsp_desk.proofs.ListLemmas.{list_any-map}
-use Rattle.lsp_session.specs.Live.{ids_of, have_repeats, IsPushed}
+use Rattle.lsp_session.specs.Live.{ids_of, have_repeats}
 
 or_false : (a b : Bool) → (a || b) ≡ false → (a ≡ false) × (b ≡ false)
 or_false false b h = (refl, h)
@@ -126,9 +126,17 @@ module _ {X : Type 0} where
   shown_keys [] = refl
   shown_keys (e ∷ es) = ap (λ l. show_id e.1.0 ∷ l) (shown_keys es)
 
-  -- an id that isn't live was put in, or nothing was
-  pub apart_added : {A E : Type 0} (r : Result A E) (id : Id) (old new : List (ℕ × (Id × X))) → OnOk r (IsPushed id old new) → OnErr r (new ≡ old)
-      → have_repeats old ≡ false → list_any (same_id (show_id id)) (ids_of old) ≡ false → have_repeats new ≡ false
-  apart_added (Ok a) id old new (n, (x, is)) err apart none =
-      subst AreApart (sym is) (apart_pushed old (n, (id, x)) apart (sym (list_any-map (λ e. show_id e.1.0) (same_id (show_id id)) old) ∙ none))
-  apart_added (Err e) id old new ok err apart none = subst AreApart (sym err) apart
+  module _ {A E : Type 0} (r : Result A E) (n : ℕ) (id : Id) (x : X) (old new : List (ℕ × (Id × X))) (ok : OnOk r (new ≡ old ++ (n, (id, x)) ∷ [])) (err : OnErr r (new ≡ old)) where
+    -- an id that isn't live was put in, or nothing was
+    pub apart_added : have_repeats old ≡ false → list_any (same_id (show_id id)) (ids_of old) ≡ false → have_repeats new ≡ false
+    apart_added apart none = elim r as (λ r. OnOk r (new ≡ old ++ (n, (id, x)) ∷ []) → OnErr r (new ≡ old) → have_repeats new ≡ false) [
+      | Ok a ↦ λ is _. subst AreApart (sym is) (apart_pushed old (n, (id, x)) apart (sym (list_any-map (λ e. show_id e.1.0) (same_id (show_id id)) old) ∙ none))
+      | Err e ↦ λ _ is. subst AreApart (sym is) apart
+    ] ok err
+
+    -- where there is room for one more, there is room for all
+    pub fits_added : (room : ℕ) → length old + 1 ≤ room → length new ≤ room
+    fits_added room fits = elim r as (λ r. OnOk r (new ≡ old ++ (n, (id, x)) ∷ []) → OnErr r (new ≡ old) → length new ≤ room) [
+      | Ok a ↦ λ is _. omega (arith, ap length is, length-append old ((n, (id, x)) ∷ []), fits)
+      | Err e ↦ λ _ is. omega (arith, ap length is, fits)
+    ] ok err

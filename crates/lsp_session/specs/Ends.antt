@@ -9,7 +9,7 @@ use Rattle.lsp_session.specs.Admission.{RespectsLive}
 use Rattle.lsp_session.specs.State.{State, Effect, live}
 use Rattle.lsp_session.specs.Run.{Applying}
 use Rattle.lsp_session.specs.Verdict.{show_verdict, IsSound}
-use Rattle.lsp_session.specs.View.{running_view, Keeps, KeepsAll, Goes, KeepsOut, PutsOut, TellsLife}
+use Rattle.lsp_session.specs.View.{running_view, Keeps, Goes, KeepsOut, PutsOut, TellsLife}
 
 -- the session went on by this relation, and keeps these facts
 pub record Does {H D C T : Type 0} (semantics : Semantics H C T) (m : Meaning D) (Kept : Running H D C T → Type 0) (old : Running H D C T) (P : State H semantics.Call semantics.Task → Effect → State H semantics.Call semantics.Task → Type 0) (new : Running H D C T) : Type 0 where
@@ -23,12 +23,7 @@ pub record Breaks {H D C T : Type 0} (semantics : Semantics H C T) (m : Meaning 
   pub puts : PutsOut semantics m old P new
   pub life : TellsLife m new
 
--- how a call ends that was to do this
-abbrev pub CallEnds : {H D C T A : Type 0} → (semantics : Semantics H C T) → Meaning D → Running H D C T → (State H semantics.Call semantics.Task → Effect → State H semantics.Call semantics.Task → Type 0) → Running H D C T → Result A DeskFault → Type 0
-CallEnds semantics m old P new (Ok x) = Does semantics m (KeepsAll semantics m) old P new
-CallEnds semantics m old P new (Err fault) = Breaks semantics m old P new fault
-
--- and a part of a call, after which the works may not yet fit the life
+-- how a part of a call ends that was to do this, after which the works may not yet fit the life
 abbrev pub PartEnds : {H D C T A : Type 0} → (semantics : Semantics H C T) → Meaning D → Running H D C T → (State H semantics.Call semantics.Task → Effect → State H semantics.Call semantics.Task → Type 0) → Running H D C T → Result A DeskFault → Type 0
 PartEnds semantics m old P new (Ok x) = Does semantics m (Keeps semantics m) old P new
 PartEnds semantics m old P new (Err fault) = Breaks semantics m old P new fault

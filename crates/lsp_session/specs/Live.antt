@@ -1,5 +1,5 @@
 -- The live ids as the code keeps them.
-use Rattle.std.specs.Prelude.{◌≡◌, ℕ, ◌++◌, List, [], ◌∷◌, map, filter, not, Bool, false, ◌||◌}
+use Rattle.std.specs.Prelude.{◌≡◌, ℕ, List, [], ◌∷◌, map, filter, not, Bool, false, ◌||◌}
 use Rattle.std.specs.List.{list_any}
 use Rattle.lsp_rpc.specs.Message.{IdData}
 use Rattle.lsp_rpc.specs.Ids.{same_id}
@@ -14,10 +14,6 @@ ids_of es = map (λ e. show_id e.1.0) es
 abbrev pub have_repeats : {X : Type 0} → List (ℕ × (Id × X)) → Bool
 have_repeats [] = false
 have_repeats (e ∷ es) = list_any (λ x. same_id (show_id e.1.0) (show_id x.1.0)) es || have_repeats es
-
--- this id, after the others
-abbrev pub IsPushed : {X : Type 0} → Id → List (ℕ × (Id × X)) → List (ℕ × (Id × X)) → Type 0
-IsPushed {X} id old new = (n : ℕ) × ((x : X) × (new ≡ old ++ (n, (id, x)) ∷ []))
 
 -- the id is no longer live, and this says whether it was
 pub record IsEnded (i : IdData) (old : List IdData) (was_live : Bool) (new : List IdData) : Type 0 where

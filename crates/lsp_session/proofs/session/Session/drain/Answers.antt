@@ -1,21 +1,68 @@
--- A last look leaves the life, and one that broke stops the session.
-use Rattle.std.proofs.Common.{refl}
-use Rattle.lsp_session.specs.Run.{Drains}
+-- What the desk holds was put out, and the life stays; a last look that broke stops the session.
+use Rattle.std.proofs.Common.{refl, sym, ◌∙◌, map, ◌∷◌, []}
+use Rattle.lsp_rpc.specs.Message.{request}
+use Rattle.lsp_rpc.specs.Shown.{show_request}
+use Rattle.lsp_desk.proofs.TraceLemmas.{makes_of, makes_life}
+use Rattle.lsp_session.specs.Run.{took, Drains}
+use Rattle.lsp_session.specs.PendingView.{live_ids}
 use Rattle.lsp_session.specs.View.{running_view}
-use Rattle.lsp_session.proofs.CutLemmas.{drained_life, part_life}
-use Rattle.lsp_session.proofs.HaltLemmas.{halts}
+use Rattle.lsp_session.proofs.RunningLemmas.{facts_desk}
+use Rattle.lsp_session.proofs.FactLemmas.{fits_desk}
+use Rattle.lsp_session.proofs.CutLemmas.{cut_at}
+use Rattle.lsp_session.proofs.EndsLemmas.{breaks_short}
+use Rattle.lsp_session.proofs.HaltLemmas.{halts_at}
 use Rattle.lsp_session.proofs.session.Session.drain.Goals as goal
 
-pub returns-in-Ok-clause-ends : goal.returns-in-Ok-clause-ends
-returns-in-Ok-clause-ends g c = record { ok = c.in-Ok.ensures.ok; running = refl }
+pub invariant_of-self-in-Break-branch-2 : goal.invariant_of-self-in-Break-branch-2
+invariant_of-self-in-Break-branch-2 g c =
+    let m = g.D.Caller.meaning in
+    let old = c.args.self.now.running.desk in
+    let taken = c.in_ok-messages.ensures.calls in
+    let makes = makes_of m old c.take.new.desk taken.trace _ (g.met.D.Desk.is_chief old) taken.grows taken.holds in
+    record { life = c.args.self.now.life ∙ sym (makes_life (m.now old) (m.now c.take.new.desk) _ taken.trace makes); keeps = λ running. cc }
 
-pub returns-in-Ok-clause-life : goal.returns-in-Ok-clause-life
-returns-in-Ok-clause-life g c =
-    let done = c.in-Ok.ensures.ok in
-    drained_life (running_view g.H.Handlers.semantics g.D.Caller.meaning c.args.self.now.running).state _ done.effect done.does
+pub returns-in_err-append-clause-ends : goal.returns-in_err-append-clause-ends
+returns-in_err-append-clause-ends g c =
+    let m = g.D.Caller.meaning in
+    let old = running_view g.H.Handlers.semantics m c.args.self.now.running in
+    let taken = c.in_ok-messages.ensures.calls in
+    let messages = map show_request c.in_ok-messages.messages.items in
+    let desk = m.now c.take.new.desk in
+    let makes = makes_of m old.desk c.take.new.desk taken.trace (took messages ∷ []) (g.met.D.Desk.is_chief old.desk) taken.grows taken.holds in
+    let cut = cut_at m Drains old _ (record { trace = taken.trace; out = map request messages }) (record old.state { desk = desk })
+    (record { messages = messages; trace = taken.trace; desk = desk; takes = makes; leaves = refl; adds = refl }) taken.grows c.in_err-append.ensures.part refl in
+    halts_at c.args.self.now _ Drains c.from_residual-in_err-append.result _ c.from_residual-in_err-append.ensures.1 refl
+    (breaks_short g.H.Handlers.semantics m c.args.self.now.running _ _ cut refl (c.args.self.now.life ∙ sym (makes_life old.state.desk desk (took messages ∷ []) taken.trace makes)))
 
-pub returns-in-Err-clause-ends : goal.returns-in-Err-clause-ends
-returns-in-Err-clause-ends g c = halts c.args.self.now _ Drains c.in-Err.fault c.stop.result refl c.stop.ensures c.in-Err.ensures
+pub invariant_of-self-2 : goal.invariant_of-self-2
+invariant_of-self-2 g c =
+    let semantics = g.H.Handlers.semantics in
+    let m = g.D.Caller.meaning in
+    let old = c.args.self.now.running in
+    let kept = c.args.self.now.keeps c.requires in
+    let s = (running_view semantics m old).state in
+    let taken = c.in_ok-messages.ensures.calls in
+    let desk = m.now c.take.new.desk in
+    let makes = makes_of m old.desk c.take.new.desk taken.trace _ (g.met.D.Desk.is_chief old.desk) taken.grows taken.holds in
+    let life = makes_life s.desk desk _ taken.trace makes in
+    record {
+      life = c.args.self.now.life ∙ sym life;
+      keeps = λ running. (facts_desk semantics s old.life old.life (live_ids old.live) old.handlers desk old.exited (kept.0.life_is ∙ sym life) kept.0, fits_desk s desk life kept.1);
+    }
 
-pub returns-in-Err-clause-life : goal.returns-in-Err-clause-life
-returns-in-Err-clause-life g c = part_life g.D.Caller.meaning _ _ c.in-Err.ensures.puts
+pub returns-clause-ends : goal.returns-clause-ends
+returns-clause-ends g c =
+    let m = g.D.Caller.meaning in
+    let old = c.args.self.now.running in
+    let taken = c.in_ok-messages.ensures.calls in
+    let messages = map show_request c.in_ok-messages.messages.items in
+    let makes = makes_of m old.desk c.take.new.desk taken.trace (took messages ∷ []) (g.met.D.Desk.is_chief old.desk) taken.grows taken.holds in
+    record {
+      ok = record {
+        effect = record { trace = taken.trace; out = map request messages };
+        does = record { messages = messages; trace = taken.trace; desk = m.now c.take.new.desk; takes = makes; leaves = refl; adds = refl };
+        grows = taken.grows;
+        out = c.in_ok-append.ensures.ok;
+      };
+      running = refl;
+    }

@@ -1,0 +1,74 @@
+-- The life changes, the verdict is applied, and the facts stay; a call that broke stops the session.
+use Rattle.std.proofs.Common.{refl, sym, subst}
+use Rattle.lsp_session.specs.Item.{show_item}
+use Rattle.lsp_session.specs.Admission.{Admission, RespectsLive, reads_by}
+use Rattle.lsp_session.specs.Verdict.{show_verdict, show_admission, occasion_of}
+use Rattle.lsp_session.specs.Run.{Admitting}
+use Rattle.lsp_session.specs.PendingView.{live_ids}
+use Rattle.lsp_session.proofs.AdmissionLemmas.{admission_fits}
+use Rattle.lsp_session.proofs.AdmitLemmas.{admission_is, admitted, not_admitted}
+use Rattle.lsp_session.proofs.RunningLemmas.{fails_still, on_any_err}
+use Rattle.lsp_session.proofs.EndsLemmas.{breaks_silent, fails_of, life_changed}
+use Rattle.lsp_session.proofs.session.Session.admit.Goals as goal
+
+pub returns-in_err-admission-clause-failed : goal.returns-in_err-admission-clause-failed
+returns-in_err-admission-clause-failed g c =
+    let semantics = g.H.Handlers.semantics in
+    let m = g.D.Caller.meaning in
+    let old = c.args.self.now.running in
+    let P = Admitting semantics (show_item c.args.item) in
+    on_any_err c.from_residual.result (fails_of semantics m old old P _ (breaks_silent semantics m old old P _ refl refl (fails_still m old.desk old.desk refl) c.args.self.now.life))
+
+pub apply-requires : goal.apply-requires
+apply-requires g c =
+    let semantics = g.H.Handlers.semantics in
+    let m = g.D.Caller.meaning in
+    let old = c.args.self.now.running in
+    let kept = c.args.self.now.keeps c.requires.running in
+    let a = c.in_ok-admission.admission in
+    let fits = admission_fits semantics.Call (occasion_of old.life (live_ids old.live) c.is_crowded-crowded.result) (semantics.find old.handlers) (reads_by old.empty_params semantics.reads) (show_item c.args.item) in
+    let here = subst (λ (x : Admission semantics.Call). RespectsLive (live_ids old.live) x.verdict) (sym c.in_ok-admission.ensures.comes.0) fits in
+    let changed = life_changed semantics m old c.change_life.new.desk _ a.change (g.met.D.Desk.is_chief old.desk) kept.0 c.in_ok-self.ensures.calls c.in_ok-self.ensures.life in
+    record {
+      keeps = changed.keeps;
+      sound = c.in_ok-admission.ensures.comes.1;
+      fresh = subst (λ ids. RespectsLive ids (show_verdict semantics a.verdict)) kept.0.live_are here;
+    }
+
+pub returns-in_err-apply-clause-failed : goal.returns-in_err-apply-clause-failed
+returns-in_err-apply-clause-failed g c =
+    let semantics = g.H.Handlers.semantics in
+    let m = g.D.Caller.meaning in
+    let old = c.args.self.now.running in
+    let kept = c.args.self.now.keeps c.requires.running in
+    let item = show_item c.args.item in
+    let a = show_admission semantics c.in_ok-admission.admission in
+    let is = admission_is semantics m old item kept a c.is_crowded-crowded.result c.is_crowded-crowded.ensures c.in_ok-admission.ensures.comes.0 in
+    let changed = life_changed semantics m old c.change_life.new.desk _ a.change (g.met.D.Desk.is_chief old.desk) kept.0 c.in_ok-self.ensures.calls c.in_ok-self.ensures.life in
+    on_any_err c.from_residual-in_err-apply.result (fails_of semantics m old _ (Admitting semantics item) _ (not_admitted semantics m old item kept _ _ a is changed.ok refl _ c.in_err-apply.ensures.ends))
+
+pub invariant_of-self-2 : goal.invariant_of-self-2
+invariant_of-self-2 g c =
+    let semantics = g.H.Handlers.semantics in
+    let m = g.D.Caller.meaning in
+    let old = c.args.self.now.running in
+    let kept = c.args.self.now.keeps c.requires.running in
+    let item = show_item c.args.item in
+    let a = show_admission semantics c.in_ok-admission.admission in
+    let is = admission_is semantics m old item kept a c.is_crowded-crowded.result c.is_crowded-crowded.ensures c.in_ok-admission.ensures.comes.0 in
+    let changed = life_changed semantics m old c.change_life.new.desk _ a.change (g.met.D.Desk.is_chief old.desk) kept.0 c.in_ok-self.ensures.calls c.in_ok-self.ensures.life in
+    let done = admitted semantics m old item kept _ _ a is changed.ok refl c.in_ok-apply.ensures.ends in
+    record { life = done.keeps.0.life_is; keeps = λ running. done.keeps }
+
+pub returns-clause-ok : goal.returns-clause-ok
+returns-clause-ok g c =
+    let semantics = g.H.Handlers.semantics in
+    let m = g.D.Caller.meaning in
+    let old = c.args.self.now.running in
+    let kept = c.args.self.now.keeps c.requires.running in
+    let item = show_item c.args.item in
+    let a = show_admission semantics c.in_ok-admission.admission in
+    let is = admission_is semantics m old item kept a c.is_crowded-crowded.result c.is_crowded-crowded.ensures c.in_ok-admission.ensures.comes.0 in
+    let changed = life_changed semantics m old c.change_life.new.desk _ a.change (g.met.D.Desk.is_chief old.desk) kept.0 c.in_ok-self.ensures.calls c.in_ok-self.ensures.life in
+    let done = admitted semantics m old item kept _ _ a is changed.ok refl c.in_ok-apply.ensures.ends in
+    done.ok
