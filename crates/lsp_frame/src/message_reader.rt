@@ -1,14 +1,12 @@
 // The short way from a text to a message.
-ghost use Rattle.std.specs.Prelude.{◌≡◌, Some, IfOk, OnOk, option_and_then, false};
-ghost use Rattle.serde_json.specs.Data.{Members as DataMembers, no_members, object};
+ghost use Rattle.std.specs.Prelude.{◌≡◌, Some, IfOk, option_and_then, false};
 ghost use Rattle.serde_json.specs.Read.{read};
 ghost use Rattle.lsp_rpc.specs.Message.{clean_message, message_has_float};
 ghost use Rattle.lsp_rpc.specs.Shown.{show_message};
 ghost use Rattle.lsp_text.specs.Floats.{read_by};
-ghost use Rattle.lsp_frame.specs.Parts.{AreParts};
 
 use crate::parts::{Parts, message_of, read_parts};
-use json::{Reader, Scratch, Token};
+use json::Scratch;
 use lsp_rpc::Message;
 use lsp_text::{Floats, Unread};
 use std::alloc::Global;
@@ -58,36 +56,11 @@ impl MessageReader {
             outcome: None,
             error: None,
         };
-        let found = parts_of(alloc, floats, text, &mut scratch, &mut parts);
+        let found = read_parts(alloc, floats, text, &mut scratch, &mut parts);
         if text.len() <= KEPT {
             self.scratch = Some(scratch);
         }
         found?;
         message_of(parts)
     }
-}
-
-// Reads the parts of the object that the text is.
-fn parts_of(
-    alloc: Global,
-    floats: Floats,
-    text: &str,
-    scratch: &mut Scratch,
-    parts: &mut Parts,
-) -> Result<(), Unread>
-    requires { AreParts parts.old no_members }
-    ensures { OnOk result ((ms : DataMembers)
-        × (read_by floats text.now ≡ Some (object ms)) × AreParts parts.new ms) }
-{
-    let mut reader = Reader::new(text, scratch)?;
-    let token = reader.next().ok_or(Unread)?;
-    match token {
-        Token::BeginObject => {}
-        _ => return Err(Unread),
-    }
-    read_parts(alloc, &mut reader, floats, parts)?;
-    if reader.next().is_some() {
-        return Err(Unread);
-    }
-    Ok(())
 }

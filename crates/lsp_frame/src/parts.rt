@@ -1,17 +1,16 @@
 // The parts of a message, from the tokens of its text.
-ghost use Rattle.std.specs.Prelude.{◌≡◌, ◌≢◌, ◌<◌, length, Some, IfOk, OnOk, codes, false, string_bytes, option_map};
-ghost use Rattle.json.specs.Json.{value, members};
-ghost use Rattle.serde_json.specs.Data.{Data, Members as DataMembers, string, no_members, put, object};
+ghost use Rattle.std.specs.Prelude.{◌≡◌, ◌<◌, length, Some, IfOk, OnOk, codes, false};
+ghost use Rattle.json.specs.Json.{value};
+ghost use Rattle.serde_json.specs.Data.{Data, Members as DataMembers, no_members, put, object};
 ghost use Rattle.serde_json.specs.Read.{converted};
 ghost use Rattle.serde_json.specs.View.{view};
 ghost use Rattle.serde_json.specs.Written.{has_float};
-ghost use Rattle.lsp_rpc.specs.Message.{id_of, error_of, clean_message};
-ghost use Rattle.lsp_rpc.specs.Shown.{show_id, show_error, show_request, show_message};
-ghost use Rattle.lsp_text.specs.Floats.{of_json_by, of_members_by};
-ghost use Rattle.lsp_text.specs.declared.floats.Floats.{Floats as AnyFloats};
+ghost use Rattle.lsp_rpc.specs.Message.{error_of, clean_message};
+ghost use Rattle.lsp_rpc.specs.Shown.{show_error, show_message};
+ghost use Rattle.lsp_text.specs.Floats.{of_json_by, read_by};
 ghost use Rattle.lsp_frame.specs.Parts.{AreParts};
 
-use json::{Reader, Token};
+use json::{Reader, Scratch, Token};
 use lsp_rpc::{Error, Id, Message, Request, Response, read_error, read_id};
 use lsp_text::{Floats, Unread, read_value};
 use serde_json::Value;
@@ -29,44 +28,6 @@ pub struct Parts {
     pub params: Option<Value>,
     pub outcome: Option<Value>,
     pub error: Option<Error>,
-}
-
-// The version of JSON-RPC.
-fn read_version(reader: &mut Reader<'_>) -> Result<(), Unread>
-    ensures value { OnOk result ((floats : AnyFloats)
-        → converted (of_json_by floats) (value 126 reader.old)
-        ≡ Some (string (codes "2.0"), reader.new)) }
-    ensures shorter { OnOk result (length reader.new < length reader.old) }
-{
-    let token = reader.next().ok_or(Unread)?;
-    match token {
-        Token::String(text) => if text == "2.0" { Ok(()) } else { Err(Unread) },
-        _ => Err(Unread),
-    }
-}
-
-// A string.
-fn read_text(alloc: Global, reader: &mut Reader<'_>) -> Result<String, Unread>
-    ensures value { IfOk result (λ s. (floats : AnyFloats)
-        → converted (of_json_by floats) (value 126 reader.old)
-        ≡ Some (string (string_bytes s), reader.new)) }
-    ensures shorter { OnOk result (length reader.new < length reader.old) }
-{
-    let token = reader.next().ok_or(Unread)?;
-    match token {
-        Token::String(text) => Ok(String::from_str(alloc, text)?),
-        _ => Err(Unread),
-    }
-}
-
-// The id that the value is.
-fn id_in(value: Value) -> Result<Id, Unread>
-    ensures { IfOk result (λ id. id_of (view value) ≡ Some (show_id id)) }
-{
-    match read_id(value) {
-        Some(id) => Ok(id),
-        None => Err(Unread),
-    }
 }
 
 // The error that the value is.
@@ -91,28 +52,9 @@ impl Parts {
         self.error = Some(error_in(value)?);
         Ok(())
     }
-
-    // Keeps the value of the member of that name, which is neither the version nor the method. That
-    // of another name is dropped.
-    fn keep(&mut self, name: &str, value: Value) -> Result<(), Unread>
-        requires version { name.now ≢ codes "jsonrpc" }
-        requires method { name.now ≢ codes "method" }
-        requires clean { has_float (view value) ≡ false }
-        ensures { OnOk result ((ms : DataMembers) → AreParts self.old ms
-            → AreParts self.new (put name.now (view value) ms)) }
-    {
-        match name {
-            "id" => self.id = Some(id_in(value)?),
-            "params" => self.params = Some(value),
-            "result" => self.outcome = Some(value),
-            "error" => self.keep_error(value)?,
-            _ => drop(value),
-        }
-        Ok(())
-    }
 }
 
-// Reads the value of the member of that name. One of another name is read and dropped.
+// Reads the value of the member of that name and keeps it. One of another name is dropped.
 fn read_part(
     alloc: Global,
     reader: &mut Reader<'_>,
@@ -126,38 +68,51 @@ fn read_part(
     ensures shorter { OnOk result (length reader.new < length reader.old) }
 {
     match name {
-        "jsonrpc" => {
-            read_version(reader)?;
-            parts.has_version = true;
-            Ok(())
-        }
-        "method" => {
-            parts.method = Some(read_text(alloc, reader)?);
-            Ok(())
-        }
+        "jsonrpc" => match reader.next() {
+            Some(Token::String("2.0")) => parts.has_version = true,
+            _ => return Err(Unread),
+        },
+        "method" => match reader.next() {
+            Some(Token::String(text)) => parts.method = Some(String::from_str(alloc, text)?),
+            _ => return Err(Unread),
+        },
         _ => {
             let value = read_value(alloc, reader, floats, DEPTH)?;
-            parts.keep(name, value)
+            match name {
+                "id" => parts.id = Some(read_id(value).ok_or(Unread)?),
+                "params" => parts.params = Some(value),
+                "result" => parts.outcome = Some(value),
+                "error" => parts.keep_error(value)?,
+                _ => drop(value),
+            }
         }
     }
+    Ok(())
 }
 
-// Reads the parts of the object whose members come next, with its closing brace. The last value of a
-// name counts.
+// Reads the parts of the object that the text is. The last value of a name counts.
 pub(crate) fn read_parts(
     alloc: Global,
-    reader: &mut Reader<'_>,
     floats: Floats,
+    text: &str,
+    scratch: &mut Scratch,
     parts: &mut Parts,
 ) -> Result<(), Unread>
     requires { AreParts parts.old no_members }
-    ensures value { OnOk result ((ms : DataMembers)
-        × (converted (λ js. of_members_by floats js no_members)
-        (members (value 126) (length reader.old) reader.old) ≡ Some (ms, reader.new))
-        × AreParts parts.new ms) }
+    ensures { OnOk result ((ms : DataMembers)
+        × (read_by floats text.now ≡ Some (object ms)) × AreParts parts.new ms) }
 {
+    let mut reader = Reader::new(text, scratch)?;
+    let token = reader.next().ok_or(Unread)?;
+    match token {
+        Token::BeginObject => {}
+        _ => return Err(Unread),
+    }
     'members: while let Some(name) = reader.next_key()? {
-        read_part(alloc, reader, floats, name, parts)?;
+        read_part(alloc, &mut reader, floats, name, parts)?;
+    }
+    if reader.next().is_some() {
+        return Err(Unread);
     }
     Ok(())
 }
@@ -189,25 +144,9 @@ pub(crate) fn message_of(parts: Parts) -> Result<Message, Unread>
                 None => Err(Unread),
             },
             None => match method {
-                Some(method) => Ok(Message::Request(request_of(method, params, id))),
+                Some(method) => Ok(Message::Request(Request::from_parts(method, id, params))),
                 None => Err(Unread),
             },
         },
-    }
-}
-
-// The request of these parts.
-fn request_of(method: String, params: Option<Value>, id: Option<Id>) -> Request
-    ensures { show_request result
-        ≡ record { method = string_bytes method; params = option_map view params; id = option_map show_id id } }
-{
-    let begun = Request::build(method);
-    let begun = match params {
-        Some(params) => begun.params(params),
-        None => begun,
-    };
-    match id {
-        Some(id) => begun.id(id).finish(),
-        None => begun.finish(),
     }
 }

@@ -1,13 +1,19 @@
-use Rattle.std.proofs.Common.{◌≡◌, ◌-◌, length, Some, refl, ◌∙◌, arith}
+use Rattle.std.proofs.Common.{◌≡◌, [], ◌∷◌, ◌-◌, length, Some, refl, sym, ap, ◌∙◌, arith, rules}
+use Rattle.json.specs.Token.{Token}
 use Rattle.json.specs.Json.{read_key, value}
+use Rattle.json.specs.Lex.{tokens}
+use Rattle.json.specs.Reads.{token_of}
 use Rattle.json.proofs.Grammar.{read_key-shorter}
-use Rattle.serde_json.specs.Data.{no_members, put}
-use Rattle.lsp_text.proofs.Tokens.{member_read, members_over}
+use Rattle.serde_json.specs.Data.{no_members, put, object}
+use Rattle.serde_json.specs.Read.{converted}
+use Rattle.lsp_text.specs.Floats.{of_json_by}
+use Rattle.lsp_text.proofs.LetIn.{read_by-is}
+use Rattle.lsp_text.proofs.Tokens.{some_with, member_read, members_over, object_read, whole_read}
 use Rattle.lsp_frame.proofs.parts.read_parts.Goals as goal
 
 pub members-init : goal.members-init
 members-init c =
-    (length c.args.reader.now, no_members, omega arith, refl, c.requires)
+    (length c.next.new.self, no_members, omega arith, refl, c.requires)
 
 pub members-preserved : goal.members-preserved
 members-preserved c =
@@ -33,4 +39,16 @@ members-preserved c =
 pub returns : goal.returns
 returns c =
     let l = c.members in
-    record { value = (l.invariant.1, l.invariant.3 ∙ members_over c.args.floats (value 126) l.invariant.1 l.invariant.0 l.reader c.next_key.new.self l.invariant.2 (grind arith), l.invariant.4) }
+    let ms = l.invariant.1 in
+    let floats = c.args.floats in
+    let rest = c.next.new.self in
+    let left = c.next_key.new.self in
+    let first : c.in_ok-reader.reader ≡ token_of c.in_ok-token.token ∷ rest = grind arith in
+    let is : c.in_ok-reader.reader ≡ Token.begin_object ∷ rest = first ∙ ap (λ k. token_of k ∷ rest) c.in-BeginObject.is in
+    let none : left ≡ [] = search rules in
+    let over = l.invariant.3 ∙ members_over floats (value 126) ms l.invariant.0 l.reader left l.invariant.2 (grind arith) in
+    let opened = ap (λ ts. converted (of_json_by floats) (value 127 ts)) (sym c.in_ok-reader.ensures.ok ∙ is) ∙ object_read floats 127 rest left ms (omega arith) over in (
+      ms,
+      read_by-is floats c.args.text.now ∙ whole_read floats (value 127 (tokens c.args.text.now)) (object ms) (opened ∙ ap (some_with (object ms)) none),
+      l.invariant.4,
+    )

@@ -6,8 +6,8 @@ use Rattle.lsp_rpc.specs.Shown.{show_message}
 use Rattle.lsp_rpc.proofs.Floats.{clean_message_has_no_float}
 use Rattle.lsp_frame.proofs.message_reader.MessageReader.read_by.Goals as goal
 
-pub parts_of-found-requires : goal.parts_of-found-requires
-parts_of-found-requires c = record { version = refl; id = refl; method = refl; params = refl; outcome = refl; error = refl; clean = refl }
+pub read_parts-found-requires : goal.read_parts-found-requires
+read_parts-found-requires c = record { version = refl; id = refl; method = refl; params = refl; outcome = refl; error = refl; clean = refl }
 
 pub returns-clause-value : goal.returns-clause-value
 returns-clause-value c =
