@@ -1,6 +1,0 @@
-use Rattle.std.proofs.Common.{◌≡◌, ◌+◌, take}
-use Rattle.std.specs.Prelude.{count_by}
-use Rattle.lsp_session.proofs.works.Works.due_index.Given as goal
-
-abbrev pub invariant-loop-index : goal.invariant-loop-index
-invariant-loop-index g l = l.left + count_by (λ w. w.due) (take l.index l.self.slots.items) ≡ l.place
