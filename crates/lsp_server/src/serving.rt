@@ -20,7 +20,7 @@ ghost use Rattle.lsp_server.specs.ServerView.{standing, IsReady};
 ghost use Rattle.lsp_server.specs.Steps.{LeavesServed, LeavesSession, MadeSteps, MayServe, MayStep};
 
 use crate::reads::over_reads;
-use crate::step::{ServeError, flush, flush_after, write_step};
+use crate::step::{ServeError, flush_after, write_step};
 use crate::{Consumer, Sink, Transport};
 use bytes::BytesMut;
 use lsp_desk::Desk;
@@ -204,7 +204,10 @@ pub fn serve_item<O: Sink, D: Desk + Drop, H: Handlers<D>, P: Pick>(
     ensures spent { IfErr result (λ e. SaysSpent D.meaning (desk_of session.new) e) }
 {
     match write_step(alloc, room, sink, session, item, pick, rounds) {
-        Ok(()) => flush(sink),
+        Ok(()) => {
+            sink.flush()?;
+            Ok(())
+        }
         Err(error) => Err(flush_after(sink, error)),
     }
 }
