@@ -6,7 +6,7 @@ ghost use Rattle.lsp_server.specs.Leaves.{StaysFlushed, StepsFlushed, TellsFault
 ghost use Rattle.lsp_server.specs.Reads.{moment, Made, InOrder};
 ghost use Rattle.lsp_server.specs.Errors.{IsBetweenReads, EndsInStep};
 
-use crate::step::{flush, flush_after};
+use crate::step::flush_after;
 use crate::{Consumer, Failed, ServeError, Sink, Transport};
 
 // How many bytes are read at most at a time.
@@ -85,7 +85,7 @@ fn give<O: Sink, S, C: Consumer<S>>(
     if piece.is_empty() {
         return match consumer.end(state, sink) {
             Ok(()) => {
-                flush(sink)?;
+                sink.flush()?;
                 Ok(true)
             }
             Err(error) => Err(flush_after(sink, error)),
@@ -93,7 +93,7 @@ fn give<O: Sink, S, C: Consumer<S>>(
     }
     match consumer.take(state, piece, sink) {
         Ok(done) => {
-            flush(sink)?;
+            sink.flush()?;
             Ok(done)
         }
         Err(error) => Err(flush_after(sink, error)),

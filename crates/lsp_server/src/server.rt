@@ -13,7 +13,7 @@ ghost use Rattle.lsp_server.specs.ServedView.{show_served};
 ghost use Rattle.lsp_server.specs.ServesSession.{ServesSession};
 
 use crate::serving::serve_over;
-use crate::step::{ServeError, flush, write_step};
+use crate::step::{ServeError, write_step};
 use crate::{Ends, Sink, Source};
 use bytes::BytesMut;
 use lsp_desk::{ClientSocket, Desk, Loopback};
@@ -207,7 +207,8 @@ impl<D: Desk + Drop> Server<D> {
     {
         let mut room = BytesMut::new(alloc);
         write_step(alloc, &mut room, sink, session, item, pick, rounds)?;
-        flush(sink)
+        sink.flush()?;
+        Ok(())
     }
 
     /// Makes the step of a tick: nothing is admitted, and so many rounds are made.

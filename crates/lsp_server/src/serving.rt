@@ -10,17 +10,16 @@ ghost use Rattle.lsp_session.specs.SessionView.{session_view, desk_of, life_of};
 ghost use Rattle.lsp_server.specs.Items.{all_admitted, GivesNext};
 ghost use Rattle.lsp_server.specs.Course.{course_from, picked};
 ghost use Rattle.lsp_server.specs.Written.{Ran, RanPart};
-ghost use Rattle.lsp_server.specs.Served.{call_bytes, ServedTold, ServesOver};
+ghost use Rattle.lsp_server.specs.Served.{call_bytes, ServesOver};
 ghost use Rattle.lsp_server.specs.ServesOn.{ServesOn};
 ghost use Rattle.lsp_server.specs.Reads.{moment};
 ghost use Rattle.lsp_server.specs.Errors.{SaysSpent};
 ghost use Rattle.lsp_server.specs.Leaves.{LeavesTransport, OnlyWrites, StepsFlushed};
-ghost use Rattle.lsp_server.specs.Serving.{PartTold};
 ghost use Rattle.lsp_server.specs.ServerView.{standing, IsReady};
-ghost use Rattle.lsp_server.specs.Steps.{LeavesServed, LeavesSession, MadeSteps, MayServe, MayStep};
+ghost use Rattle.lsp_server.specs.Steps.{LeavesServed, MadeSteps, MayServe, MayStep};
 
 use crate::reads::over_reads;
-use crate::step::{ServeError, flush, flush_after, write_step};
+use crate::step::{ServeError, flush_after, write_step};
 use crate::{Consumer, Sink, Transport};
 use bytes::BytesMut;
 use lsp_desk::Desk;
@@ -53,6 +52,8 @@ impl<'a, D: Desk + Drop, H: Handlers<D>, P: Pick> Consumer<Session<H, D>> for Se
 
     ghost tied = { λ s. (s.codec.ghost_name, s.pick.ghost_name) };
 
+    // Makes the step of each item that is told, through the first exit, and says whether there was
+    // one.
     fn take<O: Sink>(
         &mut self,
         session: &mut Session<H, D>,
@@ -60,15 +61,25 @@ impl<'a, D: Desk + Drop, H: Handlers<D>, P: Pick> Consumer<Session<H, D>> for Se
         sink: &mut O,
     ) -> Result<bool, ServeError> {
         self.codec.feed(piece)?;
-        serve_told(
-            self.alloc,
-            self.codec,
-            self.room,
-            sink,
-            session,
-            self.pick,
-            self.rounds,
-        )
+        'items: loop {
+            let item = match self.codec.decode()? {
+                Decoded::Item(message) => Item::Message(message),
+                Decoded::Fault(fault) => Item::Fault(fault.code()),
+                Decoded::More => return Ok(false),
+            };
+            write_step(
+                self.alloc,
+                self.room,
+                sink,
+                session,
+                item,
+                self.pick,
+                self.rounds,
+            )?;
+            if session.exited().is_some() {
+                return Ok(true);
+            }
+        }
     }
 
     fn end<O: Sink>(
@@ -204,7 +215,10 @@ pub fn serve_item<O: Sink, D: Desk + Drop, H: Handlers<D>, P: Pick>(
     ensures spent { IfErr result (λ e. SaysSpent D.meaning (desk_of session.new) e) }
 {
     match write_step(alloc, room, sink, session, item, pick, rounds) {
-        Ok(()) => flush(sink),
+        Ok(()) => {
+            sink.flush()?;
+            Ok(())
+        }
         Err(error) => Err(flush_after(sink, error)),
     }
 }
@@ -224,46 +238,6 @@ pub fn next_item(codec: &mut LanguageServerCodec) -> Result<Option<Item>, NoMemo
         Decoded::Fault(fault) => Ok(Some(Item::Fault(fault.code()))),
         Decoded::More => Ok(None),
     }
-}
-
-// Makes the step of each item that the codec tells, through the first exit, and says whether there
-// was an exit.
-fn serve_told<O: Sink, D: Desk + Drop, H: Handlers<D>, P: Pick>(
-    alloc: Global,
-    codec: &mut LanguageServerCodec,
-    room: &mut BytesMut,
-    sink: &mut O,
-    session: &mut Session<H, D>,
-    pick: &mut P,
-    rounds: u64,
-) -> Result<bool, ServeError>
-    requires may { MayServe H.semantics D.meaning session.old }
-    ensures ok { IfOk result
-        (λ exits. ServedTold (Step H.semantics (order_by P.gives P.later) rounds) D.meaning
-        (H.semantics.find (session_view H.semantics D.meaning session.old).state.service)
-        (standing H.semantics D.meaning session.old (P.state pick.old)
-        (O.taken sink.old)) codec.old exits
-        (standing H.semantics D.meaning session.new (P.state pick.new)
-        (O.taken sink.new)) codec.new) }
-    ensures open { IfOk result (λ exits. exits ≡ false
-        → ((session_view H.semantics D.meaning session.new).state.exited ≡ None)
-        × (life_of D.meaning session.new ≢ Life.Exited)) }
-    ensures part { OnErr result (PartTold (Step H.semantics (order_by P.gives P.later) rounds)
-        D.meaning
-        (H.semantics.find (session_view H.semantics D.meaning session.old).state.service)
-        (standing H.semantics D.meaning session.old (P.state pick.old) (O.taken sink.old))
-        codec.old (desk_of session.new) (O.taken sink.new)) }
-    ensures grown { Grown D.meaning (desk_of session.old) (desk_of session.new) }
-    ensures session { LeavesSession H.semantics D.meaning session.new result }
-    ensures sink { OnlyWrites O.flushed O.faults O.beside sink.old sink.new (result_err result) }
-{
-    'items: while let Some(item) = next_item(codec)? {
-        write_step(alloc, room, sink, session, item, pick, rounds)?;
-        if session.exited().is_some() {
-            return Ok(true);
-        }
-    }
-    Ok(false)
 }
 
 // Makes the steps of the end of input: that of the fault of an input that ends inside a frame, and

@@ -1,5 +1,5 @@
 // The step of an item, with what it writes.
-ghost use Rattle.std.specs.Prelude.{◌≡◌, ◌≢◌, ◌≤◌, ◌⊎◌, [], ◌∷◌, false, OnOk, OnErr, IfErr};
+ghost use Rattle.std.specs.Prelude.{◌≡◌, ◌≢◌, ◌≤◌, ◌⊎◌, [], ◌∷◌, false, OnOk};
 ghost use Rattle.std.specs.Result.{result_err};
 ghost use Rattle.std.specs.Io.KnownBytes.{Keeps};
 ghost use Rattle.lsp_session.specs.Item.{show_item, item_has_float};
@@ -7,7 +7,7 @@ ghost use Rattle.lsp_session.specs.Run.{order_by, is_exit};
 ghost use Rattle.lsp_session.specs.SessionView.{session_view, life_of};
 ghost use Rattle.lsp_server.specs.SourceSink.{CountRose, Flushes};
 ghost use Rattle.lsp_server.specs.Steps.{MayStep, MadeSteps};
-ghost use Rattle.lsp_server.specs.Leaves.{LeavesFaults, OnlyWrites};
+ghost use Rattle.lsp_server.specs.Leaves.{OnlyWrites};
 ghost use Rattle.lsp_server.specs.Errors.{IsFlushedAt, ComesOfSink, LeavesSink, refused_error};
 ghost use Rattle.lsp_server.specs.declared.step.ServeError.TheVariants.{NoMemory as no_memory};
 
@@ -94,18 +94,6 @@ pub(crate) fn write_step<O: Sink, D: Desk + Drop, H: Handlers<D>, P: Pick>(
     Ok(())
 }
 
-/// Sends what the sink took on its way.
-pub(crate) fn flush<O: Sink>(sink: &mut O) -> Result<(), ServeError>
-    ensures taken { Keeps (O.taken sink.old) (O.taken sink.new) }
-    ensures flushes { OnOk result (Flushes (O.taken sink.old) (O.flushed sink.old)
-        (O.flushed sink.new)) }
-    ensures sink { LeavesFaults O.faults O.beside sink.old sink.new (result_err result) }
-    ensures others { IfErr result ComesOfSink }
-{
-    sink.flush()?;
-    Ok(())
-}
-
 /// Sends what the sink took before an error on its way. The error stands, unless the flush fails
 /// too; after a failed write nothing is flushed.
 pub(crate) fn flush_after<O: Sink>(sink: &mut O, error: ServeError) -> ServeError
@@ -123,8 +111,8 @@ pub(crate) fn flush_after<O: Sink>(sink: &mut O, error: ServeError) -> ServeErro
     if error == ServeError::WriteFault {
         return error;
     }
-    match flush(sink) {
+    match sink.flush() {
         Ok(()) => error,
-        Err(refused) => refused,
+        Err(refused) => ServeError::from(refused),
     }
 }

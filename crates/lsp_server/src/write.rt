@@ -36,27 +36,18 @@ pub(crate) fn put<O: Sink>(
     if messages.is_empty() {
         return Ok(());
     }
-    match encode_all(alloc, messages, room) {
-        Ok(()) => {}
-        Err(NoMemory) => return Err(Refused::NoMemory),
+    room.clear();
+    for message in messages {
+        match push_message(alloc, message, room) {
+            Ok(()) => {}
+            Err(NoMemory) => return Err(Refused::NoMemory),
+        }
     }
     let written = write_all(sink, room.as_slice());
     if room.capacity() > KEPT {
         *room = BytesMut::new(alloc);
     }
     written
-}
-
-// Leaves the frames of the messages in the room, and nothing else.
-fn encode_all(alloc: Global, messages: &Vec<Message>, room: &mut BytesMut) -> Result<(), NoMemory>
-    requires { have_float (map show_message messages.now.items) ≡ false }
-    ensures { OnOk result (room.new.items ≡ frames (map show_message messages.now.items)) }
-{
-    room.clear();
-    for message in messages {
-        push_message(alloc, message, room)?;
-    }
-    Ok(())
 }
 
 /// Writes all the bytes, by as many calls of the sink as it takes.

@@ -6,10 +6,10 @@ use Rattle.lsp_server.proofs.KnownLemmas.{err_of}
 use Rattle.lsp_server.proofs.RanLemmas.{part_kept, part_whole}
 use Rattle.lsp_server.proofs.serving.serve_item.Goals as goal
 
-pub returns-in-Ok-clause-part : goal.returns-in-Ok-clause-part
-returns-in-Ok-clause-part g c =
+pub returns-in_err-flush-in-Ok-clause-part : goal.returns-in_err-flush-in-Ok-clause-part
+returns-in_err-flush-in-Ok-clause-part g c =
     let sem = g.H.Handlers.semantics in
     let m = g.D.Caller.meaning in
     let a = standing sem m c.args.session.now (g.P.Pick.state c.args.pick.now) (g.O.Sink.taken c.args.sink.now) in
     let b = standing sem m c.write_step.new.session (g.P.Pick.state c.write_step.new.pick) (g.O.Sink.taken c.write_step.new.sink) in
-    err_of c.flush.result (part_kept (part_whole a b (show_item c.args.item ∷ []) c.in-Ok.ensures.steps.ok) c.flush.ensures.taken)
+    err_of c.from_residual.result (part_kept (part_whole a b (show_item c.args.item ∷ []) c.in-Ok.ensures.steps.ok) c.flush.ensures.flushes.taken)
