@@ -1,48 +1,16 @@
-use Rattle.std.specs.Prelude.{◌↔◌}
-use Rattle.std.proofs.Common.{◌≡◌, ◌≤◌, length, drop, Option, None, subst, sym, ap, ◌∙◌}
-use Rattle.lsp_frame.specs.Transitions.{Item}
-use Rattle.lsp_frame.specs.Items.{At, most_held}
-use Rattle.lsp_frame.specs.Places.{codec_at, ComesTo}
-use Rattle.lsp_frame.proofs.PlacesCome.{comes_to_end, comes_to_state_after}
-use Rattle.lsp_frame.proofs.ItemsLeft.{none_told, none_found}
-use Rattle.lsp_frame.proofs.HeldBytes.{held_at_most}
 use Rattle.lsp_frame.proofs.codec.LanguageServerCodec.decode.Goals as goal
 
-alike : (P : Type 0) (x y : Option Item) → x ≡ y → (y ≡ None) ↔ P → (x ≡ None) ↔ P
-alike P x y same exact = subst (λ (z : Option Item). (z ≡ None) ↔ P) (sym same) exact
-
 pub returns-clause-more : goal.returns-clause-more
-returns-clause-more c =
-    let e = c.in_ok-next.ensures in
-    let next = c.in_ok-next.next in
-    let settings = c.self.inside.settings in
-    alike _ _ _ c.answer_of.ensures.value
-    (none_told settings c.args.self.now c.self.inside.state next.state c.as_slice.result.now _ next.item next.unfinished
-    (ap (codec_at settings c.self.inside.state) c.as_slice.ensures ∙ c.self.view_is) e.goes e.ends)
+returns-clause-more c = ?
 
 pub returns-clause-held : goal.returns-clause-held
-returns-clause-held c = λ none.
-    let e = c.in_ok-next.ensures in
-    let next = c.in_ok-next.next in
-    let settings = c.self.inside.settings in
-    let waits = e.waits (none_found next.item (sym c.answer_of.ensures.value ∙ none)) in
-    subst (λ t. length t ≤ most_held settings.limits) (sym (c.advance.ensures.items ∙ ap (drop next.consumed) (sym c.as_slice.ensures)))
-    (held_at_most settings next.state (drop next.consumed c.as_slice.result.now) waits e.allowed)
-
-alike_places : (a b c d : At) (x y : Option Item) → a ≡ c → x ≡ y → b ≡ d → ComesTo a x b → ComesTo c y d
-alike_places a b c d x y from item to comes =
-    subst (ComesTo c y) to (subst (λ z. ComesTo c z b) item (subst (λ t. ComesTo t x b) from comes))
+returns-clause-held c = ?
 
 pub returns-clause-place : goal.returns-clause-place
-returns-clause-place c =
-    let next = c.in_ok-next.next in
-    let settings = c.self.inside.settings in
-    alike_places _ _ _ _ _ _ (ap (codec_at settings c.self.inside.state) c.as_slice.ensures ∙ c.self.view_is) (sym c.answer_of.ensures.value)
-    (ap (codec_at settings next.state) (sym (c.advance.ensures.items ∙ ap (drop next.consumed) (sym c.as_slice.ensures))))
-    c.in_ok-next.ensures.place
+returns-clause-place c = ?
 
 pub returns-clause-rest : goal.returns-clause-rest
-returns-clause-rest c = comes_to_end _ _ _ (returns-clause-place c)
+returns-clause-rest c = ?
 
 pub returns-clause-after : goal.returns-clause-after
-returns-clause-after c = comes_to_state_after _ _ _ (returns-clause-place c)
+returns-clause-after c = ?
