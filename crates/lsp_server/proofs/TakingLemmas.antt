@@ -1,16 +1,18 @@
 -- How giving goes on over the reads, and what it comes to.
-use Rattle.std.proofs.Common.{◌≡◌, ◌≤◌, ◌<◌, ◌+◌, ◌*◌, ℕ, List, [], ◌∷◌, ◌++◌, length, take, refl, sym, ap, subst, length-append, length-take, arith}
-use Rattle.std.specs.Prelude.{Option, Some, None, Result, Ok, Err, IfErr, IfSome}
+use Rattle.std.proofs.Common.{◌≡◌, inl, inr, ◌≤◌, ◌<◌, ◌+◌, ◌*◌, ℕ, List, [], ◌∷◌, ◌++◌, length, take, refl, sym, ap, subst, length-append, length-take, arith}
+use Rattle.std.specs.Prelude.{◌⊎◌, Option, Some, None, Result, Ok, Err, IfErr, IfSome}
 use Rattle.std.specs.Result.{result_err}
 use Rattle.std.specs.Io.KnownBytes.{Consumes, Keeps}
 use Rattle.lsp_server.specs.declared.step.ServeError.{ServeError}
 use Rattle.lsp_server.specs.declared.step.ServeError.TheVariants.{ReadFault, WriteFault, ReadsSpent, DeskSpent, NoMemory}
 use Rattle.lsp_server.specs.SourceSink.{CountRose, ReadsEnd, IsFlushed}
-use Rattle.lsp_server.specs.Errors.{IsInStep, LeavesSink}
+use Rattle.lsp_server.specs.declared.sink.Refused.{Refused}
+use Rattle.lsp_server.specs.declared.sink.Refused.TheVariants as refusals
+use Rattle.lsp_server.specs.Errors.{refused_error, IsInStep, LeavesSink, ComesOfSink}
 use Rattle.lsp_server.specs.Reads.{Moment}
 use Rattle.lsp_server.specs.Leaves.{LeavesFaults, StaysFlushed, TellsFaults}
-use Rattle.lsp_server.specs.Consuming.{Given, given_of, piece, end, ConsumerOutcome, goes_on, Consuming, IsLawfulConsumer, through, Did, Took, AllTook, bytes_of, IsTimely, TookLast}
-use Rattle.lsp_server.proofs.KnownLemmas.{appends_none, appends_more, consumes_none, consumes_more, consumes_kept, read_enough, few_read, at_zero, if_told}
+use Rattle.lsp_server.specs.Consuming.{Given, given_of, piece, end, ConsumerOutcome, goes_on, stops, Consuming, IsLawfulConsumer, through, Did, Took, AllTook, bytes_of, IsTimely, TookLast}
+use Rattle.lsp_server.proofs.KnownLemmas.{appends_none, appends_more, appends_kept, consumes_none, consumes_more, consumes_kept, read_enough, few_read, at_zero, if_told}
 
 -- ---- one call after another
 
@@ -35,6 +37,36 @@ bytes_given (x ∷ xs) = refl
 pub given_some : (bytes : List ℕ) → 0 < length bytes → given_of bytes ≡ piece bytes
 given_some [] some = absurd (omega arith)
 given_some (x ∷ xs) some = refl
+
+pub given_none : (n : ℕ) (bytes : List ℕ) → n ≡ 0 → given_of (take n bytes) ≡ end
+given_none n bytes zero = ap (λ k. given_of (take k bytes)) zero
+
+-- ---- a call, and the flush after it
+
+pub refused_in_sink : (x : Refused) → ComesOfSink (refused_error x)
+refused_in_sink refusals.Failed = tt
+refused_in_sink refusals.NoMemory = tt
+
+module _ {C : Type 0} {m : Consuming C} where
+  -- the flush took nothing
+  pub did_kept : (a b : C) (given : Given) (outcome : ConsumerOutcome) (taken0 taken1 taken2 : Option (List ℕ)) → Did m a given outcome taken0 taken1 b → Keeps taken1 taken2
+      → Did m a given outcome taken0 taken2 b
+  did_kept a b given outcome taken0 taken1 taken2 d keeps = record { written = d.written; does = d.does; writes = appends_kept taken0 taken1 taken2 d.written d.writes keeps }
+
+  -- it was refused
+  pub did_refused : IsLawfulConsumer m → (a b : C) (given : Given) (outcome : ConsumerOutcome) (taken0 taken1 taken2 : Option (List ℕ)) (e : ServeError) → Did m a given outcome taken0 taken1 b → Keeps taken1 taken2
+      → ComesOfSink e → Did m a given (stops e) taken0 taken2 b
+  did_refused laws a b given outcome taken0 taken1 taken2 e d keeps sink = record {
+    written = d.written;
+    does = laws.refused a b given outcome d.written e d.does sink;
+    writes = appends_kept taken0 taken1 taken2 d.written d.writes keeps;
+  }
+
+  -- the call's error stands, or one of the sink takes its place
+  pub did_stands : IsLawfulConsumer m → (a b : C) (given : Given) (taken0 taken1 taken2 : Option (List ℕ)) (error result : ServeError) → Did m a given (stops error) taken0 taken1 b → Keeps taken1 taken2
+      → (result ≡ error) ⊎ ComesOfSink result → Did m a given (stops result) taken0 taken2 b
+  did_stands laws a b given taken0 taken1 taken2 error result d keeps (inl same) = subst (λ e. Did m a given (stops e) taken0 taken2 b) (sym same) (did_kept a b given (stops error) taken0 taken1 taken2 d keeps)
+  did_stands laws a b given taken0 taken1 taken2 error result d keeps (inr sink) = did_refused laws a b given (stops error) taken0 taken1 taken2 result d keeps sink
 
 -- ---- one read after another
 

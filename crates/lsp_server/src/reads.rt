@@ -1,7 +1,7 @@
 // The loop over the reads, whatever is done with their bytes.
-ghost use Rattle.std.specs.Prelude.{◌≡◌, ◌<◌, false, length, IfOk, IfErr};
+ghost use Rattle.std.specs.Prelude.{◌≡◌, IfErr};
 ghost use Rattle.std.specs.Result.{result_err};
-ghost use Rattle.lsp_server.specs.Consuming.{IsLawfulConsumer, Did, Took, TookLast, AllTook, given_of, consumer_outcome, last_outcome};
+ghost use Rattle.lsp_server.specs.Consuming.{IsLawfulConsumer, Did, Took, TookLast, AllTook, end as the_end, last_outcome};
 ghost use Rattle.lsp_server.specs.Leaves.{StaysFlushed, StepsFlushed, TellsFaults, WithinReads};
 ghost use Rattle.lsp_server.specs.Reads.{moment, Made, InOrder};
 ghost use Rattle.lsp_server.specs.Errors.{IsBetweenReads, EndsInStep};
@@ -57,44 +57,40 @@ pub fn over_reads<T: Transport, S, C: Consumer<S>>(
             Ok(n) => n,
             Err(Failed) => return Err(ServeError::ReadFault),
         };
-        if give(consumer, state, &piece[..n], io)? {
-            return Ok(());
+        if n == 0 {
+            return finish(consumer, state, io);
+        }
+        match consumer.take(state, &piece[..n], io) {
+            Ok(done) => {
+                io.flush()?;
+                if done {
+                    return Ok(());
+                }
+            }
+            Err(error) => return Err(flush_after(io, error)),
         }
     }
     Err(ServeError::ReadsSpent)
 }
 
-// Gives the bytes that a read gave, or word that no more come where it gave none, and flushes what
-// was written for it, also where the consumer fails.
-fn give<O: Sink, S, C: Consumer<S>>(
+// Tells the consumer that no more bytes come, and flushes what was written for it, also where the
+// consumer fails.
+fn finish<O: Sink, S, C: Consumer<S>>(
     consumer: &mut C,
     state: &mut S,
-    piece: &[u8],
     sink: &mut O,
-) -> Result<bool, ServeError>
+) -> Result<(), ServeError>
     requires lawful { IsLawfulConsumer C.meaning }
     requires opened { C.meaning.is_open (consumer.old, state.old) }
-    ensures did { Did C.meaning (consumer.old, state.old) (given_of piece.now)
-        (consumer_outcome result) (O.taken sink.old) (O.taken sink.new) (consumer.new, state.new) }
-
-    // At the end the consumer is done.
-    ensures more { IfOk result (λ done. done ≡ false → 0 < length piece.now) }
+    ensures did { Did C.meaning (consumer.old, state.old) the_end (last_outcome result)
+        (O.taken sink.old) (O.taken sink.new) (consumer.new, state.new) }
     ensures sink { StepsFlushed O.taken O.flushed O.faults O.beside sink.old sink.new result }
     ensures tied { C.tied consumer.new ≡ C.tied consumer.old }
 {
-    if piece.is_empty() {
-        return match consumer.end(state, sink) {
-            Ok(()) => {
-                sink.flush()?;
-                Ok(true)
-            }
-            Err(error) => Err(flush_after(sink, error)),
-        };
-    }
-    match consumer.take(state, piece, sink) {
-        Ok(done) => {
+    match consumer.end(state, sink) {
+        Ok(()) => {
             sink.flush()?;
-            Ok(done)
+            Ok(())
         }
         Err(error) => Err(flush_after(sink, error)),
     }
