@@ -17,6 +17,7 @@ use Rattle.lsp_session.proofs.RoundLemmas.{both-nothing}
 use Rattle.lsp_session.proofs.StepLemmas.{run_on, grown_on}
 use Rattle.lsp_session.proofs.LifeLemmas.{Notes, step_notes, step_lives}
 use Rattle.lsp_server.specs.Course.{picked}
+use Rattle.lsp_server.specs.Steps.{StepPutsOut}
 use Rattle.lsp_server.specs.Written.{IsPrefixOf, IsPartOf, Place, place, Ran, RanPart}
 use Rattle.lsp_server.proofs.KnownLemmas.{appends_none, appends_more, appends_kept}
 use Rattle.lsp_server.proofs.FramesLemmas.{frames-append}
@@ -171,6 +172,15 @@ module _ {H D C T P : Type 0} (semantics : Semantics H C T) (m : Meaning D) (ord
         };
         writes = writes;
       }
+
+  -- one step that put out these messages, where there is one
+  pub puts_out : (old mid : View) (p p2 : P) (item : ItemData) (out : List MessageData)
+      → Stepped old p item mid p2 → old.out ≡ [] → out ≡ mid.out → (out ≡ [] → ⊥) → StepPutsOut semantics order rounds (picked old p) item (picked mid p2)
+  puts_out old mid p p2 item out steps empty is some = record {
+    effect = steps.effect;
+    step = steps.does;
+    some = λ none. some (is ∙ steps.out ∙ ap (λ l. l ++ steps.effect.out) empty ∙ none);
+  }
 
   -- what is no exit leaves the session alive
   pub stepped_lives : IsLawfulHandlers semantics → (old mid : View) (p p2 : P) (item : ItemData) → Stepped old p item mid p2 → (old.state.desk.life ≡ Exited → ⊥)

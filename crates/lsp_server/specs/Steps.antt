@@ -1,5 +1,5 @@
 -- What calls that make steps ask of a session, and what they leave of it.
-use Rattle.std.specs.Prelude.{◌≡◌, ◌≢◌, ℕ, List, Option, None, Result, OnOk, OnErr, IfErr}
+use Rattle.std.specs.Prelude.{◌≡◌, ◌≢◌, ℕ, List, [], Option, None, Result, OnOk, OnErr, IfErr}
 use Rattle.lsp_desk.specs.declared.desk.Caller.{Ghosts as CallerGhosts}
 use Rattle.lsp_desk.specs.declared.life.Life.TheVariants.{Exited}
 use Rattle.lsp_desk.specs.Meaning.{Meaning, Grown}
@@ -7,12 +7,19 @@ use Rattle.lsp_session.specs.declared.handlers.Handlers.{Ghosts as HandlersGhost
 use Rattle.lsp_session.specs.declared.session.Session.{Session}
 use Rattle.lsp_session.specs.Item.{ItemData}
 use Rattle.lsp_session.specs.Semantics.{Semantics}
-use Rattle.lsp_session.specs.Run.{Order, Step}
+use Rattle.lsp_session.specs.State.{State, Effect}
+use Rattle.lsp_session.specs.Run.{Order, Picked, Step}
 use Rattle.lsp_session.specs.SessionView.{session_view, desk_of, life_of}
 use Rattle.lsp_server.specs.declared.step.ServeError.{ServeError}
 use Rattle.lsp_server.specs.Errors.{IsBetweenReads, IsInStep, SaysSpent, StaysWhole}
 use Rattle.lsp_server.specs.ServerView.{standing, IsReady}
 use Rattle.lsp_server.specs.Written.{Ran, RanPart}
+
+-- the step of an item was made, and it put out something
+pub record StepPutsOut {H C T P : Type 0} (semantics : Semantics H C T) (order : Order P) (rounds : ℕ) (old : Picked (State H semantics.Call semantics.Task) P) (item : ItemData) (new : Picked (State H semantics.Call semantics.Task) P) : Type 0 where
+  pub effect : Effect
+  pub step : Step semantics order rounds old item effect new
+  pub some : effect.out ≢ []
 
 module _ {H D C T : Type 0} {h : HandlersGhosts H D C T} {d : CallerGhosts D} (semantics : Semantics H C T) (m : Meaning D) where
   -- a session may make a step: it is between two steps, and its life hasn't ended

@@ -1,25 +1,29 @@
 // The step of an item, with what it writes.
-ghost use Rattle.std.specs.Prelude.{◌≡◌, ◌≢◌, ◌≤◌, ◌⊎◌, [], ◌∷◌, false, OnOk};
+ghost use Rattle.std.specs.Prelude.{◌≡◌, ◌≢◌, ◌≤◌, ◌⊎◌, [], ◌∷◌, false, OnOk, OnErr};
 ghost use Rattle.std.specs.Result.{result_err};
 ghost use Rattle.std.specs.Io.KnownBytes.{Keeps};
 ghost use Rattle.lsp_session.specs.Item.{show_item, item_has_float};
 ghost use Rattle.lsp_session.specs.Run.{order_by, is_exit};
-ghost use Rattle.lsp_session.specs.SessionView.{session_view, life_of};
+ghost use Rattle.lsp_session.specs.SessionView.{session_view, has_stopped, life_of};
 ghost use Rattle.lsp_server.specs.SourceSink.{CountRose, Flushes};
-ghost use Rattle.lsp_server.specs.Steps.{MayStep, MadeSteps};
+ghost use Rattle.lsp_server.specs.Course.{picked};
+ghost use Rattle.lsp_server.specs.Steps.{MayStep, MadeSteps, StepPutsOut};
 ghost use Rattle.lsp_server.specs.Leaves.{OnlyWrites};
 ghost use Rattle.lsp_server.specs.Errors.{IsFlushedAt, ComesOfSink, LeavesSink, refused_error};
 ghost use Rattle.lsp_server.specs.declared.step.ServeError.TheVariants.{NoMemory as no_memory};
 
-use crate::write::put;
-use crate::{Refused, Sink};
+use crate::{Refused, Sink, write_all};
 use bytes::BytesMut;
 use lsp_desk::Desk;
+use lsp_frame::push_message;
 use lsp_rpc::NoMemory;
 use lsp_session::{Handlers, Item, Life, Pick, Session, SessionFault};
 use std::alloc::Global;
 use std::convert::From;
 use thiserror::Error;
+
+// A larger room isn't kept.
+const KEPT: usize = 65_536;
 
 /// Why a server stopped: between two reads, in a step, those of an `exit` and of the end of input
 /// among them, or out of memory as it handed the session back.
@@ -81,6 +85,12 @@ pub(crate) fn write_step<O: Sink, D: Desk + Drop, H: Handlers<D>, P: Pick>(
         (is_exit (H.semantics.find (session_view H.semantics D.meaning session.old).state.service)
         (show_item item) ≡ false
         → life_of D.meaning session.new ≢ Life.Exited) }
+    // An error that leaves the session running comes of what the step put out.
+    ensures none { OnErr result (has_stopped session.new ≡ false → StepPutsOut H.semantics
+        (order_by P.gives P.later) rounds
+        (picked (session_view H.semantics D.meaning session.old) (P.state pick.old))
+        (show_item item)
+        (picked (session_view H.semantics D.meaning session.new) (P.state pick.new))) }
     ensures sink { OnlyWrites O.flushed O.faults O.beside sink.old sink.new (result_err result) }
 {
     match lsp_session::step(session, item, pick, rounds) {
@@ -90,7 +100,21 @@ pub(crate) fn write_step<O: Sink, D: Desk + Drop, H: Handlers<D>, P: Pick>(
         Err(SessionFault::Exited(_)) => unreachable!(),
     }
     let out = session.take_out();
-    put(alloc, room, sink, &out)?;
+    if out.is_empty() {
+        return Ok(());
+    }
+    room.clear();
+    for message in &out {
+        match push_message(alloc, message, room) {
+            Ok(()) => {}
+            Err(NoMemory) => return Err(ServeError::NoMemory),
+        }
+    }
+    let written = write_all(sink, room.as_slice());
+    if room.capacity() > KEPT {
+        *room = BytesMut::new(alloc);
+    }
+    written?;
     Ok(())
 }
 
