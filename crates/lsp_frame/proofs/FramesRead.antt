@@ -201,7 +201,7 @@ frame_read_alone m back limits within =
 abbrev IsMessage : Option MessageData → MessageData → Type 0
 IsMessage o m = o ≡ Some m
 
-value_back : (o : Option Data) (m : MessageData) → IsMessage (option_and_then clean_message o) m → of_value o ≡ message m
+pub value_back : (o : Option Data) (m : MessageData) → IsMessage (option_and_then clean_message o) m → of_value o ≡ message m
 value_back None m e = let f : IsMessage None m = e in absurd cc
 value_back (Some d) m e = ap of_message e
 

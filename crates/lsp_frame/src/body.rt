@@ -8,7 +8,6 @@ ghost use Rattle.lsp_text.specs.Floats.{read_by};
 ghost use Rattle.lsp_frame.specs.Transitions.{body_item_by, of_value};
 ghost use Rattle.lsp_frame.specs.Shown.{show_found, IsFoundFloatFree};
 
-use crate::headers::text_of;
 use crate::message_reader::MessageReader;
 use crate::parse_error::{BodyFault, ParseError};
 use lsp_rpc::{Message, NotMessage, read_message};
@@ -112,7 +111,7 @@ pub(crate) fn body_message(
     // Memory is taken for a text alone.
     ensures utf8 { OnErr result (is_utf8 body.now ≡ true) }
 {
-    let Some(text) = text_of(body) else {
+    let Ok(text) = str::from_utf8(body) else {
         return Ok(Err(ParseError::Utf8));
     };
     match reader.read_by(alloc, floats, text) {

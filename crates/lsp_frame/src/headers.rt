@@ -9,7 +9,7 @@ use crate::head::Head;
 use crate::parse_error::ParseError;
 
 // The bytes as a text, where they are one.
-pub(crate) fn text_of(bytes: &[u8]) -> Option<&str>
+fn text_of(bytes: &[u8]) -> Option<&str>
     ensures text { IfSome result (λ s. s.now ≡ bytes.now) }
     ensures test { is_some result ≡ is_utf8 bytes.now }
 {
