@@ -1,9 +1,9 @@
-// The frame of a text, and of a message.
-ghost use Rattle.std.specs.Prelude.{◌≡◌, ◌^◌, ◌<◌, ◌++◌, [], ◌∷◌, length, false, OnOk, OnErr};
+// The frame of a message.
+ghost use Rattle.std.specs.Prelude.{◌≡◌, ◌++◌, [], ◌∷◌, false, OnOk, OnErr};
 ghost use Rattle.lsp_rpc.specs.Back.{IsReadable};
 ghost use Rattle.lsp_rpc.specs.Message.{message_has_float};
 ghost use Rattle.lsp_rpc.specs.Shown.{show_message};
-ghost use Rattle.lsp_frame.specs.Frames.{framed, frame_text, IsWithin, IsReadBack};
+ghost use Rattle.lsp_frame.specs.Frames.{frame_text, IsWithin, IsReadBack};
 ghost use Rattle.lsp_frame.specs.Items.{items};
 ghost use Rattle.lsp_frame.specs.Transitions.{message as message_item};
 ghost use Rattle.lsp_frame.specs.declared.limits.Limits.{Limits as AnyLimits};
@@ -12,22 +12,6 @@ use bytes::BytesMut;
 use lsp_rpc::Message;
 use no_memory::NoMemory;
 use std::alloc::Global;
-
-// Appends the body after its head. What may fail comes first.
-pub(crate) fn push_frame(body: &str, out: &mut BytesMut) -> Result<(), NoMemory>
-    ensures ok { OnOk result (out.new.items ≡ out.old.items ++ framed body.now) }
-    ensures err { OnErr result (out.new.items ≡ out.old.items) }
-    ensures fits { length body.now < 2 ^ 64 }
-{
-    let mut buffer = itoa::Buffer::new();
-    let digits = buffer.format(body.len());
-    out.reserve(b"Content-Length: \r\n\r\n".len() + digits.len() + body.len())?;
-    out.extend_reserved(b"Content-Length: ");
-    out.extend_reserved(digits.as_bytes());
-    out.extend_reserved(b"\r\n\r\n");
-    out.extend_reserved(body.as_bytes());
-    Ok(())
-}
 
 /// Appends the frame of the message, whose values hold no float: `LanguageServerCodec::encode`
 /// without a codec.
@@ -45,5 +29,14 @@ pub fn push_message(alloc: Global, message: &Message, out: &mut BytesMut) -> Res
         ≡ message_item (show_message message.now) ∷ []) }
 {
     let body = message.to_text(alloc)?;
-    push_frame(body.as_str(), out)
+    let body = body.as_str();
+    let mut buffer = itoa::Buffer::new();
+    let digits = buffer.format(body.len());
+    // What may fail comes first.
+    out.reserve(b"Content-Length: \r\n\r\n".len() + digits.len() + body.len())?;
+    out.extend_reserved(b"Content-Length: ");
+    out.extend_reserved(digits.as_bytes());
+    out.extend_reserved(b"\r\n\r\n");
+    out.extend_reserved(body.as_bytes());
+    Ok(())
 }
