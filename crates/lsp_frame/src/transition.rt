@@ -1,9 +1,8 @@
 // One transition of decoding.
-ghost use Rattle.std.specs.Prelude.{◌≡◌, ◌<◌, ◌≤◌, ℕ, length, take, codes, IfOk, OnErr, Some, true};
-ghost use Rattle.std.specs.Str.{is_utf8};
+ghost use Rattle.std.specs.Prelude.{◌≡◌, ◌<◌, length, take, codes, IfOk, OnErr, Some};
 ghost use Rattle.lsp_frame.specs.Blocks.{headers_in};
 ghost use Rattle.lsp_frame.specs.Kept.{IsLooked, IsBodyHere};
-ghost use Rattle.lsp_frame.specs.Transitions.{transition as transition_of, at_frame as frame_transition, at_head as head_transition, at_body as body_transition, at_skip as skip_transition, at_place as search_transition, at_length as length_transition, first_place, go, fault as fault_item};
+ghost use Rattle.lsp_frame.specs.Transitions.{transition as transition_of, at_frame as frame_transition, at_head as head_transition, at_skip as skip_transition, at_place as search_transition, first_place, go, fault as fault_item};
 ghost use Rattle.lsp_frame.specs.Shown.{show_transition, IsWithinBytes, IsItemFloatFree};
 
 use crate::block::block_len;
@@ -17,7 +16,6 @@ use crate::parse_error::ParseError;
 use crate::plain_head::read_plain_head;
 use crate::settings::CodecSettings;
 use lsp_rpc::Message;
-use lsp_text::Floats;
 use memchr::memmem;
 use no_memory::NoMemory;
 use std::alloc::Global;
@@ -43,30 +41,6 @@ fn at_search(bytes: &[u8]) -> Transition
     }
 }
 
-fn at_body(
-    alloc: Global,
-    reader: &mut MessageReader,
-    floats: Floats,
-    len: u64,
-    bytes: &[u8],
-) -> Result<Transition, NoMemory>
-    ensures value { IfOk result (λ t. show_transition t ≡ body_transition floats len bytes.now) }
-    ensures memory { OnErr result ((0 < len) × (len ≤ length bytes.now)
-        × (is_utf8 (take len bytes.now) ≡ true)) }
-    ensures within { IfOk result (λ t. IsWithinBytes (length bytes.now) t) }
-    ensures floats { IfOk result (λ t. IsItemFloatFree t) }
-{
-    if (bytes.len() as u64) < len {
-        return Ok(Transition::Unfinished);
-    }
-    if len == 0 {
-        return Ok(Transition::Go(None, DecodeState::Frame, 0));
-    }
-    let size = len as usize;
-    let found = body_message(alloc, reader, floats, &bytes[..size])?;
-    Ok(Transition::Go(Some(found), DecodeState::Frame, size))
-}
-
 fn at_skip(len: u64, bytes: &[u8]) -> Transition
     ensures value { show_transition result ≡ skip_transition len bytes.now }
     ensures within { IsWithinBytes (length bytes.now) result }
@@ -85,23 +59,6 @@ fn search_after(fault: ParseError, len: usize) -> Transition
     Transition::Go(Some(Err(fault)), DecodeState::Search, len)
 }
 
-// A body of this length follows a head of so many bytes, or is skipped where it is too long.
-fn at_length(limits: Limits, size: usize, len: u64) -> Transition
-    ensures value { show_transition result ≡ length_transition limits size len }
-    ensures within { (most : ℕ) → size ≤ most → IsWithinBytes most result }
-    ensures floats { IsItemFloatFree result }
-{
-    if limits.body < len {
-        Transition::Go(
-            Some(Err(ParseError::BodyTooLong)),
-            DecodeState::Skip(len),
-            size,
-        )
-    } else {
-        Transition::Go(None, DecodeState::Body(len), size)
-    }
-}
-
 // The transition at a whole block.
 fn at_head(limits: Limits, block: &[u8]) -> Transition
     requires { 0 < length block.now }
@@ -116,7 +73,12 @@ fn at_head(limits: Limits, block: &[u8]) -> Transition
     match content_length(block, &head) {
         Err(fault) => search_after(fault, block.len()),
         Ok(None) => search_after(ParseError::MissingContentLength, 1),
-        Ok(Some(len)) => at_length(limits, block.len(), len),
+        Ok(Some(len)) if limits.body < len => Transition::Go(
+            Some(Err(ParseError::BodyTooLong)),
+            DecodeState::Skip(len),
+            block.len(),
+        ),
+        Ok(Some(len)) => Transition::Go(None, DecodeState::Body(len), block.len()),
     }
 }
 
@@ -158,7 +120,8 @@ fn at_block(limits: Limits, bytes: &[u8], looked: &mut usize) -> Transition
     }
 }
 
-// The transition where a frame begins. A head of the usual form needs no grammar.
+// The transition where a frame begins. A head of the usual form needs no grammar; a body that is
+// too long is skipped.
 fn at_frame(limits: Limits, bytes: &[u8], looked: &mut usize) -> Transition
     requires { IsLooked bytes.now looked.old }
     ensures value { show_transition result ≡ frame_transition limits bytes.now }
@@ -170,12 +133,20 @@ fn at_frame(limits: Limits, bytes: &[u8], looked: &mut usize) -> Transition
         return Transition::Stop;
     }
     match read_plain_head(bytes, limits.head) {
-        Some(head) => at_length(limits, head.size, head.len),
+        Some(head) => if limits.body < head.len {
+            Transition::Go(
+                Some(Err(ParseError::BodyTooLong)),
+                DecodeState::Skip(head.len),
+                head.size,
+            )
+        } else {
+            Transition::Go(None, DecodeState::Body(head.len), head.size)
+        },
         None => at_block(limits, bytes, looked),
     }
 }
 
-// The transition of this state.
+// The transition of this state. A body that is empty tells nothing.
 pub(crate) fn transition_at(
     alloc: Global,
     reader: &mut MessageReader,
@@ -194,7 +165,17 @@ pub(crate) fn transition_at(
     match state {
         DecodeState::Frame => Ok(at_frame(settings.limits, bytes, looked)),
         DecodeState::Search => Ok(at_search(bytes)),
-        DecodeState::Body(len) => at_body(alloc, reader, settings.floats, len, bytes),
+        DecodeState::Body(len) => {
+            if (bytes.len() as u64) < len {
+                return Ok(Transition::Unfinished);
+            }
+            if len == 0 {
+                return Ok(Transition::Go(None, DecodeState::Frame, 0));
+            }
+            let size = len as usize;
+            let found = body_message(alloc, reader, settings.floats, &bytes[..size])?;
+            Ok(Transition::Go(Some(found), DecodeState::Frame, size))
+        }
         DecodeState::Skip(len) => Ok(at_skip(len, bytes)),
     }
 }
