@@ -9,7 +9,7 @@ use Rattle.lsp_rpc.specs.Message.{clean_message}
 use Rattle.lsp_rpc.specs.Shown.{show_message}
 use Rattle.lsp_text.specs.Floats.{read_by}
 use Rattle.lsp_text.specs.declared.floats.Floats.{Floats}
-use Rattle.lsp_frame.specs.Transitions.{Item, fault, of_value, body_item_by}
+use Rattle.lsp_frame.specs.Transitions.{fault, of_value, body_item_by}
 use Rattle.lsp_frame.specs.declared.parse_error.ParseError.TheVariants.{Utf8}
 use Rattle.lsp_frame.proofs.FramesRead.{value_back}
 use Rattle.lsp_frame.proofs.body.body_message.Goals as goal
