@@ -1,10 +1,10 @@
 // The transitions up to the next item.
-ghost use Rattle.std.specs.Prelude.{◌≡◌, ◌≢◌, ◌≤◌, ◌+◌, ◌++◌, ◌-◌, ◌⊎◌, [], ℕ, List, length, drop, option_map, IfOk, OnErr, None, if◌then◌else◌};
+ghost use Rattle.std.specs.Prelude.{◌≡◌, ◌≢◌, ◌≤◌, ◌+◌, ◌++◌, ◌⊎◌, [], ℕ, List, length, drop, option_map, IfOk, OnErr, None, if◌then◌else◌};
 ghost use Rattle.lsp_frame.specs.Transitions.{Item, transition as transition_of};
 ghost use Rattle.lsp_frame.specs.Items.{all_from, with_item, GoesNowhere, IsOfBody, IsTrimmed};
-ghost use Rattle.lsp_frame.specs.Kept.{IsLooked, IsAllowed, IsBodyHere, unneeded, without_needed as waiting_state};
+ghost use Rattle.lsp_frame.specs.Kept.{IsLooked, IsAllowed, unneeded, without_needed as waiting_state};
 ghost use Rattle.lsp_frame.specs.Places.{codec_at, ComesTo};
-ghost use Rattle.lsp_frame.specs.Shown.{show_found, show_transition, IsWithinBytes, IsItemFloatFree, IsFoundFloatFree};
+ghost use Rattle.lsp_frame.specs.Shown.{show_found, IsFoundFloatFree};
 
 use crate::decode_state::DecodeState;
 use crate::message_reader::MessageReader;
@@ -26,28 +26,6 @@ pub(crate) struct Next {
     pub consumed: usize,
     // How far the bytes after those were looked through for an empty line.
     pub looked: usize,
-}
-
-// The transition at a place of the bytes.
-fn transition_from(
-    alloc: Global,
-    reader: &mut MessageReader,
-    settings: CodecSettings,
-    state: DecodeState,
-    bytes: &[u8],
-    place: usize,
-    looked: &mut usize,
-) -> Result<Transition, NoMemory>
-    requires place { place ≤ length bytes.now }
-    requires clear { IsLooked (drop place bytes.now) looked.old }
-    ensures value { IfOk result (λ t. show_transition t
-        ≡ transition_of settings state (drop place bytes.now)) }
-    ensures within { IfOk result (λ t. IsWithinBytes (length bytes.now - place) t) }
-    ensures floats { IfOk result (λ t. IsItemFloatFree t) }
-    ensures looked { IsLooked (drop place bytes.now) looked.new }
-    ensures memory { OnErr result (IsBodyHere state (drop place bytes.now)) }
-{
-    transition_at(alloc, reader, settings, state, &bytes[place..], looked)
 }
 
 // With so many bytes at the end a `Content-Length` may begin that goes on after them.
@@ -100,7 +78,7 @@ pub(crate) fn find_next(
     let mut place = 0;
     let mut reached = looked;
     'transitions: loop {
-        match transition_from(alloc, reader, settings, at, bytes, place, &mut reached)? {
+        match transition_at(alloc, reader, settings, at, &bytes[place..], &mut reached)? {
             Transition::Stop => {
                 let (state, n) = waiting(at, bytes.len() - place);
                 return Ok(Next {
