@@ -8,7 +8,7 @@ ghost use Rattle.lsp_frame.specs.Transitions.{fault, message as message_item};
 ghost use Rattle.lsp_frame.specs.Items.{start, start_by, more, items, items_at, told_at, with_item, IsOfBody, IsWaiting, most_held, AreLimits, default_limits};
 ghost use Rattle.lsp_frame.specs.Places.{ComesTo, HoldsEnd, IsStateAfter};
 ghost use Rattle.lsp_frame.specs.Frames.{frame_text, IsWithin, IsReadBack};
-ghost use Rattle.lsp_frame.specs.Shown.{shown, show_found, DecodedIsFloatFree, IsFoundFloatFree};
+ghost use Rattle.lsp_frame.specs.Shown.{shown, DecodedIsFloatFree};
 
 use crate::decode_state::DecodeState;
 use crate::encode::push_message;
@@ -33,18 +33,6 @@ pub enum Decoded {
     Fault(ParseError),
     /// All is told that the bytes fed tell.
     More,
-}
-
-// What is answered where this item comes next.
-fn answer_of(item: Option<Result<Message, ParseError>>) -> Decoded
-    ensures value { shown result ≡ option_map show_found item }
-    ensures floats { IsFoundFloatFree item → DecodedIsFloatFree result }
-{
-    match item {
-        Some(Ok(message)) => Decoded::Item(message),
-        Some(Err(fault)) => Decoded::Fault(fault),
-        None => Decoded::More,
-    }
 }
 
 /// Reads messages from bytes that come in pieces, and writes messages, each in its frame.
@@ -183,7 +171,12 @@ impl LanguageServerCodec {
         self.bytes.advance(next.consumed);
         self.state = next.state;
         self.looked = next.looked;
-        Ok(answer_of(next.item))
+        let decoded = match next.item {
+            Some(Ok(message)) => Decoded::Item(message),
+            Some(Err(fault)) => Decoded::Fault(fault),
+            None => Decoded::More,
+        };
+        Ok(decoded)
     }
 
     /// The fault of an input that ends here: `Rest` where it ends inside a frame.
