@@ -2,7 +2,7 @@
 ghost use Rattle.std.specs.Prelude.{◌≡◌, ◌≢◌, ◌≤◌, ◌+◌, ◌++◌, ◌⊎◌, [], ℕ, List, length, drop, option_map, IfOk, OnErr, None, if◌then◌else◌};
 ghost use Rattle.lsp_frame.specs.Transitions.{Item, transition as transition_of};
 ghost use Rattle.lsp_frame.specs.Items.{all_from, with_item, GoesNowhere, IsOfBody, IsTrimmed};
-ghost use Rattle.lsp_frame.specs.Kept.{IsLooked, IsAllowed, unneeded, without_needed as waiting_state};
+ghost use Rattle.lsp_frame.specs.Kept.{IsLooked, IsAllowed};
 ghost use Rattle.lsp_frame.specs.Places.{codec_at, ComesTo};
 ghost use Rattle.lsp_frame.specs.Shown.{show_found, IsFoundFloatFree};
 
@@ -30,17 +30,6 @@ pub(crate) struct Next {
 
 // With so many bytes at the end a `Content-Length` may begin that goes on after them.
 const KEPT: usize = 13;
-
-// Where decoding waits that stops at so many bytes, and how many of them it needs no more.
-fn waiting(state: DecodeState, len: usize) -> (DecodeState, usize)
-    ensures { result ≡ (waiting_state state len, unneeded state len) }
-{
-    match state {
-        DecodeState::Search => (state, len.saturating_sub(KEPT)),
-        DecodeState::Skip(left) => (DecodeState::Skip(left.saturating_sub(len as u64)), len),
-        DecodeState::Frame | DecodeState::Body(_) => (state, 0),
-    }
-}
 
 // Makes the transitions from the front of the bytes up to the first that gives an item, or that
 // gives none and goes on nowhere.
@@ -80,7 +69,15 @@ pub(crate) fn find_next(
     'transitions: loop {
         match transition_at(alloc, reader, settings, at, &bytes[place..], &mut reached)? {
             Transition::Stop => {
-                let (state, n) = waiting(at, bytes.len() - place);
+                // What a search or a skip needs no more is dropped.
+                let len = bytes.len() - place;
+                let (state, n) = match at {
+                    DecodeState::Search => (at, len.saturating_sub(KEPT)),
+                    DecodeState::Skip(left) => {
+                        (DecodeState::Skip(left.saturating_sub(len as u64)), len)
+                    }
+                    DecodeState::Frame | DecodeState::Body(_) => (at, 0),
+                };
                 return Ok(Next {
                     item: None,
                     unfinished: false,

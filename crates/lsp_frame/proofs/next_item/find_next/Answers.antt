@@ -1,9 +1,9 @@
-use Rattle.std.proofs.Common.{◌≡◌, ◌∙◌, ◌+◌, ◌-◌, ◌≤◌, ℕ, List, [], subst, sym, ap, take, drop, length, length-drop, option_map, arith, Result, Ok, Err}
+use Rattle.std.proofs.Common.{◌≡◌, ◌∙◌, ◌+◌, ◌-◌, ◌≤◌, ℕ, List, [], subst, sym, ap, take, drop, length, length-drop, option_map, arith, rules, Result, Ok, Err}
 use Rattle.std.specs.Prelude.{OnErr}
 use Rattle.std.proofs.lemmas.List.{take_rest}
 use Rattle.lsp_frame.specs.Transitions.{go, transition}
 use Rattle.lsp_frame.specs.Items.{all_from}
-use Rattle.lsp_frame.specs.Kept.{IsLooked, IsBodyHere}
+use Rattle.lsp_frame.specs.Kept.{IsLooked, IsBodyHere, unneeded, without_needed}
 use Rattle.lsp_frame.specs.Places.{codec_at}
 use Rattle.lsp_frame.specs.Shown.{show_transition, show_found, IsWithinBytes}
 use Rattle.lsp_frame.specs.declared.settings.CodecSettings.{CodecSettings}
@@ -47,11 +47,16 @@ returns-in_err-transition_at-clause-memory c =
     (some_told (all_from c.args.settings [] c.args.state c.args.bytes.now)
     (told_before c.args.settings c.args.state c.transitions.at c.args.bytes.now (drop c.transitions.place c.args.bytes.now) c.transitions.invariant.same (subst (IsBodyHere c.transitions.at) (take_rest c.args.bytes.now c.transitions.place) c.in_err-transition_at.ensures.memory)))
 
+-- where decoding waits, and how much it needs no more
+waiting : (c : goal.After-saturating_sub-in-Stop)
+    → c.match-at.state ≡ (without_needed c.transitions.at (length c.args.bytes.now - c.transitions.place), unneeded c.transitions.at (length c.args.bytes.now - c.transitions.place))
+waiting c = search rules
+
 pub returns-in-Stop-clause-place : goal.returns-in-Stop-clause-place
 returns-in-Stop-clause-place c =
     let is = made c.args.settings c.transitions.at c.args.bytes.now c.transitions.place _ _ c.in_ok-transition_at.ensures.value c.in-Stop.is in
-    comes_to_stop c.args.settings (codec_at c.args.settings c.args.state c.args.bytes.now) c.transitions.at c.args.bytes.now c.transitions.place c.waiting-state.result
-    c.transitions.invariant.silent is c.waiting-state.ensures
+    comes_to_stop c.args.settings (codec_at c.args.settings c.args.state c.args.bytes.now) c.transitions.at c.args.bytes.now c.transitions.place c.match-at.state
+    c.transitions.invariant.silent is (waiting c)
 
 pub returns-in-Unfinished-clause-place : goal.returns-in-Unfinished-clause-place
 returns-in-Unfinished-clause-place c =
@@ -69,22 +74,22 @@ pub returns-in-Stop-clause-goes : goal.returns-in-Stop-clause-goes
 returns-in-Stop-clause-goes c = λ last more.
     let is = made c.args.settings c.transitions.at c.args.bytes.now c.transitions.place _ _ c.in_ok-transition_at.ensures.value c.in-Stop.is in
     c.transitions.invariant.same last more
-    ∙ items_stopped c.args.settings c.transitions.at c.args.bytes.now c.transitions.place is c.transitions.invariant.in_range c.waiting-state.result c.waiting-state.ensures last more
+    ∙ items_stopped c.args.settings c.transitions.at c.args.bytes.now c.transitions.place is c.transitions.invariant.in_range c.match-at.state (waiting c) last more
 
 pub returns-in-Stop-clause-ends : goal.returns-in-Stop-clause-ends
 returns-in-Stop-clause-ends c = λ _ last.
     let is = made c.args.settings c.transitions.at c.args.bytes.now c.transitions.place _ _ c.in_ok-transition_at.ensures.value c.in-Stop.is in
-    none_stopped c.args.settings c.transitions.at c.args.bytes.now c.transitions.place is c.transitions.invariant.in_range c.waiting-state.result c.waiting-state.ensures last
+    none_stopped c.args.settings c.transitions.at c.args.bytes.now c.transitions.place is c.transitions.invariant.in_range c.match-at.state (waiting c) last
 
 pub returns-in-Stop-clause-waits : goal.returns-in-Stop-clause-waits
 returns-in-Stop-clause-waits c = λ _.
     let is = made c.args.settings c.transitions.at c.args.bytes.now c.transitions.place _ _ c.in_ok-transition_at.ensures.value c.in-Stop.is in
-    waits_stopped c.args.settings c.transitions.at c.args.bytes.now c.transitions.place is c.transitions.invariant.in_range c.waiting-state.result c.waiting-state.ensures
+    waits_stopped c.args.settings c.transitions.at c.args.bytes.now c.transitions.place is c.transitions.invariant.in_range c.match-at.state (waiting c)
 
 pub returns-in-Stop-clause-clear : goal.returns-in-Stop-clause-clear
 returns-in-Stop-clause-clear c =
-    subst (IsLooked (drop (c.transitions.place + c.waiting-state.result.1) c.args.bytes.now)) (sym c.saturating_sub.ensures)
-    (seen c.args.bytes.now c.transitions.place c.waiting-state.result.1 c.transition_at.new.looked c.in_ok-transition_at.ensures.looked)
+    subst (IsLooked (drop (c.transitions.place + c.match-at.state.1) c.args.bytes.now)) (sym c.saturating_sub-in-Stop.ensures)
+    (seen c.args.bytes.now c.transitions.place c.match-at.state.1 c.transition_at.new.looked c.in_ok-transition_at.ensures.looked)
 
 pub returns-in-Unfinished-clause-ends : goal.returns-in-Unfinished-clause-ends
 returns-in-Unfinished-clause-ends c = λ _ last.
