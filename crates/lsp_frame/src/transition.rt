@@ -120,32 +120,6 @@ fn at_block(limits: Limits, bytes: &[u8], looked: &mut usize) -> Transition
     }
 }
 
-// The transition where a frame begins. A head of the usual form needs no grammar; a body that is
-// too long is skipped.
-fn at_frame(limits: Limits, bytes: &[u8], looked: &mut usize) -> Transition
-    requires { IsLooked bytes.now looked.old }
-    ensures value { show_transition result ≡ frame_transition limits bytes.now }
-    ensures within { IsWithinBytes (length bytes.now) result }
-    ensures floats { IsItemFloatFree result }
-    ensures looked { IsLooked bytes.now looked.new }
-{
-    if bytes.is_empty() {
-        return Transition::Stop;
-    }
-    match read_plain_head(bytes, limits.head) {
-        Some(head) => if limits.body < head.len {
-            Transition::Go(
-                Some(Err(ParseError::BodyTooLong)),
-                DecodeState::Skip(head.len),
-                head.size,
-            )
-        } else {
-            Transition::Go(None, DecodeState::Body(head.len), head.size)
-        },
-        None => at_block(limits, bytes, looked),
-    }
-}
-
 // The transition of this state. A body that is empty tells nothing.
 pub(crate) fn transition_at(
     alloc: Global,
@@ -163,7 +137,21 @@ pub(crate) fn transition_at(
     ensures memory { OnErr result (IsBodyHere state bytes.now) }
 {
     match state {
-        DecodeState::Frame => Ok(at_frame(settings.limits, bytes, looked)),
+        DecodeState::Frame => {
+            if bytes.is_empty() {
+                return Ok(Transition::Stop);
+            }
+            // A head of the usual form needs no grammar; a body that is too long is skipped.
+            let limits = settings.limits;
+            let Some(head) = read_plain_head(bytes, limits.head) else {
+                return Ok(at_block(limits, bytes, looked));
+            };
+            if limits.body < head.len {
+                let fault = Some(Err(ParseError::BodyTooLong));
+                return Ok(Transition::Go(fault, DecodeState::Skip(head.len), head.size));
+            }
+            Ok(Transition::Go(None, DecodeState::Body(head.len), head.size))
+        }
         DecodeState::Search => Ok(at_search(bytes)),
         DecodeState::Body(len) => {
             if (bytes.len() as u64) < len {

@@ -1,5 +1,5 @@
 -- A head that is known by its text.
-use Rattle.std.proofs.Common.{◌≡◌, ◌<◌, ◌≤◌, ℕ, List, length, Bool, true, false, nat_lt, cond, Some, None, sym, ap, ◌∙◌, subst, arith, length-append}
+use Rattle.std.proofs.Common.{◌≡◌, ◌<◌, ◌≤◌, ℕ, List, length, Bool, true, false, nat_lt, cond, Some, None, sym, ap, ◌∙◌, subst, arith}
 use Rattle.lsp_frame.specs.Frames.{head_text}
 use Rattle.lsp_frame.specs.Transitions.{at_frame, at_length, go, fault}
 use Rattle.lsp_frame.specs.PlainHeads.{IsPlainHead}
@@ -8,7 +8,7 @@ use Rattle.lsp_frame.specs.declared.plain_head.PlainHead.{PlainHead}
 use Rattle.lsp_frame.specs.declared.parse_error.ParseError.TheVariants.{BodyTooLong}
 use Rattle.lsp_frame.specs.declared.decode_state.DecodeState.TheVariants.{Body, Skip}
 use Rattle.lsp_frame.proofs.FramesRead.{plain_transition}
-use Rattle.lsp_frame.proofs.transition.at_frame.Goals as goal
+use Rattle.lsp_frame.proofs.transition.transition_at.Goals as goal
 
 less : (a b : ℕ) → a < b → nat_lt a b ≡ true
 less a b lt = grind arith
@@ -26,19 +26,10 @@ plain limits head bytes b decided is within =
     ∙ sym (plain_transition limits head.len is.front.0 is.fits short)
     ∙ ap (at_frame limits) (sym is.front.1)
 
-size_within : (head : PlainHead) (bytes : List ℕ) → IsPlainHead head bytes → head.size ≤ length bytes
-size_within head bytes is = omega (arith, is.size, ap length is.front.1, length-append (head_text head.len) is.front.0)
-
 pub returns-then-limits-head-clause-value : goal.returns-then-limits-head-clause-value
 returns-then-limits-head-clause-value c =
-    plain c.args.limits c.in-Some.head c.args.bytes.now true (less _ _ c.if-limits-head.true) c.in-Some.ensures.value c.in-Some.ensures.within
+    rw c.in-Frame.is (plain c.args.settings.limits c.in-Some.head c.args.bytes.now true (less _ _ c.if-limits-head.true) c.in-Some.ensures.value c.in-Some.ensures.within)
 
 pub returns-else-limits-head-clause-value : goal.returns-else-limits-head-clause-value
 returns-else-limits-head-clause-value c =
-    plain c.args.limits c.in-Some.head c.args.bytes.now false (not_less _ _ c.if-limits-head.false) c.in-Some.ensures.value c.in-Some.ensures.within
-
-pub returns-then-limits-head-clause-within : goal.returns-then-limits-head-clause-within
-returns-then-limits-head-clause-within c = size_within c.in-Some.head c.args.bytes.now c.in-Some.ensures.value
-
-pub returns-else-limits-head-clause-within : goal.returns-else-limits-head-clause-within
-returns-else-limits-head-clause-within c = size_within c.in-Some.head c.args.bytes.now c.in-Some.ensures.value
+    rw c.in-Frame.is (plain c.args.settings.limits c.in-Some.head c.args.bytes.now false (not_less _ _ c.if-limits-head.false) c.in-Some.ensures.value c.in-Some.ensures.within)
