@@ -1,8 +1,12 @@
 -- One more member among those that were read.
-use Rattle.std.proofs.Common.{◌≡◌, ℕ, List, true, false, Some, option_map, option_and_then, codes, string_bytes, bytes_eq, String, Global, refl, sym, ap, ◌∙◌, true≢false}
+use Rattle.std.proofs.Common.{◌≡◌, ◌<◌, ◌≤◌, ◌-◌, ℕ, List, length, true, false, Some, option_map, option_and_then, codes, string_bytes, bytes_eq, String, Global, refl, sym, ap, ◌∙◌, true≢false, arith}
 use Rattle.std.proofs.lemmas.Slice.Eq.{bytes_eq-Decides}
-use Rattle.serde_json.specs.Data.{Data, string, Members, put}
+use Rattle.json.specs.Token.{Token}
+use Rattle.json.specs.Json.{read_key, members, value}
+use Rattle.json.proofs.Grammar.{read_key-shorter}
+use Rattle.serde_json.specs.Data.{Data, string, Members, no_members, put}
 use Rattle.serde_json.specs.Find.{get_member}
+use Rattle.serde_json.specs.Read.{converted}
 use Rattle.serde_json.specs.View.{view}
 use Rattle.serde_json.specs.Written.{has_float}
 use Rattle.serde_json.specs.declared.value.Value.{Value}
@@ -11,7 +15,10 @@ use Rattle.lsp_rpc.specs.Message.{id_of, request_id_of, error_of}
 use Rattle.lsp_rpc.specs.Shown.{show_id, show_error}
 use Rattle.lsp_rpc.specs.declared.error.Error.{Error}
 use Rattle.lsp_rpc.specs.declared.id.Id.{Id}
+use Rattle.lsp_text.specs.Floats.{of_json_by}
+use Rattle.lsp_text.specs.declared.floats.Floats.{Floats}
 use Rattle.lsp_text.proofs.Clean.{put_clean}
+use Rattle.lsp_text.proofs.Tokens.{members_after, member_read}
 use Rattle.lsp_frame.specs.Parts.{AreParts}
 use Rattle.lsp_frame.specs.declared.parts.Parts.{Parts}
 
@@ -107,3 +114,29 @@ put_other p ms k d other pure are = record {
   error = ap (option_and_then error_of) (get_member-put_other (codes "error") k d ms other.no_error) ∙ are.error;
   clean = put_clean k d ms are.clean pure;
 }
+
+-- ---- for the loop over members
+
+-- the members that were read come before what is left
+abbrev pub AreRead : Floats → List Token → List Token → Parts → Type 0
+AreRead floats first left parts =
+    (n : ℕ) × (ms : Members) × (length left ≤ n)
+    × (converted (members_after floats no_members) (members (value 126) (length first) first) ≡ converted (members_after floats ms) (members (value 126) n left))
+    × AreParts parts ms
+
+-- one more member is read
+pub one_more : (floats : Floats) (first left s r : List Token) (was now : Parts) (k : List ℕ) (d : Data) → AreRead floats first left was
+    → read_key left ≡ Some (Some k, s) → converted (of_json_by floats) (value 126 s) ≡ Some (d, r) → length r < length s
+    → ((ms : Members) → AreParts was ms → AreParts now (put k d ms)) → AreRead floats first r now
+one_more floats first left s r was now k d before named read shorter kept =
+    let less = read_key-shorter left (Some k) s named in (
+      before.0 - 1,
+      put k d before.1,
+      omega (arith, before.2),
+      before.3 ∙ member_read floats (value 126) before.1 before.0 k left s r d (omega (arith, before.2)) named read,
+      kept before.1 before.4,
+    )
+
+-- and less is left
+pub fewer : (left s r : List Token) (k : List ℕ) → read_key left ≡ Some (Some k, s) → length r < length s → length r < length left
+fewer left s r k named shorter = omega (arith, read_key-shorter left (Some k) s named)

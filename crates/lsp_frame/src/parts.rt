@@ -1,13 +1,11 @@
 // The parts of a message, from the tokens of its text.
-ghost use Rattle.std.specs.Prelude.{◌≡◌, ◌<◌, length, Some, IfOk, OnOk, codes, false};
-ghost use Rattle.json.specs.Json.{value};
-ghost use Rattle.serde_json.specs.Data.{Data, Members as DataMembers, no_members, put, object};
-ghost use Rattle.serde_json.specs.Read.{converted};
+ghost use Rattle.std.specs.Prelude.{◌≡◌, Some, IfOk, OnOk, codes, false};
+ghost use Rattle.serde_json.specs.Data.{Members as DataMembers, no_members, put, object};
 ghost use Rattle.serde_json.specs.View.{view};
 ghost use Rattle.serde_json.specs.Written.{has_float};
 ghost use Rattle.lsp_rpc.specs.Message.{error_of, clean_message};
 ghost use Rattle.lsp_rpc.specs.Shown.{show_error, show_message};
-ghost use Rattle.lsp_text.specs.Floats.{of_json_by, read_by};
+ghost use Rattle.lsp_text.specs.Floats.{read_by};
 ghost use Rattle.lsp_frame.specs.Parts.{AreParts};
 
 use json::{Reader, Scratch, Token};
@@ -54,43 +52,8 @@ impl Parts {
     }
 }
 
-// Reads the value of the member of that name and keeps it. One of another name is dropped.
-fn read_part(
-    alloc: Global,
-    reader: &mut Reader<'_>,
-    floats: Floats,
-    name: &str,
-    parts: &mut Parts,
-) -> Result<(), Unread>
-    ensures value { OnOk result ((d : Data)
-        × (converted (of_json_by floats) (value 126 reader.old) ≡ Some (d, reader.new))
-        × ((ms : DataMembers) → AreParts parts.old ms → AreParts parts.new (put name.now d ms))) }
-    ensures shorter { OnOk result (length reader.new < length reader.old) }
-{
-    match name {
-        "jsonrpc" => match reader.next() {
-            Some(Token::String("2.0")) => parts.has_version = true,
-            _ => return Err(Unread),
-        },
-        "method" => match reader.next() {
-            Some(Token::String(text)) => parts.method = Some(String::from_str(alloc, text)?),
-            _ => return Err(Unread),
-        },
-        _ => {
-            let value = read_value(alloc, reader, floats, DEPTH)?;
-            match name {
-                "id" => parts.id = Some(read_id(value).ok_or(Unread)?),
-                "params" => parts.params = Some(value),
-                "result" => parts.outcome = Some(value),
-                "error" => parts.keep_error(value)?,
-                _ => drop(value),
-            }
-        }
-    }
-    Ok(())
-}
-
-// Reads the parts of the object that the text is. The last value of a name counts.
+// Reads the parts of the object that the text is. The last value of a name counts, and that of a
+// name that no part has is dropped.
 pub(crate) fn read_parts(
     alloc: Global,
     floats: Floats,
@@ -109,7 +72,26 @@ pub(crate) fn read_parts(
         _ => return Err(Unread),
     }
     'members: while let Some(name) = reader.next_key()? {
-        read_part(alloc, &mut reader, floats, name, parts)?;
+        match name {
+            "jsonrpc" => match reader.next() {
+                Some(Token::String("2.0")) => parts.has_version = true,
+                _ => return Err(Unread),
+            },
+            "method" => match reader.next() {
+                Some(Token::String(text)) => parts.method = Some(String::from_str(alloc, text)?),
+                _ => return Err(Unread),
+            },
+            _ => {
+                let value = read_value(alloc, &mut reader, floats, DEPTH)?;
+                match name {
+                    "id" => parts.id = Some(read_id(value).ok_or(Unread)?),
+                    "params" => parts.params = Some(value),
+                    "result" => parts.outcome = Some(value),
+                    "error" => parts.keep_error(value)?,
+                    _ => drop(value),
+                }
+            }
+        }
     }
     if reader.next().is_some() {
         return Err(Unread);
