@@ -1,6 +1,6 @@
 -- What a failing call leaves of the life.
 use Rattle.std.proofs.Common.{◌≡◌, ◌^◌, ◌-◌, ℕ, refl, List, [], true, sym, ◌∙◌, ap, subst}
-use Rattle.std.specs.Prelude.{Result, Ok, Err}
+use Rattle.std.specs.Prelude.{Result, Err}
 use Rattle.lsp_desk.specs.declared.life.Life.{Life}
 use Rattle.lsp_desk.specs.declared.call.DeskFault.{DeskFault}
 use Rattle.lsp_desk.specs.declared.call.DeskFault.TheVariants as faults
