@@ -1,16 +1,16 @@
 -- What a failing call leaves of the life.
 use Rattle.std.proofs.Common.{◌≡◌, ◌^◌, ◌-◌, ℕ, refl, List, [], true, sym, ◌∙◌, ap, subst}
-use Rattle.std.specs.Prelude.{Result, Ok, Err, IfOk, IfErr}
+use Rattle.std.specs.Prelude.{Result, Err}
 use Rattle.lsp_desk.specs.declared.life.Life.{Life}
 use Rattle.lsp_desk.specs.declared.call.DeskFault.{DeskFault}
 use Rattle.lsp_desk.specs.declared.call.DeskFault.TheVariants as faults
 use Rattle.lsp_desk.specs.Call.{Call, is_client}
 use Rattle.lsp_desk.specs.Reply.{Reply}
 use Rattle.lsp_desk.specs.Trace.{DeskEntry, owns}
-use Rattle.lsp_desk.specs.Meaning.{Meaning, Calls, Adds, Spends, PollsOn, FailsOn}
+use Rattle.lsp_desk.specs.Meaning.{Meaning, Calls, Adds, Spends, FailsOn}
 use Rattle.lsp_desk.proofs.TraceLemmas.{life_is, life_along, grows_none}
 use Rattle.lsp_session.specs.Semantics.{AreClient}
-use Rattle.lsp_session.specs.Fails.{PollFails, KeepsLife, FailsKept, Called}
+use Rattle.lsp_session.specs.Fails.{PollFails, KeepsLife, FailsKept}
 use Rattle.lsp_session.proofs.PollLemmas.{client_along}
 
 -- ---- a call that failed
@@ -59,9 +59,3 @@ poll_life m old new fault chief p = life_is (m.now old) (m.now new) p.trace p.gr
 
 pub poll_failed : {D : Type 0} (m : Meaning D) (old new : D) (fault : DeskFault) → m.chief old ≡ true → PollFails m old new fault → FailsKept m old new fault
 poll_failed m old new fault chief p = record { failed = poll_fails m old new fault p; kept = poll_life m old new fault chief p }
-
--- what a server's poll says is said of the calls on the desk
-pub poll_called : {A D : Type 0} (m : Meaning D) (old new : D) (P : A → List DeskEntry → Type 0) (r : Result A DeskFault) → m.chief old ≡ true → IfOk r (λ x. PollsOn m old new (P x)) → IfErr r (λ fault. PollFails m old new fault)
-    → Called m old P new r
-poll_called m old new P (Ok x) chief begun failed = begun
-poll_called m old new P (Err fault) chief begun failed = poll_failed m old new fault chief failed

@@ -1,24 +1,16 @@
--- What a session takes of its desk.
-use Rattle.std.specs.Prelude.{◌≡◌, List, [], ◌∷◌, map, false, Result, IfOk}
-use Rattle.std.specs.Global.{Vec}
-use Rattle.lsp_rpc.specs.declared.request.Request.{Request}
-use Rattle.lsp_rpc.specs.Shown.{show_request}
-use Rattle.lsp_desk.specs.declared.call.DeskFault.{DeskFault}
-use Rattle.lsp_desk.specs.Trace.{DeskEntry}
-use Rattle.lsp_desk.specs.Meaning.{Meaning}
-use Rattle.lsp_desk.specs.Reply.{requests_have_float}
-use Rattle.lsp_session.specs.Fails.{Called}
-use Rattle.lsp_session.specs.Run.{took, closed}
+-- What a desk's reply to the session hands out.
+use Rattle.std.specs.Prelude.{◌≡◌, List, false}
+use Rattle.lsp_rpc.specs.Message.{RequestData}
+use Rattle.lsp_desk.specs.declared.call.ServerReply.{ServerReply}
+use Rattle.lsp_desk.specs.Shown.{show_server_reply}
+use Rattle.lsp_desk.specs.Reply.{reply_has_float}
+use Rattle.lsp_desk.specs.Reply as replies
+use Rattle.lsp_desk.specs.Flow.{taken_out}
 
--- these were taken
-abbrev pub IsTakeOf : Vec Request → List DeskEntry → Type 0
-IsTakeOf messages own = own ≡ took (map show_request messages.items) ∷ []
+abbrev pub messages_from : ServerReply → List RequestData
+messages_from reply = taken_out (show_server_reply reply)
 
--- and the desk's life was ended
-abbrev pub IsCloseOf : Vec Request → List DeskEntry → Type 0
-IsCloseOf messages own = own ≡ closed (map show_request messages.items) ∷ []
-
--- messages come by calls of which this holds, and none of them holds a float
-pub record HandsOut {D : Type 0} (m : Meaning D) (old : D) (P : Vec Request → List DeskEntry → Type 0) (new : D) (result : Result (Vec Request) DeskFault) : Type 0 where
-  pub calls : Called m old P new result
-  pub float_free : IfOk result (λ messages. requests_have_float (map show_request messages.items) ≡ false)
+-- it is messages, and none of them holds a float
+pub record HandsOut (reply : ServerReply) : Type 0 where
+  pub messages : show_server_reply reply ≡ replies.Messages (messages_from reply)
+  pub float_free : reply_has_float (show_server_reply reply) ≡ false

@@ -1,9 +1,8 @@
 //! What a life lets a layer do, and how a life changes.
 ghost use Rattle.std.specs.Prelude.{◌≡◌};
 ghost use Rattle.lsp_session.specs.Admission.{check_life as check_def};
-ghost use Rattle.lsp_session.specs.Polled.{shown_change};
 
-use crate::{Layer, Life, Progress};
+use crate::{Layer, Life};
 
 /// What happens to a life.
 #[derive(Clone, Copy, Debug, PartialEq, Eq)]
@@ -42,19 +41,5 @@ pub(crate) fn check_life(life: Life, layer: Layer) -> LifeCheck
         }
         (Life::Initialized, Layer::Normal) => LifeCheck::Passes(LifeChange::Stays),
         _ => LifeCheck::Invalid,
-    }
-}
-
-/// What a poll makes of the life: an `initialize` that ends with a result raises it, and one that
-/// ends without makes it fall.
-pub(crate) fn poll_change<T>(life: Life, layer: Layer, progress: &Progress<T>) -> LifeChange
-    ensures { result ≡ shown_change life layer progress.now }
-{
-    match (life, layer, progress) {
-        (Life::Initializing, Layer::Initialize, Progress::Done(Ok(_))) => {
-            LifeChange::Rises(Life::Initialized)
-        }
-        (Life::Initializing, Layer::Initialize, Progress::Done(Err(_))) => LifeChange::Falls,
-        _ => LifeChange::Stays,
     }
 }
