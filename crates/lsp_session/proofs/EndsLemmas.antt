@@ -40,6 +40,11 @@ module _ {H D C T : Type 0} (semantics : Semantics H C T) (m : Meaning D) (old n
     life = life;
   }
 
+  -- however it ends, it tells the life
+  pub told_life : {A : Type 0} (r : Result A DeskFault) → PartEnds semantics m old P new r → TellsLife m new
+  told_life (Ok x) p = p.keeps.life_is
+  told_life (Err fault) p = p.life
+
   -- it has failed
   pub fails_of : (fault : DeskFault) → Breaks semantics m old P new fault → Fails m (running_view semantics m old) P (running_view semantics m new)
   fails_of fault broken = record { desk = record { trace = broken.failed.trace; grows = broken.failed.grows }; stays = broken.stays; puts = broken.puts }

@@ -25,7 +25,7 @@ spent_at m new (faults.Spent k) f is spends n at = let same : k ≡ n = cc in su
 
 module _ {H D C T : Type 0} {h : HandlersGhosts H D C T} {d : CallerGhosts D} (old new : Session H D C T h d) (P : State H h.semantics.Call h.semantics.Task → Effect → State H h.semantics.Call h.semantics.Task → Type 0) where
   -- a call that broke stops the session
-  pub halts : (fault : DeskFault) (f : SessionFault) → has_stopped new ≡ true → IsStop fault f → Breaks h.semantics d.meaning old.running P new.running fault → Halts old P new f
+  halts : (fault : DeskFault) (f : SessionFault) → has_stopped new ≡ true → IsStop fault f → Breaks h.semantics d.meaning old.running P new.running fault → Halts old P new f
   halts fault f stopped is b = record {
     stopped = stopped;
     failed = record { desk = record { trace = b.failed.trace; grows = b.failed.grows }; stays = b.stays; puts = b.puts };
