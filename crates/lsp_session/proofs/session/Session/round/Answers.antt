@@ -1,6 +1,9 @@
 -- One poll after another, until none is left; one that broke stops the session.
-use Rattle.std.proofs.Common.{◌≡◌, refl, true≢false, ℕ, ◌<◌, ◌%◌, sym, ◌∙◌, ap, subst, arith}
+use Rattle.std.proofs.Common.{◌≡◌, refl, true≢false, ℕ, ◌<◌, ◌≤◌, ◌%◌, ◌++◌, sym, ◌∙◌, ap, subst, arith, length, map, drop, get_or}
 use Rattle.std.proofs.Math.Nat.{mod-lt}
+use Rattle.std.proofs.lemmas.List.{append-nil, take_all, drop_all, with_items_is}
+use Rattle.std.proofs.lemmas.List.Edits.{map_over_more}
+use Rattle.lsp_session.specs.Works.{mark}
 use Rattle.lsp_session.specs.State.{FitsLife, dues}
 use Rattle.lsp_session.specs.Run.{Order}
 use Rattle.lsp_session.specs.PendingView.{live_ids}
@@ -17,6 +20,12 @@ use Rattle.lsp_session.proofs.EndsLemmas.{told_life}
 use Rattle.lsp_session.proofs.HaltLemmas.{at_fault, halts_at}
 use Rattle.lsp_session.proofs.session.Session.round.Goals as goal
 
+pub loop-work-preserved : goal.loop-work-preserved
+loop-work-preserved g c =
+    let old = c.args.self.now.running.works.slots.items in
+    let in_range : c.loop-work.work-index < length old = omega (arith, ap length c.deref_mut-work-items.ensures.value) in
+    map_over_more mark old c.loop-work.work-items c.loop-work.work-index (get_or c.loop-work.work-items c.loop-work.work-index c.work-item.result) in_range c.loop-work.invariant (ap (λ d. get_or c.loop-work.work-items c.loop-work.work-index d) c.work-item.is)
+
 pub loop-self-init : goal.loop-self-init
 loop-self-init g c =
     let semantics = g.H.Handlers.semantics in
@@ -26,7 +35,12 @@ loop-self-init g c =
     let kept = c.args.self.now.keeps c.requires in
     let view = running_view semantics m old in
     let s = view.state in
-    let marks = ap (with_view semantics s) c.mark_all.ensures ∙ shown_marked semantics s (works_of old.works) in
+    let works = works_of old.works in
+    let i = c.loop-work.work-index in
+    let few : length works.slots ≤ i = omega (arith, ap length c.deref_mut-work-items.ensures.value) in
+    let same : length c.loop-work.work-items ≡ old.works.slots.len = c.loop-work.auto.work-items ∙ ap length c.deref_mut-work-items.ensures.value ∙ sym old.works.slots.ok.0 in
+    let all : c.loop-work.work-items ≡ map mark works.slots = c.loop-work.invariant ∙ ap (λ l. map mark l ++ drop i works.slots) (take_all i works.slots few) ∙ ap (λ l. map mark works.slots ++ l) (drop_all i works.slots few) ∙ append-nil (map mark works.slots) in
+    let marks = ap (λ l. with_view semantics s (record works { slots = l })) (with_items_is old.works.slots c.loop-work.work-items same ∙ all) ∙ shown_marked semantics s (works_of old.works) in
     record {
       so_far = rounding_none semantics m order view _ (g.P.Pick.state c.args.pick.now) (ap (λ t. record view { state = t }) marks);
       keeps = subst (λ t. Facts semantics t old.life (live_ids old.live)) (sym marks) (record {

@@ -1,8 +1,12 @@
-use Rattle.std.proofs.Common.{◌≡◌, true}
+use Rattle.std.proofs.Common.{◌≡◌, ◌++◌, true, take, drop, map}
 use Rattle.lsp_session.specs.State.{FitsLife}
+use Rattle.lsp_session.specs.Works.{mark}
 use Rattle.lsp_session.specs.View.{running_view, Keeps}
 use Rattle.lsp_session.proofs.RoundLemmas.{Rounding, left}
 use Rattle.lsp_session.proofs.session.Session.round.Given as goal
+
+abbrev pub invariant-loop-work : goal.invariant-loop-work
+invariant-loop-work g l = l.work-items ≡ map mark (take l.work-index l.fn.self.running.works.slots.items) ++ drop l.work-index l.fn.self.running.works.slots.items
 
 abbrev pub invariant-loop-self : goal.invariant-loop-self
 invariant-loop-self g l = record {
